@@ -1,0 +1,15 @@
+-- `to_last_writer` meets its contract, mode by mode. Assumes nothing.
+use borrow.Author.Needs.{needs}
+use Rattle.decision.proofs.callback.to_last_writer.Statement.{statement}
+use Rattle.decision.proofs.callback.to_last_writer.Tie as tie
+
+pub to-last-writer-spec : {M : Type 1} → statement M
+to-last-writer-spec =
+    tie.close
+    (tie.spec
+    (search needs)
+    (search needs)
+    (search needs)
+    (search needs)
+    (λ c. cc)
+    (λ c. cc))

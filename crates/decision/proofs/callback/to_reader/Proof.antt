@@ -1,0 +1,15 @@
+-- `to_reader` meets its contract, mode by mode. Assumes nothing.
+use borrow.Author.Needs.{needs}
+use Rattle.decision.proofs.callback.to_reader.Statement.{statement}
+use Rattle.decision.proofs.callback.to_reader.Tie as tie
+
+pub to-reader-spec : {M : Type 1} → statement M
+to-reader-spec =
+    tie.close
+    (tie.spec
+    (search needs)
+    (search needs)
+    (search needs)
+    (search needs)
+    (λ c. search needs)
+    (λ c. cc))

@@ -1,0 +1,44 @@
+-- `count_others` meets its contract: after i clients the sum is the tally of the others among them. Assumes nothing.
+use Prim.Native.Nat.{_-_}
+use mathlib.Core.Bool.{not, _&&_}
+use native.Mathlib.Omega.{arith}
+use lib.Dec.{eqb}
+use borrow.Author.Needs.{needs}
+use Rattle.protocol.specs.State.{recordIn, has}
+use Rattle.protocol.proofs.Counting.{Counted, counted-none, counted-next, counted-fits, counted-all}
+use Rattle.decision.proofs.state.count_others.Statement.{statement}
+use Rattle.decision.proofs.state.count_others.Tie as tie
+
+abbrev Inv-loop : tie.InvT-loop
+Inv-loop property client records count₀ i₀ count i =
+    Counted 8 (λ k. not (eqb k client) && has property (recordIn records k)) count i
+
+abbrev μ-loop : tie.MeasureT-loop
+μ-loop property client records count₀ i₀ count i = 8 - i
+
+add-count : tie.Need-add-count Inv-loop μ-loop
+add-count c =
+    let t = c .before .before .before in
+    omega (arith, counted-fits (t .before .loop .inv) (t .loop-test .taken) (c .before .is-other .ensures) (c .one-if .ensures))
+
+loop-again : tie.Need-loop-again Inv-loop μ-loop
+loop-again c =
+    let t = c .before .before .before in
+    counted-next (t .before .loop .inv) (t .loop-test .taken) (c .before .is-other .ensures) (c .one-if .ensures)
+
+pub count-others-spec : {M : Type 1} → statement M
+count-others-spec =
+    tie.close
+    (tie.spec
+    Inv-loop
+    μ-loop
+    (λ c. counted-none)
+    (search needs)
+    (search needs)
+    (search needs)
+    (search needs)
+    add-count
+    (search needs)
+    (search needs)
+    loop-again
+    (λ c. counted-all (c .before .loop .inv) (c .loop-test .left)))

@@ -1,0 +1,39 @@
+-- `state_of` meets its contract. Assumes nothing.
+use borrow.Author.Tests.{lt-ltb, le-ltb, lt-leb, le-leb, ne-eqb}
+use borrow.Author.Needs.{needs}
+use Rattle.protocol.specs.State.{stateOf}
+use Rattle.decision.proofs.state.state_of.Statement.{statement}
+use Rattle.decision.proofs.state.state_of.Tie as tie
+
+returns : tie.Need-returns
+unfolding stateOf
+returns c = rw (← c .before .before .count-clients .ensures, c .before .match .keys1, lt-leb _ _ (c .if1 .taken))
+
+returns-2 : tie.Need-returns-2
+unfolding stateOf
+returns-2 c = rw (← c .before .before .count-clients .ensures, c .before .match .keys1, le-leb _ _ (c .if1 .left))
+
+returns-4 : tie.Need-returns-4
+unfolding stateOf
+returns-4 c =
+    let b = c .before .before in
+    rw (← b .before .count-clients .ensures, ne-eqb _ _ (b .match .rest .0 .1), ← c .before .count-clients2 .ensures, lt-ltb _ _ (c .if2 .taken))
+
+returns-5 : tie.Need-returns-5
+unfolding stateOf
+returns-5 c =
+    let b = c .before .before in
+    rw (← b .before .count-clients .ensures, ne-eqb _ _ (b .match .rest .0 .1), ne-eqb _ _ (b .match .rest .1), ← c .before .count-clients2 .ensures, le-ltb _ _ (c .if2 .left))
+
+pub state-of-spec : {M : Type 1} → statement M
+state-of-spec =
+    tie.close
+    (tie.spec
+    (search needs)
+    (search needs)
+    (search needs)
+    returns
+    returns-2
+    (λ c. search needs)
+    returns-4
+    returns-5)

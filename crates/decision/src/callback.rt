@@ -1,0 +1,70 @@
+// The callbacks that an open causes, from the state of the file.
+ghost use mathlib.Core.Path.{_≡_};
+ghost use mathlib.Core.Bool.{false, cond};
+ghost use Rattle.records.specs.Record.{notOpen};
+ghost use Rattle.protocol.specs.Sizes.{clients};
+ghost use Rattle.protocol.specs.State.{recordIn};
+ghost use Rattle.protocol.specs.Callback.{callbackKind, callbacksDue};
+use crate::state::record_of;
+use crate::state::state_of;
+use protocol::FileState;
+use records::ClientRecord;
+use records::Mode;
+
+// What a client other than the opener is called for: 1 write back, 2 invalidate, 3 both, 0 nothing.
+pub fn callback_kind(state: FileState, mode: Mode, called: ClientRecord, is_last: bool) -> u8
+    ensures { λ r. ⌜ r ≡ callbackKind state mode called «is_last» ⌝ }
+{
+    match state {
+        FileState::Closed => 0,
+        FileState::ClosedDirty => to_last_writer(mode, is_last),
+        FileState::OneReaderDirty => to_last_writer(mode, is_last),
+        FileState::OneReader => to_reader(mode, called),
+        FileState::MultReaders => to_reader(mode, called),
+        FileState::OneWriter => kind_if(called.is_open(), 3),
+        FileState::WriteShared => kind_if(called.is_open() & called.caching, 2),
+    }
+}
+
+fn to_last_writer(mode: Mode, is_last: bool) -> u8
+    ensures { λ r. ⌜ r ≡ callbackKind FileState.ClosedDirty mode notOpen «is_last» ⌝ }
+{
+    match mode {
+        Mode::Read => kind_if(is_last, 1),
+        Mode::Write => kind_if(is_last, 3),
+    }
+}
+
+fn to_reader(mode: Mode, called: ClientRecord) -> u8
+    ensures { λ r. ⌜ r ≡ callbackKind FileState.OneReader mode called false ⌝ }
+{
+    match mode {
+        Mode::Read => 0,
+        Mode::Write => kind_if(called.is_open(), 2),
+    }
+}
+
+fn kind_if(holds: bool, kind: u8) -> u8
+    ensures { λ r. ⌜ r ≡ cond holds kind 0 ⌝ }
+{
+    if holds { kind } else { 0 }
+}
+
+pub fn callbacks_due(records: [ClientRecord; 8], last: u8, opener: usize, mode: Mode) -> [u8; 8]
+    ensures { λ r. ⌜ r ≡ callbacksDue clients (recordIn records) last opener mode ⌝ }
+{
+    let mut calls = [0u8; 8];
+    let own = record_of(records, opener);
+    if own.keeps_permission(mode) {
+        return calls;
+    }
+    let state = state_of(records, last);
+    let mut i = 0;
+    while i < 8 {
+        let called = records[i];
+        let kind = callback_kind(state, mode, called, i == last as usize);
+        calls[i] = kind_if(i != opener, kind);
+        i += 1;
+    }
+    calls
+}

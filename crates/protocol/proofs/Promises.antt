@@ -1,0 +1,101 @@
+-- What the protocol of one file promises, step by step: the interface between the protocol and the theorem on whole lists of steps.
+-- `Running v k` says that the view v is sound and the server is running, `Recovering v k reported row` that a recovery is under way
+-- which must give the row back; k is the number that the reference memory has for the block.
+use Prim.Native.Nat.{ℕ, _<_}
+use mathlib.Core.Path.{_≡_}
+use mathlib.Core.Bool.{Bool, true, false, _&&_}
+use lib.Dec.{eqb}
+use Rattle.records.specs.declared.record.Mode.{Mode}
+use Rattle.records.specs.Version.{isLastVersion}
+use Rattle.records.specs.Record.{isOpen, isWrite, countOf}
+use Rattle.protocol.specs.Entry.{waits, callTo, callsOut, callsIn, callsDue}
+use Rattle.protocol.specs.Client.{readNeedsServer, writeNeedsServer}
+use Rattle.protocol.specs.Table.{Row, rowOf}
+use Rattle.protocol.proofs.View.{View, at, freshView, waitingView, grantedView, closedView, valueIn, readView, writtenView, flushedView, callAnsweredView, waiterGrantedView, crashedView, reportedView}
+
+pub record Promises
+    (n : ℕ)
+    (Running : View → ℕ → Type 0)
+    (Recovering : View → ℕ → (ℕ → Bool) → Row → Type 0) : Type 0 where
+  pub fresh : Running (freshView n) 0
+  -- running
+  pub opens :
+      (v : View) (k i : ℕ) (mode : Mode)
+      → Running v k
+      → i < n
+      → waits n (v .entry) ≡ false
+      → eqb (countOf mode (v .client i .opens)) 255 ≡ false
+      → (isWrite mode && isLastVersion (v .entry .version)) ≡ false
+      → eqb (callsIn n (callsDue n (v .entry) i mode)) 0 ≡ true
+      → Running (grantedView n v i mode) k
+  pub waitsFor :
+      (v : View) (k i : ℕ) (mode : Mode)
+      → Running v k
+      → i < n
+      → waits n (v .entry) ≡ false
+      → eqb (countOf mode (v .client i .opens)) 255 ≡ false
+      → (isWrite mode && isLastVersion (v .entry .version)) ≡ false
+      → Running (waitingView n v i mode) k
+  pub closes :
+      (v : View) (k i : ℕ) (mode : Mode)
+      → Running v k
+      → i < n
+      → waits n (v .entry) ≡ false
+      → eqb (countOf mode (v .client i .opens)) 0 ≡ false
+      → Running (closedView v i mode) k
+  pub reads :
+      (v : View) (k i : ℕ)
+      → Running v k
+      → i < n
+      → isOpen (v .client i .opens) ≡ true
+      → (valueIn v i ≡ k) × Running (readView v i) k
+  pub writes :
+      (v : View) (k i x : ℕ)
+      → Running v k
+      → i < n
+      → eqb (v .client i .opens .writers) 0 ≡ false
+      → Running (writtenView v i x) x
+  pub flushes : (v : View) (k i : ℕ) → Running v k → i < n → v .dirty i ≡ true → Running (flushedView v i) k
+  pub answers :
+      (v : View) (k i : ℕ)
+      → Running v k
+      → i < n
+      → eqb (callTo n (v .entry) i) 0 ≡ false
+      → eqb (callsOut n (callAnsweredView n v i .entry)) 0 ≡ false
+      → Running (callAnsweredView n v i) k
+  pub answersLast :
+      (v : View) (k i : ℕ)
+      → Running v k
+      → i < n
+      → eqb (callTo n (v .entry) i) 0 ≡ false
+      → eqb (callsOut n (callAnsweredView n v i .entry)) 0 ≡ true
+      → (v .entry .waiter < n) × Running (waiterGrantedView n (callAnsweredView n v i)) k
+  pub crashes : (v : View) (k : ℕ) → Running v k → Recovering (crashedView n v) k (λ i. false) (rowOf (v .entry))
+  -- recovering
+  pub crashesAgain :
+      (v : View) (k : ℕ) (reported : ℕ → Bool) (row : Row)
+      → Recovering v k reported row
+      → Recovering (crashedView n v) k (λ i. false) row
+  pub readsOwn :
+      (v : View) (k i : ℕ) (reported : ℕ → Bool) (row : Row)
+      → Recovering v k reported row
+      → i < n
+      → readNeedsServer (v .client i) (v .held i) ≡ false
+      → valueIn v i ≡ k
+  pub writesOwn :
+      (v : View) (k i x : ℕ) (reported : ℕ → Bool) (row : Row)
+      → Recovering v k reported row
+      → i < n
+      → writeNeedsServer (v .client i) ≡ false
+      → Recovering (writtenView v i x) x reported row
+  pub reports :
+      (v : View) (k i : ℕ) (reported : ℕ → Bool) (row : Row)
+      → Recovering v k reported row
+      → i < n
+      → reported i ≡ false
+      → Recovering (reportedView v i) k (at i true reported) row
+  pub ends :
+      (v : View) (k : ℕ) (reported : ℕ → Bool) (row : Row)
+      → Recovering v k reported row
+      → ((i : ℕ) → i < n → reported i ≡ true)
+      → Running v k × (rowOf (v .entry) ≡ row) × (waits n (v .entry) ≡ false)

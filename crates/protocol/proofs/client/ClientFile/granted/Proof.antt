@@ -1,0 +1,14 @@
+-- `ClientFile::granted` meets its contract, field by field. Assumes nothing.
+use borrow.Author.Needs.{needs}
+use Rattle.protocol.proofs.client.ClientFile.granted.Statement.{statement}
+use Rattle.protocol.proofs.client.ClientFile.granted.Tie as tie
+
+pub granted-spec : {M : Type 1} → statement M
+granted-spec =
+    tie.close
+    (tie.spec
+    (search needs)
+    (search needs)
+    (search needs)
+    (search needs)
+    (λ c. cc))

@@ -1,0 +1,11 @@
+-- `ClientFile::keeps_blocks` meets its contract: the copies are kept with permission and a copy that is kept. Assumes nothing.
+use borrow.Author.Needs.{needs}
+use Rattle.protocol.proofs.client.ClientFile.keeps_blocks.Statement.{statement}
+use Rattle.protocol.proofs.client.ClientFile.keeps_blocks.Tie as tie
+
+pub keeps-blocks-spec : {M : Type 1} → statement M
+keeps-blocks-spec =
+    tie.close
+    (tie.spec
+    (search needs)
+    (λ c. cc))

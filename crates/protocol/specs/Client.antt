@@ -1,0 +1,68 @@
+-- A client's side of one file: its own record, its last-writer flag (document 01: mark) and the version of its copy (label), and how a
+-- grant, a close and an answer change them and the copies of its blocks.
+use Prim.Native.Nat.{ℕ, _+_}
+use mathlib.Core.Bool.{Bool, true, false, cond, not, _&&_, _||_}
+use mathlib.Core.List.{List}
+use lib.Dec.{ltb}
+use lib.ListN.{getD}
+use Rattle.records.specs.declared.record.Mode.{Mode}
+use Rattle.records.specs.declared.record.Mode.the-variants.{Read, Write}
+use Rattle.protocol.specs.declared.client.ClientFile.{ClientFile}
+use Rattle.protocol.specs.declared.reply.Grant.{Grant}
+use Rattle.protocol.specs.Sizes.{blocks}
+use Rattle.protocol.specs.Lists.{stored}
+use Rattle.records.specs.Version.{versionOf}
+use Rattle.records.specs.Record.{isOpen, isWrite, opened, closed, uncached, leavesLastWriter}
+use Rattle.protocol.specs.Callback.{writesBack, invalidates}
+use Rattle.protocol.specs.Copy.{keepsCopy}
+
+-- "The label becomes the latest. Without permission the copy is dropped, label 0. A write open clears the mark."
+abbrev pub grantedClient : Mode → Grant → ClientFile → ClientFile
+grantedClient mode g own =
+    record {
+      opens = opened mode (g .caching) (own .opens);
+      marked = not (isWrite mode) && own .marked;
+      cached = cond (g .caching) (g .latest) (versionOf 0);
+    }
+
+-- "with permission, the copy is kept when ..; otherwise its blocks are dropped"
+abbrev pub keepsBlocks : Mode → Grant → ClientFile → Bool
+keepsBlocks mode g own = g .caching && keepsCopy mode (own .cached) (g .latest)
+
+-- "If that was the last writer count and the station may cache, it becomes .. marked. A final close takes its permission away; its
+-- copy stays."
+abbrev pub closedClient : Mode → ClientFile → ClientFile
+closedClient mode own =
+    record {
+      opens = closed mode (own .opens);
+      marked = leavesLastWriter mode (own .opens) || own .marked;
+      cached = own .cached;
+    }
+
+-- "1 .. clears mark ..; 2 drops the copy, label 0, permission gone; 3 is 1, then 2."
+abbrev pub answeredClient : ℕ → ClientFile → ClientFile
+answeredClient kind own =
+    record {
+      opens = cond (invalidates kind) (uncached (own .opens)) (own .opens);
+      marked = not (writesBack kind) && own .marked;
+      cached = cond (invalidates kind) (versionOf 0) (own .cached);
+    }
+
+-- A read "needs the server .. unless the station is open, may cache and holds the block", a write "unless it has writers and may cache".
+abbrev pub readNeedsServer : ClientFile → Bool → Bool
+readNeedsServer own held = not (isOpen (own .opens) && own .opens .caching && held)
+
+abbrev pub writeNeedsServer : ClientFile → Bool
+writeNeedsServer own = not (ltb 0 (own .opens .writers) && own .opens .caching)
+
+-- "A dropped block is not held, not dirty and zero": the values, or the flags, of one file's blocks from `base` on, with none in
+-- each place, unless they are kept.
+abbrev pub kept {ℓ} : {A : Type ℓ} → Bool → A → ℕ → List A → List A
+kept keep none base l = cond keep l (stored blocks (λ b. base + b) (λ b. none) l)
+
+-- "1 sends every dirty block": the server's blocks from `to` on, after the dirty ones of the copies from `base` on have come.
+abbrev pub sent : Bool → List Bool → List ℕ → ℕ → ℕ → List ℕ → List ℕ
+sent send dirty copies base to l =
+    cond send
+    (stored blocks (λ b. to + b) (λ b. cond (getD dirty (base + b) false) (getD copies (base + b) 0) (getD l (to + b) 0)) l)
+    l

@@ -1,0 +1,123 @@
+-- The server's side of one file: the entry of the state table, and how an open, a grant, a close, an answer, a crash and a report
+-- change it. n is the number of clients.
+use Prim.Native.Nat.{ℕ}
+use mathlib.Core.Bool.{Bool, cond}
+use mathlib.Core.List.{List}
+use lib.Dec.{leb, ltb}
+use lib.ListN.{getD, set, replicate}
+use Rattle.records.specs.declared.record.Mode.{Mode}
+use Rattle.records.specs.declared.record.Mode.the-variants.{Read}
+use Rattle.records.specs.declared.record.ClientRecord.{ClientRecord}
+use Rattle.records.specs.declared.version.Version.{Version}
+use Rattle.protocol.specs.declared.entry.Entry.{Entry}
+use Rattle.protocol.specs.declared.client.ClientFile.{ClientFile}
+use Rattle.protocol.specs.declared.reply.Grant.{Grant}
+use Rattle.protocol.specs.Sizes.{nobody}
+use Rattle.protocol.specs.Lists.{count}
+use Rattle.records.specs.Version.{latestAt, previousVersion}
+use Rattle.records.specs.Record.{notOpen, isWrite, opened, closed, uncached, leavesLastWriter}
+use Rattle.protocol.specs.State.{recordIn}
+use Rattle.protocol.specs.Callback.{callbacksDue, writesBack, invalidates}
+use Rattle.protocol.specs.Permission.{permissionAtGrant}
+
+abbrev pub recordAt : Entry → ℕ → ClientRecord
+recordAt e i = recordIn (e .records) i
+
+-- an open of the file waits: "a station field of 8 or more reads as none"
+abbrev pub waits : ℕ → Entry → Bool
+waits n e = ltb (e .waiter) n
+
+-- a number that is no kind of callback is none
+abbrev pub kindOf : ℕ → ℕ
+kindOf k = cond (leb k 3) k 0
+
+-- the kind of the callback that client i has still to answer, 0 for none; where no open waits there is none
+abbrev pub callTo : ℕ → Entry → ℕ → ℕ
+callTo n e i = cond (waits n e) (kindOf (getD (e .calls) i 0)) 0
+
+-- how many clients have still to answer
+abbrev pub callsOut : ℕ → Entry → ℕ
+callsOut n e = count n (λ i. ltb 0 (callTo n e i))
+
+-- how many clients a list of callbacks calls
+abbrev pub callsIn : ℕ → List ℕ → ℕ
+callsIn n calls = count n (λ i. ltb 0 (getD calls i 0))
+
+-- the callbacks that an open in the mode causes
+abbrev pub callsDue : ℕ → Entry → ℕ → Mode → List ℕ
+callsDue n e opener mode = callbacksDue n (recordAt e) (e .last) opener mode
+
+-- "else it waits": the open stands in the entry, with the callbacks that are out
+abbrev pub waitingEntry : Entry → ℕ → Mode → List ℕ → Entry
+waitingEntry e opener mode calls =
+    record {
+      records = e .records;
+      version = e .version;
+      last = e .last;
+      waiter = opener;
+      mode = mode;
+      calls = calls;
+    }
+
+-- "The grant tells latest version, previous (latest less 1) and permission."
+abbrev pub grantOf : ℕ → Entry → ℕ → Mode → Grant
+grantOf n e opener mode =
+    record {
+      latest = latestAt mode (e .version);
+      previous = previousVersion (latestAt mode (e .version));
+      caching = permissionAtGrant n (recordAt e) opener mode;
+    }
+
+-- "Grant: the count of that mode rises by 1. For write, the version rises by 1 and the last writer becomes none." A read open leaves
+-- both as they are stored. After a grant no open waits.
+abbrev pub grantedEntry : ℕ → Entry → ℕ → Mode → Grant → Entry
+grantedEntry n e opener mode g =
+    record {
+      records = set (e .records) opener (opened mode (g .caching) (recordAt e opener));
+      version = cond (isWrite mode) (g .latest) (e .version);
+      last = cond (isWrite mode) nobody (e .last);
+      waiter = nobody;
+      mode = Read;
+      calls = replicate n 0;
+    }
+
+-- "Close in a mode lowers that count by 1. If that was the last writer count and the station may cache, it becomes last writer"
+abbrev pub closedEntry : Entry → ℕ → Mode → Entry
+closedEntry e i mode =
+    record {
+      records = set (e .records) i (closed mode (recordAt e i));
+      version = e .version;
+      last = cond (leavesLastWriter mode (recordAt e i)) i (e .last);
+      waiter = e .waiter;
+      mode = e .mode;
+      calls = e .calls;
+    }
+
+-- "1 .. clears mark and last writer; 2 .. permission gone; 3 is 1, then 2. The table changes in that same step."
+abbrev pub answeredEntry : Entry → ℕ → ℕ → Entry
+answeredEntry e i kind =
+    record {
+      records = set (e .records) i (cond (invalidates kind) (uncached (recordAt e i)) (recordAt e i));
+      version = e .version;
+      last = cond (writesBack kind) nobody (e .last);
+      waiter = e .waiter;
+      mode = e .mode;
+      calls = set (e .calls) i 0;
+    }
+
+-- "the server's readers, writers, permissions, last writers, waits .. are lost"; "Versions .. survive a crash"
+abbrev pub crashedEntry : ℕ → Version → Entry
+crashedEntry n v =
+    record { records = replicate n notOpen; version = v; last = nobody; waiter = nobody; mode = Read; calls = replicate n 0 }
+
+-- "a station gives counts, permissions and marks for all files; the table takes them. If two claim one mark, the later stands."
+abbrev pub reportedEntry : Entry → ℕ → ClientFile → Entry
+reportedEntry e i own =
+    record {
+      records = set (e .records) i (own .opens);
+      version = e .version;
+      last = cond (own .marked) i (e .last);
+      waiter = e .waiter;
+      mode = e .mode;
+      calls = e .calls;
+    }

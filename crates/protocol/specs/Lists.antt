@@ -1,0 +1,20 @@
+-- Counting, storing and choosing, for any size.
+use Prim.Native.Nat.{ℕ, zero, suc, _+_}
+use mathlib.Core.Bool.{Bool, cond}
+use mathlib.Core.List.{List, [], _∷_}
+use lib.ListN.{set}
+
+-- how many of the numbers below n have the property p
+unfoldable pub count : ℕ → (ℕ → Bool) → ℕ
+count zero p = 0
+count (suc n) p = count n p + cond (p n) 1 0
+
+-- the list l with value k stored at place k, for each k below n
+unfoldable pub stored {ℓ} : {A : Type ℓ} → ℕ → (ℕ → ℕ) → (ℕ → A) → List A → List A
+stored zero place value l = l
+stored (suc n) place value l = set (stored n place value l) (place n) (value n)
+
+-- the number that stands with the first test that holds; 0 where none does
+abbrev pub firstOf : List (Bool × ℕ) → ℕ
+firstOf [] = 0
+firstOf (t ∷ ts) = cond (t .0) (t .1) (firstOf ts)

@@ -1,0 +1,100 @@
+-- Who can cause a refusal: the tests of each step on a file, each with document 01's number, in number order.
+-- "Open tests 2, 3, 5, 9, 12, 14; close 2, 3, 5, 9, 11; read and write 2, 3, 4, 5, 11; flush 2, 3, 4, 5, 13; reply 2, 3, 5, 10".
+-- They look at the server's flags, the file's entry e and the client's own side of it: "Reads, writes, refusals 11 to 13 and a station's
+-- own change go by the station's record; calls, grants and the table go by the server's".
+use Prim.Native.Nat.{ℕ}
+use mathlib.Core.Bool.{Bool, not, _&&_, _||_}
+use mathlib.Core.List.{List, [], _∷_}
+use lib.Dec.{eqb, leb}
+use Rattle.records.specs.declared.record.Mode.{Mode}
+use Rattle.records.specs.declared.record.Mode.the-variants.{Write}
+use Rattle.protocol.specs.declared.entry.Entry.{Entry}
+use Rattle.protocol.specs.declared.client.ClientFile.{ClientFile}
+use Rattle.protocol.specs.Sizes.{clients, files, blocks}
+use Rattle.records.specs.Version.{isLastVersion}
+use Rattle.records.specs.Record.{isOpen, isWrite, countOf}
+use Rattle.protocol.specs.Entry.{waits, callTo}
+use Rattle.protocol.specs.Client.{readNeedsServer, writeNeedsServer}
+
+abbrev pub Test : Type 0
+Test = Bool × ℕ
+
+-- "2 station 8 or more. 3 file 32 or more. 4 block 4 or more."
+abbrev pub noSuchClient : ℕ → Test
+noSuchClient i = (leb clients i, 2)
+
+abbrev pub noSuchFile : ℕ → Test
+noSuchFile f = (leb files f, 3)
+
+abbrev pub noSuchBlock : ℕ → Test
+noSuchBlock b = (leb blocks b, 4)
+
+-- "5 recovering." "For reads and writes 5 holds during recovery if the station has reported, or if the step needs the server"
+abbrev pub inRecovery : Bool → Test
+inRecovery recovering = (recovering, 5)
+
+abbrev pub cutOff : Bool → Bool → Bool → Test
+cutOff recovering reported needsServer = (recovering && (reported || needsServer), 5)
+
+-- "9 an open of this file waits. 10 this station has no call on this file."
+abbrev pub openWaits : Entry → Test
+openWaits e = (waits clients e, 9)
+
+abbrev pub noCall : Entry → ℕ → Test
+noCall e i = (eqb (callTo clients e i) 0, 10)
+
+-- "11 not open in the mode needed (a read needs either). 12 that count is 255. 13 the block isn't dirty there."
+abbrev pub notOpenIn : Mode → ClientFile → Test
+notOpenIn mode own = (eqb (countOf mode (own .opens)) 0, 11)
+
+abbrev pub notOpenAtAll : ClientFile → Test
+notOpenAtAll own = (not (isOpen (own .opens)), 11)
+
+abbrev pub countFull : Mode → ClientFile → Test
+countFull mode own = (eqb (countOf mode (own .opens)) 255, 12)
+
+abbrev pub notDirty : Bool → Test
+notDirty dirty = (not dirty, 13)
+
+-- "14 the version is 4,294,967,295 and the open is for write."
+abbrev pub versionSpent : Mode → Entry → Test
+versionSpent mode e = (isWrite mode && isLastVersion (e .version), 14)
+
+abbrev pub openTests : Bool → Entry → ClientFile → Mode → ℕ → ℕ → List Test
+openTests recovering e own mode i f =
+    noSuchClient i
+    ∷ noSuchFile f
+    ∷ inRecovery recovering
+    ∷ openWaits e
+    ∷ countFull mode own
+    ∷ versionSpent mode e
+    ∷ []
+
+abbrev pub closeTests : Bool → Entry → ClientFile → Mode → ℕ → ℕ → List Test
+closeTests recovering e own mode i f =
+    noSuchClient i ∷ noSuchFile f ∷ inRecovery recovering ∷ openWaits e ∷ notOpenIn mode own ∷ []
+
+abbrev pub readTests : Bool → Bool → ClientFile → Bool → ℕ → ℕ → ℕ → List Test
+readTests recovering reported own held i f b =
+    noSuchClient i
+    ∷ noSuchFile f
+    ∷ noSuchBlock b
+    ∷ cutOff recovering reported (readNeedsServer own held)
+    ∷ notOpenAtAll own
+    ∷ []
+
+abbrev pub writeTests : Bool → Bool → ClientFile → ℕ → ℕ → ℕ → List Test
+writeTests recovering reported own i f b =
+    noSuchClient i
+    ∷ noSuchFile f
+    ∷ noSuchBlock b
+    ∷ cutOff recovering reported (writeNeedsServer own)
+    ∷ notOpenIn Write own
+    ∷ []
+
+abbrev pub flushTests : Bool → Bool → ℕ → ℕ → ℕ → List Test
+flushTests recovering dirty i f b =
+    noSuchClient i ∷ noSuchFile f ∷ noSuchBlock b ∷ inRecovery recovering ∷ notDirty dirty ∷ []
+
+abbrev pub answerTests : Bool → Entry → ℕ → ℕ → List Test
+answerTests recovering e i f = noSuchClient i ∷ noSuchFile f ∷ inRecovery recovering ∷ noCall e i ∷ []

@@ -1,0 +1,42 @@
+-- Document 01's letter and values for each case of a reply.
+use Prim.Native.Nat.{ℕ}
+use mathlib.Core.Bool.{Bool, true, false, cond}
+use mathlib.Core.List.{List, [], _∷_}
+use Rattle.protocol.specs.declared.reply.Grant.{Grant}
+use Rattle.protocol.specs.declared.reply.Reply.{Reply}
+use Rattle.protocol.specs.declared.reply.Reply.the-variants.{Granted, Waiting, Value, Refused, Answered, AnsweredGrant, Done}
+use Rattle.records.specs.Version.{numberOf}
+
+-- "G latest previous permission (0 or 1)"
+abbrev pub grantValues : Grant → List ℕ
+grantValues g = numberOf (g .latest) ∷ numberOf (g .previous) ∷ cond (g .caching) 1 0 ∷ []
+
+-- the letter, as ASCII: "G ..; or W ..; or V value; or N refusal; or A ..; else K"
+abbrev pub letterOf : Reply → ℕ
+letterOf (Granted g) = 71
+letterOf Waiting = 87
+letterOf (Value v) = 86
+letterOf (Refused k) = 78
+letterOf Answered = 65
+letterOf (AnsweredGrant i g) = 65
+letterOf Done = 75
+
+-- the numbers that follow the letter; those of Waiting are its calls, which stand beside the reply
+abbrev pub valuesOf : Reply → List ℕ
+valuesOf (Granted g) = grantValues g
+valuesOf Waiting = []
+valuesOf (Value v) = v ∷ []
+valuesOf (Refused k) = k ∷ []
+valuesOf Answered = []
+valuesOf (AnsweredGrant i g) = i ∷ grantValues g
+valuesOf Done = []
+
+-- "A step is accepted when its reply is not a refusal; an open that waits is accepted."
+abbrev pub isRefused : Reply → Bool
+isRefused (Granted g) = false
+isRefused Waiting = false
+isRefused (Value v) = false
+isRefused (Refused k) = true
+isRefused Answered = false
+isRefused (AnsweredGrant i g) = false
+isRefused Done = false

@@ -1,0 +1,76 @@
+// A client's side of one file: what it holds besides the copies of the blocks, and how its steps change it.
+ghost use mathlib.Core.Path.{_≡_};
+ghost use Rattle.protocol.specs.Client.{grantedClient, keepsBlocks, closedClient, answeredClient, readNeedsServer, writeNeedsServer};
+use crate::callback::invalidates;
+use crate::callback::writes_back;
+use crate::copy::keeps_copy;
+use crate::reply::Grant;
+use records::ClientRecord;
+use records::Mode;
+use records::Version;
+
+pub struct ClientFile {
+    pub opens: ClientRecord,
+    // The last-writer flag (document 01: mark).
+    pub marked: bool,
+    // The version of the cached copy, 0 for no copy (document 01: label).
+    pub cached: Version,
+}
+
+impl ClientFile {
+    pub fn granted(self, mode: Mode, grant: Grant) -> Self
+        ensures { λ r. ⌜ r ≡ grantedClient mode grant self ⌝ }
+    {
+        ClientFile {
+            opens: self.opens.opened(mode, grant.caching),
+            marked: !mode.is_write() & self.marked,
+            cached: Version::either(grant.caching, grant.latest, Version::none()),
+        }
+    }
+
+    // Whether the copies of the blocks are kept at a grant.
+    pub fn keeps_blocks(self, mode: Mode, grant: Grant) -> bool
+        ensures { λ r. ⌜ r ≡ keepsBlocks mode grant self ⌝ }
+    {
+        grant.caching & keeps_copy(mode, self.cached, grant.latest)
+    }
+
+    pub fn closed(self, mode: Mode) -> Self
+        ensures { λ r. ⌜ r ≡ closedClient mode self ⌝ }
+    {
+        let opens = self.opens;
+        let cached = self.cached;
+        ClientFile {
+            opens: opens.closed(mode),
+            marked: opens.leaves_last_writer(mode) | self.marked,
+            cached,
+        }
+    }
+
+    // The client has answered its callback of this kind.
+    pub fn answered(self, kind: u8) -> Self
+        ensures { λ r. ⌜ r ≡ answeredClient kind self ⌝ }
+    {
+        let invalidated = invalidates(kind);
+        let opens = self.opens;
+        ClientFile {
+            opens: ClientRecord::either(invalidated, opens.uncached(), opens),
+            marked: !writes_back(kind) & self.marked,
+            cached: Version::either(invalidated, Version::none(), self.cached),
+        }
+    }
+
+    pub fn read_needs_server(self, held: bool) -> bool
+        ensures { λ r. ⌜ r ≡ readNeedsServer self held ⌝ }
+    {
+        let opens = self.opens;
+        !(opens.is_open() & opens.caching & held)
+    }
+
+    pub fn write_needs_server(self) -> bool
+        ensures { λ r. ⌜ r ≡ writeNeedsServer self ⌝ }
+    {
+        let opens = self.opens;
+        !((0 < opens.writers) & opens.caching)
+    }
+}

@@ -1,0 +1,15 @@
+-- `ClientRecord::opened` meets its contract: the count of the mode is raised. Assumes nothing.
+use borrow.Author.Needs.{needs}
+use Rattle.records.proofs.record.ClientRecord.opened.Statement.{statement}
+use Rattle.records.proofs.record.ClientRecord.opened.Tie as tie
+
+pub opened-spec : {M : Type 1} → statement M
+opened-spec =
+    tie.close
+    (tie.spec
+    (search needs)
+    (search needs)
+    (search needs)
+    (search needs)
+    (λ c. cc)
+    (λ c. cc))

@@ -1,0 +1,16 @@
+-- `Version::latest_at` meets its contract, mode by mode. Assumes nothing.
+use borrow.Author.Needs.{needs}
+use Rattle.records.proofs.version.Version.latest_at.Statement.{statement}
+use Rattle.records.proofs.version.Version.latest_at.Tie as tie
+
+pub latest-at-spec : {M : Type 1} → statement M
+latest-at-spec =
+    tie.close
+    (tie.spec
+    (search needs)
+    (search needs)
+    (search needs)
+    (search needs)
+    (search needs)
+    (λ c. cc)
+    (λ c. cc))

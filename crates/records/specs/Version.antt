@@ -1,0 +1,38 @@
+-- "A version of 32 bits (1 at the start)"; 0 labels no copy. "Version numbers are never compared with counts or block values":
+-- these functions alone make, read and compare one.
+use Prim.Native.Nat.{ℕ, _+_, _-_}
+use mathlib.Core.Bool.{Bool, cond}
+use lib.Dec.{eqb}
+use Rattle.records.specs.declared.version.Version.{Version}
+use Rattle.records.specs.declared.record.Mode.{Mode}
+use Rattle.records.specs.declared.record.Mode.the-variants.{Read, Write}
+
+abbrev pub versionOf : ℕ → Version
+versionOf n = record { 0 = n }
+
+abbrev pub numberOf : Version → ℕ
+numberOf v = v .0
+
+abbrev pub sameVersion : Version → Version → Bool
+sameVersion v w = eqb (numberOf v) (numberOf w)
+
+-- "The version is 4,294,967,295"
+abbrev pub isLastVersion : Version → Bool
+isLastVersion v = eqb (numberOf v) 4294967295
+
+-- "a version of 0 [reads] as 1"
+abbrev pub asRead : Version → Version
+asRead v = cond (eqb (numberOf v) 0) (versionOf 1) v
+
+-- "the version rises by 1"; "a grant that would pass the limit of .. 14 leaves that number"
+abbrev pub nextVersion : Version → Version
+nextVersion v = cond (isLastVersion v) v (versionOf (numberOf v + 1))
+
+-- "previous (latest less 1)"
+abbrev pub previousVersion : Version → Version
+previousVersion v = versionOf (numberOf v - 1)
+
+-- "For write, the version rises by 1": the latest version, once an open in this mode is granted at the stored version v
+abbrev pub latestAt : Mode → Version → Version
+latestAt Read v = asRead v
+latestAt Write v = nextVersion (asRead v)

@@ -1,0 +1,18 @@
+-- The proofs about the service, in reading order: the examples of document 01, by evaluation; then Demand 3, which
+-- `Consistent` proves from the promises of the protocol of one file.
+pub mod Run
+pub mod Edges
+pub mod WholeCase
+pub mod Readings
+pub mod Tests
+pub mod Lists
+pub mod Places
+pub mod Views
+pub mod FileSteps
+pub mod BlockSteps
+pub mod TableSteps
+pub mod Accepted
+pub mod Invariant
+pub mod WhileRunning
+pub mod WhileRecovering
+pub mod Consistent

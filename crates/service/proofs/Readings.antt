@@ -1,0 +1,102 @@
+-- The readings of open points that docs/DECISIONS.md lists, from the definitions by evaluation. Assumes nothing.
+use mathlib.Core.Path.{_≡_, refl}
+use mathlib.Core.List.{List, [], _∷_, _++_}
+use Rattle.protocol.specs.declared.reply.Reply.the-variants.{Granted, Waiting, Value, Refused, Answered, AnsweredGrant, Done}
+use Rattle.protocol.specs.declared.state.FileState.the-variants.{Closed, OneReader, OneReaderDirty, WriteShared}
+use Rattle.protocol.specs.Lists.{count, stored}
+use Rattle.protocol.specs.State.{stateOf}
+use Rattle.protocol.specs.Permission.{permissionAtGrant}
+use Rattle.service.specs.Places.{entryAt}
+use Rattle.service.specs.Step.{stepOf}
+use Rattle.service.specs.Fresh.{fresh}
+use Rattle.service.proofs.Run.{OR, OW, CR, CW, RD, WR, FL, AN, XX, RP, EN, told, toldUncached, replies, played, answerAfter, recovered, stateAt}
+
+-- an invalidation that a crash breaks off: clients 1 and 2 read, 3 opens for write, 1 has answered
+abbrev brokenOff : List Rattle.protocol.specs.declared.step.Step.Step
+brokenOff = OR 1 0 ∷ OR 2 0 ∷ OW 3 0 ∷ AN 1 0 ∷ XX ∷ recovered
+
+pub record Readings : Type 0 where
+  -- a step names any number
+  pub anyNumber : answerAfter fresh [] (OR 18446744073709551615 0) ≡ Refused 2
+  -- in recovery a read or a write at a client that is not open is refused with 5, never 11
+  pub readInRecovery : answerAfter fresh (XX ∷ []) (RD 0 0 0) ≡ Refused 5
+  pub writeInRecovery : answerAfter fresh (XX ∷ []) (WR 0 0 0 1) ≡ Refused 5
+  -- the table as it stands, in recovery and with half of the answers in
+  pub tableInRecovery : stateAt (played fresh (OW 0 0 ∷ XX ∷ [])) 0 ≡ Closed
+  pub halfAnswered : stateAt (played fresh (OR 1 0 ∷ OR 2 0 ∷ OW 3 0 ∷ AN 1 0 ∷ [])) 0 ≡ WriteShared
+  -- 9 is for anyone, the waiting opener and an open that would keep its permission included, and comes before 11 at a close
+  pub waitingOpener : answerAfter fresh (OR 0 0 ∷ OW 1 0 ∷ []) (OW 1 0) ≡ Refused 9
+  pub keptOpen : answerAfter fresh (OR 0 0 ∷ OW 1 0 ∷ []) (OR 0 0) ≡ Refused 9
+  pub closeWaits : answerAfter fresh (OR 0 0 ∷ OW 1 0 ∷ []) (CR 2 0) ≡ Refused 9
+  -- a repeated write open raises the version
+  pub repeated : replies fresh (OW 0 0 ∷ OW 0 0 ∷ []) ≡ Granted (told 2 1) ∷ Granted (told 3 2) ∷ []
+  -- a write open raises the writers alone, and allows reads
+  pub writersAlone : answerAfter fresh (OW 0 0 ∷ []) (CR 0 0) ≡ Refused 11
+  pub readsToo : answerAfter fresh (OW 0 0 ∷ []) (RD 0 0 0) ≡ Value 0
+  -- the version before 1 is 0
+  pub beforeFirst : answerAfter fresh [] (OR 0 0) ≡ Granted (told 1 0)
+  -- a flush is allowed while an open waits, and leaves the callback due, the flag and the last writer
+  pub flushWhileWaiting :
+      replies fresh (OW 0 0 ∷ WR 0 0 0 5 ∷ CW 0 0 ∷ OR 1 0 ∷ FL 0 0 0 ∷ AN 0 0 ∷ RD 1 0 0 ∷ [])
+      ≡ Granted (told 2 1)
+      ∷ Done
+      ∷ Done
+      ∷ Waiting
+      ∷ Done
+      ∷ AnsweredGrant 1 (told 2 1)
+      ∷ Value 5
+      ∷ []
+  -- a called client goes on reading and writing its copy until it answers
+  pub untilAnswer :
+      replies fresh (OW 0 0 ∷ OR 1 0 ∷ WR 0 0 0 6 ∷ RD 0 0 0 ∷ AN 0 0 ∷ RD 1 0 0 ∷ [])
+      ≡ Granted (told 2 1)
+      ∷ Waiting
+      ∷ Done
+      ∷ Value 6
+      ∷ AnsweredGrant 1 (toldUncached 2 1)
+      ∷ Value 6
+      ∷ []
+  -- a report without the flag leaves the last writer as it is
+  pub noFlag : entryAt (played fresh (OW 0 0 ∷ CW 0 0 ∷ XX ∷ RP 0 ∷ RP 1 ∷ [])) 0 .last ≡ 0
+  -- a broken-off invalidation
+  pub brokenWrite : answerAfter fresh brokenOff (OW 2 0) ≡ Granted (toldUncached 2 1)
+  pub brokenRead : answerAfter fresh brokenOff (OR 2 0) ≡ Granted (told 1 0)
+  pub brokenOther : answerAfter fresh brokenOff (OR 1 0) ≡ Granted (toldUncached 1 0)
+  pub brokenClose : stateAt (played fresh (brokenOff ++ (CR 1 0 ∷ []))) 0 ≡ OneReader
+  -- a second crash takes the reports back
+  pub secondCrash :
+      replies fresh (OR 0 0 ∷ RD 0 0 0 ∷ XX ∷ RP 0 ∷ RD 0 0 0 ∷ XX ∷ RD 0 0 0 ∷ [])
+      ≡ Granted (told 1 0)
+      ∷ Value 0
+      ∷ Done
+      ∷ Done
+      ∷ Refused 5
+      ∷ Done
+      ∷ Value 0
+      ∷ []
+
+pub readings : Readings
+unfolding fresh stepOf stateOf permissionAtGrant count stored
+readings =
+    record {
+      anyNumber = refl;
+      readInRecovery = refl;
+      writeInRecovery = refl;
+      tableInRecovery = refl;
+      halfAnswered = refl;
+      waitingOpener = refl;
+      keptOpen = refl;
+      closeWaits = refl;
+      repeated = refl;
+      writersAlone = refl;
+      readsToo = refl;
+      beforeFirst = refl;
+      flushWhileWaiting = refl;
+      untilAnswer = refl;
+      noFlag = refl;
+      brokenWrite = refl;
+      brokenRead = refl;
+      brokenOther = refl;
+      brokenClose = refl;
+      secondCrash = refl;
+    }

@@ -1,0 +1,45 @@
+-- The two outcomes of a test, alone and under `&&`, `not` and `cond`. They serve every proof about the service. Assumes
+-- nothing.
+use Prim.Native.Nat.{ℕ}
+use mathlib.Core.Path.{_≡_, refl, sym, _∙_}
+use mathlib.Core.Bool.{Bool, true, false, cond, not, _&&_, true≢false}
+use lib.Dec.{eqb}
+use borrow.Author.Tests.{eq-eqb}
+
+pub split {ℓ} : {A : Type ℓ} (t : Bool) → (t ≡ true → A) → (t ≡ false → A) → A
+split true p q = p refl
+split false p q = q refl
+
+-- what holds of both values that a test chooses between
+pub either {ℓ ℓ′} :
+    {A : Type ℓ} (P : A → Type ℓ′) (t : Bool) {a b : A} → (t ≡ true → P a) → (t ≡ false → P b) → P (cond t a b)
+either P true p q = p refl
+either P false p q = q refl
+
+pub conflict {ℓ} : {A : Type ℓ} {t : Bool} → t ≡ true → t ≡ false → A
+conflict p q = absurd (true≢false (sym p ∙ q))
+
+pub eqb-same : (k : ℕ) → eqb k k ≡ true
+eqb-same k = eq-eqb k k refl
+
+pub both : (x y : Bool) → (x && y) ≡ true → (x ≡ true) × (y ≡ true)
+both true y e = (refl, e)
+both false y e = conflict e refl
+
+pub and-true : (x : Bool) → (x && true) ≡ x
+and-true true = refl
+and-true false = refl
+
+pub and-comm : (x y : Bool) → (x && y) ≡ (y && x)
+and-comm true true = refl
+and-comm true false = refl
+and-comm false true = refl
+and-comm false false = refl
+
+pub and-swap : (x y z : Bool) → (x && y && z) ≡ (x && z && y)
+and-swap true y z = and-comm y z
+and-swap false y z = refl
+
+pub cond-not {ℓ} : {A : Type ℓ} (t : Bool) (a b : A) → cond (not t) a b ≡ cond t b a
+cond-not true a b = refl
+cond-not false a b = refl

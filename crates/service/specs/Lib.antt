@@ -1,0 +1,8 @@
+-- The service, in reading order.
+pub mod Places
+pub mod Refusal
+pub mod Next
+pub mod Answer
+pub mod Step
+pub mod Fresh
+pub mod Demand3

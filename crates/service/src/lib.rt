@@ -1,0 +1,9 @@
+// The two ends together: the server with its state table and blocks, the clients with their copies, and the steps that
+// the service takes.
+mod outcome;
+mod server;
+mod service;
+
+pub use outcome::Outcome;
+pub use server::Server;
+pub use service::Service;

@@ -1,0 +1,10 @@
+// What a step hands back.
+use crate::service::Service;
+use protocol::Reply;
+
+pub struct Outcome {
+    pub service: Service,
+    pub reply: Reply,
+    // The callbacks that the step sends: a kind for each client, 0 for none.
+    pub calls: [u8; 8],
+}

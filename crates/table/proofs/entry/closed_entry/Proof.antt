@@ -1,0 +1,24 @@
+-- `closed_entry` meets its contract: the client becomes the last writer where its close leaves one. Assumes nothing.
+use borrow.Author.Needs.{needs}
+use Rattle.table.proofs.entry.closed_entry.Statement.{statement}
+use Rattle.table.proofs.entry.closed_entry.Tie as tie
+
+returns : tie.Need-returns
+returns c = rw (c .before .before .closed .ensures, ← c .before .leaves-last-writer .ensures, c .if1 .taken)
+
+returns-2 : tie.Need-returns-2
+returns-2 c = rw (c .before .before .closed .ensures, ← c .before .leaves-last-writer .ensures, c .if1 .left)
+
+pub closed-entry-spec : {M : Type 1} → statement M
+closed-entry-spec =
+    tie.close
+    (tie.spec
+    (search needs)
+    (search needs)
+    (search needs)
+    (search needs)
+    (search needs)
+    (search needs)
+    (search needs)
+    returns
+    returns-2)

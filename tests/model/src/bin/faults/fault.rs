@@ -1,0 +1,56 @@
+//! What a fault is, and how one is written: a rule of the model replaced, or the text changed on its way in.
+
+use model::check::Demand3;
+use model::{Document01, replay};
+
+pub struct Fault {
+    pub name: &'static str,
+    pub wrong: Wrong,
+    /// Why no step file can show this fault, if none can.
+    pub unseen: Option<&'static str>,
+}
+
+pub enum Wrong {
+    /// The rules; this plays a step file by them.
+    Rules(fn(&[u8], &mut Demand3) -> Vec<u8>),
+    /// The text as it is taken, played by the right rules.
+    Text(fn(&[u8]) -> Vec<u8>),
+}
+
+impl Fault {
+    /// Plays a step file wrongly, with Demand 3 as the witness.
+    pub fn play(&self, input: &[u8], demand3: &mut Demand3) -> Vec<u8> {
+        match self.wrong {
+            Wrong::Rules(play) => play(input, demand3),
+            Wrong::Text(taken) => replay::<Document01, _>(&taken(input), demand3),
+        }
+    }
+}
+
+/// Each fault is a set of rules with some of document 01's replaced.
+macro_rules! rule_faults {
+    ($($(#[$why:meta])* $name:ident $(($unseen:literal))? { $($rules:item)* })*) => {
+        $(
+            $(#[$why])*
+            #[allow(non_camel_case_types)]
+            struct $name;
+            impl model::Rules for $name { $($rules)* }
+        )*
+        pub const FAULTS: &[$crate::fault::Fault] = &[$($crate::fault::Fault {
+            name: stringify!($name),
+            wrong: $crate::fault::Wrong::Rules(model::replay::<$name, model::check::Demand3>),
+            unseen: $crate::fault::unseen!($($unseen)?),
+        }),*];
+    };
+}
+
+macro_rules! unseen {
+    () => {
+        None
+    };
+    ($reason:literal) => {
+        Some($reason)
+    };
+}
+
+pub(crate) use {rule_faults, unseen};

@@ -1,0 +1,79 @@
+//! Deliberate faults, each named for the wrong answer it gives, and the proof that the differential run would find it:
+//! seeded step files are played by the right rules and by the faulty ones until the outputs differ.
+//!
+//! `faults` tries them all; `faults play NAME` is a player with that fault.
+
+mod callbacks;
+mod closing;
+mod copies;
+mod door;
+mod fault;
+mod lines;
+mod opening;
+mod recovery;
+mod trial;
+mod unseen;
+
+use std::env::args;
+use std::io::{Read, Write, stdin, stdout};
+use std::process::ExitCode;
+
+use fault::Fault;
+use model::check::Demand3;
+use trial::{Sample, Trial};
+
+fn all_faults() -> impl Iterator<Item = &'static Fault> {
+    let groups = [
+        opening::FAULTS,
+        closing::FAULTS,
+        copies::FAULTS,
+        callbacks::FAULTS,
+        recovery::FAULTS,
+        door::FAULTS,
+        lines::FAULTS,
+        unseen::FAULTS,
+    ];
+    groups.into_iter().flatten()
+}
+
+fn main() -> ExitCode {
+    let words: Vec<String> = args().skip(1).collect();
+    let words: Vec<&str> = words.iter().map(String::as_str).collect();
+    match words[..] {
+        [] => try_all(),
+        ["play", name] => play(name),
+        _ => {
+            eprintln!("usage: faults [play NAME]");
+            ExitCode::from(2)
+        }
+    }
+}
+
+fn try_all() -> ExitCode {
+    let samples = Sample::all();
+    let trials: Vec<Trial> = all_faults().map(|fault| Trial::of(fault, &samples)).collect();
+    for trial in &trials {
+        println!("{trial}");
+    }
+    let found = trials.iter().filter(|trial| trial.found()).count();
+    let surprises = trials.iter().filter(|trial| !trial.as_expected()).count();
+    println!("{found} of {} faults found, {} cannot be; {surprises} surprises", trials.len(), unseen::FAULTS.len());
+    if surprises == 0 { ExitCode::SUCCESS } else { ExitCode::FAILURE }
+}
+
+fn play(name: &str) -> ExitCode {
+    let Some(fault) = all_faults().find(|fault| fault.name == name) else {
+        eprintln!("faults: there is no {name}");
+        return ExitCode::from(2);
+    };
+    let mut input = Vec::new();
+    let read = stdin().read_to_end(&mut input);
+    let output = fault.play(&input, &mut Demand3::default());
+    match read.and_then(|_| stdout().write_all(&output)) {
+        Ok(()) => ExitCode::SUCCESS,
+        Err(error) => {
+            eprintln!("faults: {error}");
+            ExitCode::FAILURE
+        }
+    }
+}

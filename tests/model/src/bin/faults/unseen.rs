@@ -1,0 +1,92 @@
+//! Faults that no step file can show, each with the reason. They are tried like the others, and must not be found.
+
+use model::{BLOCKS, ClientFile, Entry, Grant, Kind, Mode, Record};
+
+use crate::fault::rule_faults;
+
+rule_faults! {
+    invalidation_keeps_the_cached_version(
+        "the blocks are gone, so that keeping the copy at the next grant and dropping it are the same"
+    ) {
+        fn answer_at_client(file: &mut ClientFile, kind: Kind, server: &mut [u64; BLOCKS]) {
+            let cached_version = file.cached_version;
+            file.answer(kind, server);
+            file.cached_version = cached_version;
+        }
+    }
+    copy_kept_without_permission(
+        "reads go to the server while permission is missing, and cached version 0 drops the copy at the next grant"
+    ) {
+        fn grant_at_client(file: &mut ClientFile, mode: Mode, grant: &Grant) {
+            let copies = file.copies.clone();
+            file.grant(mode, grant);
+            if !grant.may_cache {
+                file.copies = copies;
+            }
+        }
+    }
+    uncached_read_is_held(
+        "the block is not read while permission is missing, and cached version 0 drops it at the next grant"
+    ) {
+        fn read(file: &mut ClientFile, block: usize, server: &[u64; BLOCKS]) -> u64 {
+            let value = file.read(block, server);
+            file.copies.held[block] = true;
+            file.copies.values[block] = value;
+            value
+        }
+    }
+    final_close_keeps_permission(
+        "the permission of a client that is not open is never looked at, and its next open judges it anew"
+    ) {
+        fn close_at_server(entry: &mut Entry, client: usize, mode: Mode) {
+            let may_cache = entry.records[client].may_cache;
+            entry.close(client, mode);
+            entry.records[client].may_cache = may_cache;
+        }
+        fn close_at_client(file: &mut ClientFile, mode: Mode) {
+            let may_cache = file.record.may_cache;
+            file.close(mode);
+            file.record.may_cache = may_cache;
+        }
+    }
+    dropped_blocks_not_zeroed("a block that is not held is never given") {
+        fn answer_at_client(file: &mut ClientFile, kind: Kind, server: &mut [u64; BLOCKS]) {
+            let values = file.copies.values;
+            file.answer(kind, server);
+            file.copies.values = values;
+        }
+    }
+    other_writers_ignored_at_grant(
+        "a writer that may cache is called and loses permission, so that the missing permission shuts caching out"
+    ) {
+        fn permission_at_grant(entry: &Entry, opener: usize, mode: Mode) -> bool {
+            let mut readers = entry.clone();
+            for client in entry.writing_clients().without(opener).members() {
+                readers.records[client] = Record { readers: 1, writers: 0, ..entry.records[client] };
+            }
+            readers.permission_at_grant(opener, mode)
+        }
+    }
+    other_opens_ignored_at_write_grant(
+        "every other open client that may cache is called and loses permission, which shuts caching out"
+    ) {
+        fn permission_at_grant(entry: &Entry, opener: usize, mode: Mode) -> bool {
+            let kept = entry.records[opener].keeps_permission(mode);
+            if kept { entry.permission_at_grant(opener, mode) } else { entry.permission_judged(opener, Mode::Read) }
+        }
+    }
+    earlier_flag_stands_in_reports("never do two clients have the flag of one file") {
+        fn report(entry: &mut Entry, client: usize, file: &ClientFile) {
+            let last_writer = entry.last_writer;
+            entry.report(client, file.record, file.last_writer_flag);
+            entry.last_writer = last_writer.or(entry.last_writer);
+        }
+    }
+    write_back_clears_only_the_clients_own_last_writer("a client called to write back is the last writer or none is") {
+        fn answer_at_server(entry: &mut Entry, client: usize, kind: Kind) {
+            let other = entry.last_writer.filter(|&last_writer| last_writer != client);
+            entry.callback_answered(client, kind);
+            entry.last_writer = other;
+        }
+    }
+}

@@ -1,0 +1,75 @@
+//! Demand 3 over a whole run: reads by the reference memory, and the table that a recovery brings back.
+
+use super::{ReferenceMemory, StateTable, Witness};
+use crate::{Outcome, Service, Step};
+
+#[derive(Clone, PartialEq, Eq, Debug)]
+pub enum Breach {
+    Read { line: usize, expected: u64, got: u64 },
+    TableNotRestored { line: usize },
+    OpenWaitsAfterRecovery { line: usize },
+}
+
+#[derive(Default)]
+pub struct Demand3 {
+    memory: ReferenceMemory,
+    before_recovery: Option<StateTable>,
+    line: usize,
+    breach: Option<Breach>,
+}
+
+impl Demand3 {
+    pub fn memory(&self) -> &ReferenceMemory {
+        &self.memory
+    }
+
+    /// In a recovery: the table just before the crash that began it.
+    pub fn before_recovery(&self) -> Option<&StateTable> {
+        self.before_recovery.as_ref()
+    }
+
+    /// The first breach of the run.
+    pub fn breach(&self) -> Option<&Breach> {
+        self.breach.as_ref()
+    }
+
+    fn judge(&self, service: &Service, step: &Step, outcome: &Outcome) -> Option<Breach> {
+        let line = self.line + 1;
+        if let Outcome::Value(got) = *outcome
+            && let Some(expected) = self.memory.expected(step)
+            && got != expected
+        {
+            return Some(Breach::Read { line, expected, got });
+        }
+        if *step != Step::End || *outcome != Outcome::Done {
+            return None;
+        }
+        if self.before_recovery != Some(StateTable::of(&service.server)) {
+            return Some(Breach::TableNotRestored { line });
+        }
+        let waits = service.server.entries.iter().any(|entry| entry.waiting.is_some());
+        waits.then_some(Breach::OpenWaitsAfterRecovery { line })
+    }
+}
+
+impl Witness for Demand3 {
+    /// The table is noted by the steps alone: a recovery begins with a crash and ends with an accepted end.
+    fn before(&mut self, service: &Service, step: &Step) {
+        if *step == Step::Crash && self.before_recovery.is_none() {
+            self.before_recovery = Some(StateTable::of(&service.server));
+        }
+    }
+
+    fn after(&mut self, service: &Service, step: &Step, outcome: &Outcome) {
+        let breach = self.judge(service, step, outcome);
+        self.breach = self.breach.take().or(breach);
+        self.memory.feed(step, matches!(outcome, Outcome::Refused(_)));
+        if *step == Step::End && *outcome == Outcome::Done {
+            self.before_recovery = None;
+        }
+    }
+
+    fn answered(&mut self, _outcome: &Outcome) {
+        self.line += 1;
+    }
+}

@@ -1,0 +1,64 @@
+//! Counts of what a run met.
+
+use std::fmt;
+
+use super::Witness;
+use crate::{Outcome, Refusal, Service, Step};
+
+#[derive(Default)]
+pub struct Tally {
+    lines: u64,
+    reads: u64,
+    waits: u64,
+    grants_after_waits: u64,
+    recoveries: u64,
+    refusals: [u64; Refusal::COUNT + 1],
+}
+
+impl Tally {
+    pub fn refused(&self, refusal: Refusal) -> u64 {
+        self.refusals[refusal.number()]
+    }
+
+    pub fn waits(&self) -> u64 {
+        self.waits
+    }
+
+    pub fn recoveries(&self) -> u64 {
+        self.recoveries
+    }
+}
+
+impl Witness for Tally {
+    fn after(&mut self, _service: &Service, step: &Step, outcome: &Outcome) {
+        if *step == Step::End && *outcome == Outcome::Done {
+            self.recoveries += 1;
+        }
+    }
+
+    fn answered(&mut self, outcome: &Outcome) {
+        self.lines += 1;
+        match outcome {
+            Outcome::Value(_) => self.reads += 1,
+            Outcome::Waits(_) => self.waits += 1,
+            Outcome::Replied(Some(_)) => self.grants_after_waits += 1,
+            Outcome::Refused(refusal) => self.refusals[refusal.number()] += 1,
+            Outcome::Granted(_) | Outcome::Replied(None) | Outcome::Done => {}
+        }
+    }
+}
+
+impl fmt::Display for Tally {
+    fn fmt(&self, out: &mut fmt::Formatter) -> fmt::Result {
+        writeln!(out, "lines {}", self.lines)?;
+        writeln!(out, "accepted reads {}", self.reads)?;
+        writeln!(out, "waits {}", self.waits)?;
+        writeln!(out, "grants after waits {}", self.grants_after_waits)?;
+        writeln!(out, "recoveries completed {}", self.recoveries)?;
+        write!(out, "refusals")?;
+        for number in 1..=Refusal::COUNT {
+            write!(out, " {number}:{}", self.refusals[number])?;
+        }
+        Ok(())
+    }
+}

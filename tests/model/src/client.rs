@@ -1,0 +1,111 @@
+//! The client's end: its own record of each file, and the copies of blocks that it holds.
+
+use crate::{BLOCKS, FILES, Grant, Kind, Mode, Record};
+
+#[derive(Clone, PartialEq, Eq, Debug)]
+pub struct Client {
+    pub files: [ClientFile; FILES],
+}
+
+impl Client {
+    pub fn fresh() -> Self {
+        Client { files: std::array::from_fn(|_| ClientFile::default()) }
+    }
+}
+
+#[derive(Clone, PartialEq, Eq, Debug, Default)]
+pub struct ClientFile {
+    pub record: Record,
+    /// Document 01's mark.
+    pub last_writer_flag: bool,
+    /// Document 01's label: the version of the copy, 0 for no copy.
+    pub cached_version: u32,
+    pub copies: Copies,
+}
+
+/// The copies of one file's blocks. A block that is not held is not dirty and zero.
+#[derive(Clone, PartialEq, Eq, Debug, Default)]
+pub struct Copies {
+    pub values: [u64; BLOCKS],
+    pub held: [bool; BLOCKS],
+    pub dirty: [bool; BLOCKS],
+}
+
+/// "The copy is kept when its label equals the latest version, or for a write open the previous one."
+fn copy_kept(cached_version: u32, mode: Mode, grant: &Grant) -> bool {
+    cached_version == grant.latest || (mode == Mode::Write && cached_version == grant.previous)
+}
+
+impl ClientFile {
+    pub fn grant(&mut self, mode: Mode, grant: &Grant) {
+        self.record.grant(mode, grant.may_cache);
+        if !grant.may_cache {
+            self.drop_copy();
+        } else {
+            if !copy_kept(self.cached_version, mode, grant) {
+                self.drop_copy();
+            }
+            self.cached_version = grant.latest;
+        }
+        if mode == Mode::Write {
+            self.last_writer_flag = false;
+        }
+    }
+
+    pub fn close(&mut self, mode: Mode) {
+        if self.record.close(mode) {
+            self.last_writer_flag = true;
+        }
+    }
+
+    pub fn read(&mut self, block: usize, server: &[u64; BLOCKS]) -> u64 {
+        if !self.record.may_cache {
+            return server[block];
+        }
+        if !self.copies.held[block] {
+            self.copies.values[block] = server[block];
+            self.copies.held[block] = true;
+        }
+        self.copies.values[block]
+    }
+
+    pub fn write(&mut self, block: usize, value: u64, server: &mut [u64; BLOCKS]) {
+        if !self.record.may_cache {
+            server[block] = value;
+            return;
+        }
+        self.copies.values[block] = value;
+        self.copies.held[block] = true;
+        self.copies.dirty[block] = true;
+    }
+
+    pub fn flush(&mut self, block: usize, server: &mut [u64; BLOCKS]) {
+        server[block] = self.copies.values[block];
+        self.copies.dirty[block] = false;
+    }
+
+    /// The client's part of a callback reply: kind 3 is 1, then 2.
+    pub fn answer(&mut self, kind: Kind, server: &mut [u64; BLOCKS]) {
+        if kind.writes_back() {
+            self.write_back(server);
+        }
+        if kind.invalidates() {
+            self.drop_copy();
+            self.record.may_cache = false;
+        }
+    }
+
+    fn write_back(&mut self, server: &mut [u64; BLOCKS]) {
+        for block in 0..BLOCKS {
+            if self.copies.dirty[block] {
+                self.flush(block, server);
+            }
+        }
+        self.last_writer_flag = false;
+    }
+
+    fn drop_copy(&mut self) {
+        self.copies = Copies::default();
+        self.cached_version = 0;
+    }
+}

@@ -1,0 +1,139 @@
+//! Who can cause a refusal: for each step the tests that document 01 lists for it, in the order of their numbers.
+
+use crate::{BLOCKS, CLIENTS, ClientFile, ClientSet, Entry, FILES, Kind, Mode, Refusal, Service, Step};
+
+pub type Admission = Result<(), Refusal>;
+
+fn unless(refused: bool, refusal: Refusal) -> Admission {
+    if refused { Err(refusal) } else { Ok(()) }
+}
+
+fn client_exists(client: u64) -> Admission {
+    unless(client >= CLIENTS as u64, Refusal::NoSuchClient)
+}
+
+fn file_exists(file: u64) -> Admission {
+    unless(file >= FILES as u64, Refusal::NoSuchFile)
+}
+
+fn block_exists(block: u64) -> Admission {
+    unless(block >= BLOCKS as u64, Refusal::NoSuchBlock)
+}
+
+/// "A read unless the station is open, may cache and holds the block."
+fn read_needs_server(file: &ClientFile, block: u64) -> bool {
+    !(file.record.is_open() && file.record.may_cache && file.copies.held[block as usize])
+}
+
+/// "A write unless it has writers and may cache."
+fn write_needs_server(file: &ClientFile) -> bool {
+    !(file.record.writers > 0 && file.record.may_cache)
+}
+
+impl Service {
+    pub fn may_open(&self, mode: Mode, client: u64, file: u64) -> Admission {
+        client_exists(client)?;
+        file_exists(file)?;
+        self.running()?;
+        self.nothing_waits(file)?;
+        unless(self.at_client(client, file).record.count(mode) == u8::MAX, Refusal::CountAtLimit)?;
+        unless(mode == Mode::Write && self.entry(file).version == u32::MAX, Refusal::VersionAtLimit)
+    }
+
+    pub fn may_close(&self, mode: Mode, client: u64, file: u64) -> Admission {
+        client_exists(client)?;
+        file_exists(file)?;
+        self.running()?;
+        self.nothing_waits(file)?;
+        unless(self.at_client(client, file).record.count(mode) == 0, Refusal::NotOpen)
+    }
+
+    pub fn may_read(&self, client: u64, file: u64, block: u64) -> Admission {
+        client_exists(client)?;
+        file_exists(file)?;
+        block_exists(block)?;
+        let copy = self.at_client(client, file);
+        if self.server.recovering {
+            unless(self.has_reported(client) || read_needs_server(copy, block), Refusal::Recovering)?;
+        }
+        unless(!copy.record.is_open(), Refusal::NotOpen)
+    }
+
+    pub fn may_write(&self, client: u64, file: u64, block: u64) -> Admission {
+        client_exists(client)?;
+        file_exists(file)?;
+        block_exists(block)?;
+        let copy = self.at_client(client, file);
+        if self.server.recovering {
+            unless(self.has_reported(client) || write_needs_server(copy), Refusal::Recovering)?;
+        }
+        unless(copy.record.writers == 0, Refusal::NotOpen)
+    }
+
+    pub fn may_flush(&self, client: u64, file: u64, block: u64) -> Admission {
+        client_exists(client)?;
+        file_exists(file)?;
+        block_exists(block)?;
+        self.running()?;
+        unless(!self.at_client(client, file).copies.dirty[block as usize], Refusal::NotDirty)
+    }
+
+    /// A reply that is admitted has the kind of its callback.
+    pub fn may_reply(&self, client: u64, file: u64) -> Result<Kind, Refusal> {
+        client_exists(client)?;
+        file_exists(file)?;
+        self.running()?;
+        self.entry(file).callback(client as usize).ok_or(Refusal::NoCallback)
+    }
+
+    pub fn may_report(&self, client: u64) -> Admission {
+        client_exists(client)?;
+        self.in_recovery()?;
+        unless(self.has_reported(client), Refusal::AlreadyReported)
+    }
+
+    pub fn may_end(&self) -> Admission {
+        self.in_recovery()?;
+        unless(self.server.reported != ClientSet::ALL, Refusal::ReportsMissing)
+    }
+
+    /// The refusal that this step would get now, if any.
+    pub fn refusal(&self, step: &Step) -> Option<Refusal> {
+        match *step {
+            Step::Open { mode, client, file } => self.may_open(mode, client, file),
+            Step::Close { mode, client, file } => self.may_close(mode, client, file),
+            Step::Reply { client, file } => self.may_reply(client, file).map(|_| ()),
+            Step::Read { client, file, block } => self.may_read(client, file, block),
+            Step::Write { client, file, block, .. } => self.may_write(client, file, block),
+            Step::Flush { client, file, block } => self.may_flush(client, file, block),
+            Step::Crash => Ok(()),
+            Step::Report { client } => self.may_report(client),
+            Step::End => self.may_end(),
+        }
+        .err()
+    }
+
+    fn running(&self) -> Admission {
+        unless(self.server.recovering, Refusal::Recovering)
+    }
+
+    fn in_recovery(&self) -> Admission {
+        unless(!self.server.recovering, Refusal::NotRecovering)
+    }
+
+    fn has_reported(&self, client: u64) -> bool {
+        self.server.reported.contains(client as usize)
+    }
+
+    fn nothing_waits(&self, file: u64) -> Admission {
+        unless(self.entry(file).waiting.is_some(), Refusal::OpenWaits)
+    }
+
+    fn entry(&self, file: u64) -> &Entry {
+        &self.server.entries[file as usize]
+    }
+
+    fn at_client(&self, client: u64, file: u64) -> &ClientFile {
+        &self.clients[client as usize].files[file as usize]
+    }
+}

@@ -1,0 +1,136 @@
+//! One file at the server: its entry in the state table, its blocks and its waiting open.
+
+use crate::{BLOCKS, CLIENTS, Callbacks, ClientSet, Grant, Kind, Mode, Record, State};
+
+#[derive(Clone, PartialEq, Eq, Debug)]
+pub struct Entry {
+    pub records: [Record; CLIENTS],
+    pub version: u32,
+    pub last_writer: Option<usize>,
+    pub waiting: Option<WaitingOpen>,
+    pub blocks: [u64; BLOCKS],
+}
+
+#[derive(Clone, Copy, PartialEq, Eq, Debug)]
+pub struct WaitingOpen {
+    pub opener: usize,
+    pub mode: Mode,
+    /// Those still to be replied to.
+    pub callbacks: Callbacks,
+}
+
+impl Entry {
+    pub fn fresh() -> Self {
+        Entry {
+            records: [Record::default(); CLIENTS],
+            version: 1,
+            last_writer: None,
+            waiting: None,
+            blocks: [0; BLOCKS],
+        }
+    }
+
+    fn clients_with(&self, has: impl Fn(&Record) -> bool) -> ClientSet {
+        let with = |set: ClientSet, client| if has(&self.records[client]) { set.with(client) } else { set };
+        (0..CLIENTS).fold(ClientSet::NONE, with)
+    }
+
+    pub fn open_clients(&self) -> ClientSet {
+        self.clients_with(Record::is_open)
+    }
+
+    pub fn writing_clients(&self) -> ClientSet {
+        self.clients_with(|record| record.writers > 0)
+    }
+
+    pub fn caching_clients(&self) -> ClientSet {
+        self.clients_with(|record| record.may_cache)
+    }
+
+    /// The table "Opening" of document 01, row by row.
+    pub fn callbacks_due(&self, opener: usize, mode: Mode) -> Callbacks {
+        if self.records[opener].keeps_permission(mode) {
+            return Callbacks::NONE;
+        }
+        let others = self.open_clients().without(opener);
+        match (State::of(self), mode) {
+            (State::Closed, _) => Callbacks::NONE,
+            (State::ClosedDirty | State::OneRdrDirty, Mode::Read) => {
+                Callbacks::to(self.other_last_writer(opener), Kind::WriteBack)
+            }
+            (State::ClosedDirty | State::OneRdrDirty, Mode::Write) => {
+                Callbacks::to(self.other_last_writer(opener), Kind::Both)
+            }
+            (State::OneReader | State::MultReaders, Mode::Read) => Callbacks::NONE,
+            (State::OneReader | State::MultReaders, Mode::Write) => Callbacks::to(others, Kind::Invalidate),
+            (State::OneWriter, _) => Callbacks::to(others, Kind::Both),
+            (State::WriteShared, _) => Callbacks::to(others.and(self.caching_clients()), Kind::Invalidate),
+        }
+    }
+
+    fn other_last_writer(&self, opener: usize) -> ClientSet {
+        self.last_writer.map_or(ClientSet::NONE, ClientSet::only).without(opener)
+    }
+
+    /// Whether the opener may cache, on the table just before the grant.
+    pub fn permission_at_grant(&self, opener: usize, mode: Mode) -> bool {
+        let record = &self.records[opener];
+        if record.keeps_permission(mode) { record.may_cache } else { self.permission_judged(opener, mode) }
+    }
+
+    /// Permission where none is kept.
+    pub fn permission_judged(&self, opener: usize, mode: Mode) -> bool {
+        let open = self.open_clients();
+        let another_writes = !self.writing_clients().without(opener).is_empty();
+        let shared_for_write = mode == Mode::Write && !open.without(opener).is_empty();
+        let one_may_not = !open.minus(self.caching_clients()).is_empty();
+        !(another_writes || shared_for_write || one_may_not)
+    }
+
+    /// "A grant that would pass the limit of .. 14 leaves that number."
+    pub fn grant(&mut self, opener: usize, mode: Mode, may_cache: bool) -> Grant {
+        self.records[opener].grant(mode, may_cache);
+        if mode == Mode::Write {
+            self.version = self.version.saturating_add(1);
+            self.last_writer = None;
+        }
+        Grant { latest: self.version, previous: self.version - 1, may_cache }
+    }
+
+    pub fn close(&mut self, client: usize, mode: Mode) {
+        if self.records[client].close(mode) {
+            self.last_writer = Some(client);
+        }
+    }
+
+    /// The kind of the callback that this client has still to reply to.
+    pub fn callback(&self, client: usize) -> Option<Kind> {
+        self.waiting.as_ref()?.callbacks.kind(client)
+    }
+
+    /// The server's part of a callback reply. "The table changes in that same step."
+    pub fn callback_answered(&mut self, client: usize, kind: Kind) {
+        if let Some(waiting) = &mut self.waiting {
+            waiting.callbacks = waiting.callbacks.without(client);
+        }
+        if kind.writes_back() {
+            self.last_writer = None;
+        }
+        if kind.invalidates() {
+            self.records[client].may_cache = false;
+        }
+    }
+
+    /// Versions and blocks survive; the rest does not.
+    pub fn crash(&mut self) {
+        *self = Entry { version: self.version, blocks: self.blocks, ..Entry::fresh() };
+    }
+
+    /// A report of one client on this file; a report without the flag leaves the last writer as it is.
+    pub fn report(&mut self, client: usize, record: Record, last_writer_flag: bool) {
+        self.records[client] = record;
+        if last_writer_flag {
+            self.last_writer = Some(client);
+        }
+    }
+}

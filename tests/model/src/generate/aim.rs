@@ -1,0 +1,191 @@
+//! Aims: what the next step shall bring about, how often each is taken up, and the search for a step that meets it.
+
+use super::stage::{Stage, StepKind};
+use crate::{ClientSet, Entry, Refusal, State, Step};
+
+#[derive(Clone, Copy)]
+pub enum Aim {
+    Anything,
+    Accepted,
+    Open,
+    /// An open that waits.
+    Wait,
+    Close,
+    /// A callback reply that is due.
+    Answer,
+    /// A read or a write.
+    Access,
+    Flush,
+    Crash,
+    Report,
+    End,
+    Refused(Refusal),
+}
+
+/// Aims with their weights.
+pub type Aims = [(usize, Aim)];
+
+const RUNNING: [(usize, Aim); 16] = [
+    (14, Aim::Open),
+    (22, Aim::Wait),
+    (14, Aim::Close),
+    (26, Aim::Access),
+    (6, Aim::Flush),
+    (1, Aim::Crash),
+    (2, Aim::Anything),
+    (1, Aim::Refused(Refusal::NoSuchClient)),
+    (1, Aim::Refused(Refusal::NoSuchFile)),
+    (1, Aim::Refused(Refusal::NoSuchBlock)),
+    (1, Aim::Report),
+    (1, Aim::End),
+    (2, Aim::Refused(Refusal::NoCallback)),
+    (3, Aim::Refused(Refusal::NotOpen)),
+    (1, Aim::Refused(Refusal::CountAtLimit)),
+    (4, Aim::Refused(Refusal::NotDirty)),
+];
+
+/// Nobody has a file open.
+const IDLE: [(usize, Aim); 7] = [
+    (50, Aim::Open),
+    (20, Aim::Wait),
+    (4, Aim::Flush),
+    (1, Aim::Crash),
+    (2, Aim::Anything),
+    (2, Aim::Refused(Refusal::NotOpen)),
+    (2, Aim::Refused(Refusal::NotDirty)),
+];
+
+/// Clients take turns: mostly one has the file open, and the next finds what the one before left behind.
+const TURNS: [(usize, Aim); 6] =
+    [(14, Aim::Open), (6, Aim::Wait), (30, Aim::Close), (40, Aim::Access), (6, Aim::Flush), (1, Aim::Crash)];
+
+const WAITING: [(usize, Aim); 9] = [
+    (34, Aim::Answer),
+    (20, Aim::Access),
+    (6, Aim::Flush),
+    (8, Aim::Accepted),
+    (3, Aim::Crash),
+    (4, Aim::Anything),
+    (12, Aim::Refused(Refusal::OpenWaits)),
+    (6, Aim::Refused(Refusal::NoCallback)),
+    (3, Aim::Refused(Refusal::NotOpen)),
+];
+
+/// Some called clients have replied and some have not: a crash now breaks the invalidation off.
+const PARTLY_ANSWERED: [(usize, Aim); 6] = [
+    (20, Aim::Answer),
+    (12, Aim::Crash),
+    (16, Aim::Access),
+    (10, Aim::Refused(Refusal::OpenWaits)),
+    (8, Aim::Refused(Refusal::NoCallback)),
+    (4, Aim::Anything),
+];
+
+/// WRITE_SHARED lasts until the final close: without a push to close, a file would soon stay in it.
+const SHARED: [(usize, Aim); 7] = [
+    (60, Aim::Close),
+    (14, Aim::Access),
+    (6, Aim::Open),
+    (6, Aim::Wait),
+    (1, Aim::Crash),
+    (3, Aim::Refused(Refusal::NotDirty)),
+    (3, Aim::Refused(Refusal::NotOpen)),
+];
+
+/// An invalidation was broken off: some open clients may cache, others may not.
+const BROKEN_OFF: [(usize, Aim); 6] = [
+    (20, Aim::Open),
+    (10, Aim::Wait),
+    (36, Aim::Close),
+    (20, Aim::Access),
+    (4, Aim::Crash),
+    (4, Aim::Refused(Refusal::NotOpen)),
+];
+
+const RECOVERING: [(usize, Aim); 8] = [
+    (54, Aim::Report),
+    (18, Aim::Access),
+    (1, Aim::Crash),
+    (2, Aim::Anything),
+    (14, Aim::Refused(Refusal::Recovering)),
+    (3, Aim::Refused(Refusal::AlreadyReported)),
+    (3, Aim::Refused(Refusal::ReportsMissing)),
+    (2, Aim::Refused(Refusal::NoSuchBlock)),
+];
+
+const ALL_REPORTED: [(usize, Aim); 4] =
+    [(60, Aim::End), (4, Aim::Crash), (20, Aim::Refused(Refusal::Recovering)), (6, Aim::Anything)];
+
+/// What is aimed at, by what goes on at the server.
+pub fn aims_for(stage: &Stage, turns: bool) -> &'static Aims {
+    let server = &stage.service.server;
+    if server.recovering {
+        if server.reported == ClientSet::ALL { &ALL_REPORTED } else { &RECOVERING }
+    } else if stage.any(|entry| entry.waiting.is_some()) {
+        if stage.any(|entry| entry.waiting.is_some() && is_broken_off(entry)) { &PARTLY_ANSWERED } else { &WAITING }
+    } else if stage.any(is_broken_off) {
+        &BROKEN_OFF
+    } else if stage.any(|entry| State::of(entry) == State::WriteShared) {
+        &SHARED
+    } else if !stage.any(|entry| !entry.open_clients().is_empty()) {
+        &IDLE
+    } else if turns {
+        &TURNS
+    } else {
+        &RUNNING
+    }
+}
+
+fn is_broken_off(entry: &Entry) -> bool {
+    State::of(entry) == State::WriteShared && !entry.caching_clients().is_empty()
+}
+
+const TRIES: usize = 60;
+
+impl Stage {
+    /// A step that meets the aim, or after some tries any step.
+    pub fn aimed(&mut self, aim: Aim) -> Step {
+        let mut step = self.candidate(aim);
+        for _ in 0..TRIES {
+            if self.meets(&step, aim) {
+                break;
+            }
+            step = self.candidate(aim);
+        }
+        step
+    }
+
+    fn candidate(&mut self, aim: Aim) -> Step {
+        match aim {
+            Aim::Anything | Aim::Accepted => self.any_step(),
+            Aim::Open | Aim::Wait | Aim::Refused(Refusal::CountAtLimit) => self.step(StepKind::Open),
+            Aim::Close => self.step(StepKind::Close),
+            Aim::Answer => self.step(StepKind::Reply),
+            Aim::Access => {
+                let kind = *self.rng.pick(&[StepKind::Read, StepKind::Write]);
+                self.step(kind)
+            }
+            Aim::Flush | Aim::Refused(Refusal::NotDirty) => self.step(StepKind::Flush),
+            Aim::Crash => Step::Crash,
+            Aim::Report => self.step(StepKind::Report),
+            Aim::End => Step::End,
+            Aim::Refused(Refusal::NoSuchClient | Refusal::NoSuchFile | Refusal::NoSuchBlock) => self.stray_step(),
+            Aim::Refused(_) => self.any_step(),
+        }
+    }
+
+    fn meets(&self, step: &Step, aim: Aim) -> bool {
+        let refusal = self.service.refusal(step);
+        match aim {
+            Aim::Anything => true,
+            Aim::Refused(wanted) => refusal == Some(wanted),
+            Aim::Wait => refusal.is_none() && self.calls_somebody(step),
+            _ => refusal.is_none(),
+        }
+    }
+
+    fn calls_somebody(&self, step: &Step) -> bool {
+        let Step::Open { mode, client, file } = *step else { return false };
+        !self.service.server.entries[file as usize].callbacks_due(client as usize, mode).is_empty()
+    }
+}

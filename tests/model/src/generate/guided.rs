@@ -1,0 +1,92 @@
+//! Hot and wide files: every step has an aim that is drawn by what goes on at the server, and now and then a scene is
+//! played that chance would seldom bring about.
+
+use std::collections::VecDeque;
+
+use super::Author;
+use super::aim::{Aims, aims_for};
+use super::rng::Rng;
+use super::stage::{Scope, Stage};
+use super::text::write_step;
+use super::tide::Tide;
+use crate::{CLIENTS, Mode, Step};
+
+/// One step in so many, while the service runs, begins a scene.
+const SCENE: usize = 80;
+
+pub struct Guided {
+    stage: Stage,
+    turns: bool,
+    tide: Option<Tide>,
+    /// The steps of a scene still to come.
+    scene: VecDeque<Step>,
+}
+
+impl Guided {
+    pub fn hot(seed: u64) -> Self {
+        let mut rng = Rng::new(seed);
+        let scope = Scope { clients: 2 + rng.below(5), files: 1 + rng.below(2), blocks: 1 + rng.below(3) };
+        let tide = (seed % 8 == 7).then(|| Tide::new(&mut rng));
+        Guided { stage: Stage::new(rng, scope), turns: seed.is_multiple_of(2), tide, scene: VecDeque::new() }
+    }
+
+    pub fn wide(seed: u64) -> Self {
+        let stage = Stage::new(Rng::new(!seed), Scope::WHOLE);
+        Guided { stage, turns: seed.is_multiple_of(2), tide: None, scene: VecDeque::new() }
+    }
+
+    /// The next step, not yet taken.
+    pub fn choose(&mut self) -> Step {
+        if let Some(step) = self.scene.pop_front() {
+            return step;
+        }
+        let running = !self.stage.service.server.recovering;
+        if let Some(step) = self.tide.as_mut().and_then(|tide| tide.step(&mut self.stage)) {
+            return step;
+        }
+        if running && self.stage.rng.one_in(SCENE) {
+            self.begin_broken_off_invalidation();
+        }
+        let aims: &Aims = if self.tide.is_some() && running { &Tide::HIGH } else { aims_for(&self.stage, self.turns) };
+        let aim = self.stage.rng.weighted(aims);
+        self.stage.aimed(aim)
+    }
+
+    /// Two readers are called, one replies, the server crashes and recovers. Sometimes the one that replied then opens
+    /// anew and tries its copy in another recovery.
+    fn begin_broken_off_invalidation(&mut self) {
+        let [first, second, writer] = self.stage.some_clients();
+        let (file, block) = (self.stage.some_file(), self.stage.some_block());
+        self.scene.extend([
+            Step::Open { mode: Mode::Read, client: first, file },
+            Step::Read { client: first, file, block },
+            Step::Open { mode: Mode::Read, client: second, file },
+            Step::Open { mode: Mode::Write, client: writer, file },
+            Step::Reply { client: first, file },
+            Step::Crash,
+        ]);
+        let turn = self.stage.rng.below(CLIENTS);
+        self.scene.extend((0..CLIENTS).map(|client| Step::Report { client: ((client + turn) % CLIENTS) as u64 }));
+        self.scene.push_back(Step::End);
+        if self.stage.rng.one_in(3) {
+            self.scene.extend([
+                Step::Close { mode: Mode::Read, client: first, file },
+                Step::Open { mode: Mode::Read, client: first, file },
+                Step::Crash,
+                Step::Read { client: first, file, block },
+            ]);
+        }
+    }
+
+    pub fn stage(&mut self) -> &mut Stage {
+        &mut self.stage
+    }
+}
+
+impl Author for Guided {
+    fn line(&mut self, text: &mut Vec<u8>) {
+        let step = self.choose();
+        self.stage.take(&step);
+        write_step(&step, text);
+    }
+}

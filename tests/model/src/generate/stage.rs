@@ -1,0 +1,157 @@
+//! The model run beside the author, so that steps are chosen with knowledge of the state.
+
+use super::rng::Rng;
+use crate::{BLOCKS, CLIENTS, Document01, Entry, FILES, Mode, Outcome, Service, Step};
+
+/// The clients, files and blocks that are drawn from, the first of each.
+#[derive(Clone, Copy)]
+pub struct Scope {
+    pub clients: usize,
+    pub files: usize,
+    pub blocks: usize,
+}
+
+impl Scope {
+    pub const WHOLE: Scope = Scope { clients: CLIENTS, files: FILES, blocks: BLOCKS };
+}
+
+#[derive(Clone, Copy)]
+pub enum StepKind {
+    Open,
+    Close,
+    Reply,
+    Read,
+    Write,
+    Flush,
+    Report,
+    End,
+}
+
+const ANY_KIND: [(usize, StepKind); 8] = [
+    (6, StepKind::Open),
+    (4, StepKind::Close),
+    (3, StepKind::Reply),
+    (5, StepKind::Read),
+    (5, StepKind::Write),
+    (2, StepKind::Flush),
+    (2, StepKind::Report),
+    (1, StepKind::End),
+];
+
+pub struct Stage {
+    pub rng: Rng,
+    pub service: Service,
+    scope: Scope,
+    /// One number in so many lies outside the service.
+    stray: usize,
+    /// The client and the file of the latest step, often drawn again.
+    latest: (u64, u64),
+}
+
+impl Stage {
+    pub fn new(rng: Rng, scope: Scope) -> Self {
+        Stage { rng, service: Service::fresh(), scope, stray: 200, latest: (0, 0) }
+    }
+
+    pub fn take(&mut self, step: &Step) -> Outcome {
+        if let Some(place) = place_of(step) {
+            self.latest = place;
+        }
+        self.service.take::<Document01>(step)
+    }
+
+    pub fn any(&self, fits: impl Fn(&Entry) -> bool) -> bool {
+        self.service.server.entries[..self.scope.files].iter().any(fits)
+    }
+
+    /// Any step but a crash.
+    pub fn any_step(&mut self) -> Step {
+        let kind = self.rng.weighted(&ANY_KIND);
+        self.step(kind)
+    }
+
+    /// Any step but a crash, its numbers often outside the service.
+    pub fn stray_step(&mut self) -> Step {
+        let usual = std::mem::replace(&mut self.stray, 2);
+        let step = self.any_step();
+        self.stray = usual;
+        step
+    }
+
+    pub fn step(&mut self, kind: StepKind) -> Step {
+        match kind {
+            StepKind::Open => Step::Open { mode: self.mode(), client: self.client(), file: self.file() },
+            StepKind::Close => Step::Close { mode: self.mode(), client: self.client(), file: self.file() },
+            StepKind::Reply => Step::Reply { client: self.client(), file: self.file() },
+            StepKind::Read => Step::Read { client: self.client(), file: self.file(), block: self.block() },
+            StepKind::Write => {
+                let (client, file, block) = (self.client(), self.file(), self.block());
+                Step::Write { client, file, block, value: self.value() }
+            }
+            StepKind::Flush => Step::Flush { client: self.client(), file: self.file(), block: self.block() },
+            StepKind::Report => Step::Report { client: self.number(CLIENTS, CLIENTS) },
+            StepKind::End => Step::End,
+        }
+    }
+
+    /// Three clients, different ones where the scope has so many.
+    pub fn some_clients(&mut self) -> [u64; 3] {
+        let first = self.rng.below(self.scope.clients);
+        [first, first + 1, first + 2].map(|client| (client % self.scope.clients) as u64)
+    }
+
+    pub fn some_file(&mut self) -> u64 {
+        self.rng.below(self.scope.files) as u64
+    }
+
+    pub fn some_block(&mut self) -> u64 {
+        self.rng.below(self.scope.blocks) as u64
+    }
+
+    fn mode(&mut self) -> Mode {
+        *self.rng.pick(&[Mode::Read, Mode::Read, Mode::Write])
+    }
+
+    fn client(&mut self) -> u64 {
+        if self.rng.one_in(3) { self.latest.0 } else { self.number(self.scope.clients, CLIENTS) }
+    }
+
+    fn file(&mut self) -> u64 {
+        if self.rng.one_in(3) { self.latest.1 } else { self.number(self.scope.files, FILES) }
+    }
+
+    fn block(&mut self) -> u64 {
+        self.number(self.scope.blocks, BLOCKS)
+    }
+
+    fn number(&mut self, scope: usize, limit: usize) -> u64 {
+        if !self.rng.one_in(self.stray) {
+            return self.rng.below(scope) as u64;
+        }
+        let limit = limit as u64;
+        let beyond = [limit, limit + 1, limit + 256, limit << 32, u64::MAX, u64::MAX - limit];
+        *self.rng.pick(&beyond)
+    }
+
+    pub fn value(&mut self) -> u64 {
+        match self.rng.below(4) {
+            0 => *self.rng.pick(&[0, 1, u64::MAX, u64::MAX - 1, 1 << 32]),
+            1 => self.rng.next(),
+            _ => self.rng.below(1000) as u64,
+        }
+    }
+}
+
+/// The client and the file of a step, if it has both and they exist.
+fn place_of(step: &Step) -> Option<(u64, u64)> {
+    let (client, file) = match *step {
+        Step::Open { client, file, .. } | Step::Close { client, file, .. } | Step::Reply { client, file } => {
+            (client, file)
+        }
+        Step::Read { client, file, .. } | Step::Write { client, file, .. } | Step::Flush { client, file, .. } => {
+            (client, file)
+        }
+        Step::Crash | Step::Report { .. } | Step::End => return None,
+    };
+    (client < CLIENTS as u64 && file < FILES as u64).then_some((client, file))
+}

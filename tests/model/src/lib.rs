@@ -1,0 +1,44 @@
+//! A model of document 01, written from its text alone and sharing nothing with the proved engine, together with the
+//! tools that compare the two. Names follow the field; each definition gives document 01's word where it differs.
+
+pub mod check;
+pub mod generate;
+
+mod callbacks;
+mod client;
+mod client_set;
+mod door;
+mod entry;
+mod input;
+mod outcome;
+mod player;
+mod printer;
+mod reader;
+mod record;
+mod rules;
+mod server;
+mod service;
+mod state;
+mod step;
+
+pub use callbacks::{Callbacks, Kind};
+pub use client::{Client, ClientFile, Copies};
+pub use client_set::ClientSet;
+pub use door::Admission;
+pub use entry::{Entry, WaitingOpen};
+pub use outcome::{Grant, Outcome, Refusal};
+pub use player::{play, replay};
+pub use printer::Printer;
+pub use reader::{LONGEST_STEP, take_line};
+pub use record::Record;
+pub use rules::{Document01, Rules};
+pub use server::Server;
+pub use service::Service;
+pub use state::State;
+pub use step::{Mode, Step};
+
+/// Document 01's stations.
+pub const CLIENTS: usize = 8;
+pub const FILES: usize = 32;
+/// Blocks in each file.
+pub const BLOCKS: usize = 4;

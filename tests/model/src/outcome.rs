@@ -1,0 +1,54 @@
+//! What a step is answered with.
+
+use crate::Callbacks;
+
+#[derive(Clone, Copy, PartialEq, Eq, Debug)]
+pub enum Outcome {
+    /// An open granted in its own step: `G`.
+    Granted(Grant),
+    /// An open that waits for these callbacks: `W`.
+    Waits(Callbacks),
+    /// The value of a read: `V`.
+    Value(u64),
+    Refused(Refusal),
+    /// A callback reply, with the opener and its grant if this was the last one: `A`.
+    Replied(Option<(usize, Grant)>),
+    /// Any other accepted step: `K`.
+    Done,
+}
+
+/// What a grant tells the opener.
+#[derive(Clone, Copy, PartialEq, Eq, Debug)]
+pub struct Grant {
+    pub latest: u32,
+    pub previous: u32,
+    pub may_cache: bool,
+}
+
+/// The refusals, by document 01's numbers.
+#[derive(Clone, Copy, PartialEq, Eq, PartialOrd, Ord, Debug)]
+#[repr(u8)]
+pub enum Refusal {
+    NotAStep = 1,
+    NoSuchClient = 2,
+    NoSuchFile = 3,
+    NoSuchBlock = 4,
+    Recovering = 5,
+    NotRecovering = 6,
+    AlreadyReported = 7,
+    ReportsMissing = 8,
+    OpenWaits = 9,
+    NoCallback = 10,
+    NotOpen = 11,
+    CountAtLimit = 12,
+    NotDirty = 13,
+    VersionAtLimit = 14,
+}
+
+impl Refusal {
+    pub const COUNT: usize = 14;
+
+    pub fn number(self) -> usize {
+        self as usize
+    }
+}

@@ -1,0 +1,85 @@
+//! The seams at which the fault study replaces one rule by a wrong one. The plain model takes every default.
+
+use crate::{
+    Admission, BLOCKS, Callbacks, ClientFile, Entry, Grant, Kind, Mode, Refusal, Server, Service, WaitingOpen,
+};
+
+pub trait Rules {
+    fn may_open(service: &Service, mode: Mode, client: u64, file: u64) -> Admission {
+        service.may_open(mode, client, file)
+    }
+    fn may_close(service: &Service, mode: Mode, client: u64, file: u64) -> Admission {
+        service.may_close(mode, client, file)
+    }
+    fn may_read(service: &Service, client: u64, file: u64, block: u64) -> Admission {
+        service.may_read(client, file, block)
+    }
+    fn may_write(service: &Service, client: u64, file: u64, block: u64) -> Admission {
+        service.may_write(client, file, block)
+    }
+    fn may_flush(service: &Service, client: u64, file: u64, block: u64) -> Admission {
+        service.may_flush(client, file, block)
+    }
+    fn may_reply(service: &Service, client: u64, file: u64) -> Result<Kind, Refusal> {
+        service.may_reply(client, file)
+    }
+    fn may_report(service: &Service, client: u64) -> Admission {
+        service.may_report(client)
+    }
+    fn may_end(service: &Service) -> Admission {
+        service.may_end()
+    }
+
+    fn callbacks_due(entry: &Entry, opener: usize, mode: Mode) -> Callbacks {
+        entry.callbacks_due(opener, mode)
+    }
+    fn wait(entry: &mut Entry, waiting: WaitingOpen) {
+        entry.waiting = Some(waiting);
+    }
+    fn permission_at_grant(entry: &Entry, opener: usize, mode: Mode) -> bool {
+        entry.permission_at_grant(opener, mode)
+    }
+    fn grant_at_server(entry: &mut Entry, opener: usize, mode: Mode, may_cache: bool) -> Grant {
+        entry.grant(opener, mode, may_cache)
+    }
+    fn grant_at_client(file: &mut ClientFile, mode: Mode, grant: &Grant) {
+        file.grant(mode, grant);
+    }
+    fn close_at_server(entry: &mut Entry, client: usize, mode: Mode) {
+        entry.close(client, mode);
+    }
+    fn close_at_client(file: &mut ClientFile, mode: Mode) {
+        file.close(mode);
+    }
+
+    fn read(file: &mut ClientFile, block: usize, server: &[u64; BLOCKS]) -> u64 {
+        file.read(block, server)
+    }
+    fn write(file: &mut ClientFile, block: usize, value: u64, server: &mut [u64; BLOCKS]) {
+        file.write(block, value, server);
+    }
+    fn flush(file: &mut ClientFile, block: usize, server: &mut [u64; BLOCKS]) {
+        file.flush(block, server);
+    }
+    fn answer_at_client(file: &mut ClientFile, kind: Kind, server: &mut [u64; BLOCKS]) {
+        file.answer(kind, server);
+    }
+    fn answer_at_server(entry: &mut Entry, client: usize, kind: Kind) {
+        entry.callback_answered(client, kind);
+    }
+
+    fn crash(service: &mut Service) {
+        service.server.crash();
+    }
+    fn report(entry: &mut Entry, client: usize, file: &ClientFile) {
+        entry.report(client, file.record, file.last_writer_flag);
+    }
+    fn end(server: &mut Server) {
+        server.end();
+    }
+}
+
+/// The rules as document 01 gives them.
+pub struct Document01;
+
+impl Rules for Document01 {}

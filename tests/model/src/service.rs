@@ -1,0 +1,117 @@
+//! The server's end and the clients' ends together: one step at a time, changed in place.
+
+use crate::{CLIENTS, Client, Grant, Mode, Outcome, Refusal, Rules, Server, Step, WaitingOpen};
+
+#[derive(Clone, PartialEq, Eq, Debug)]
+pub struct Service {
+    pub server: Server,
+    pub clients: [Client; CLIENTS],
+}
+
+type Answer = Result<Outcome, Refusal>;
+
+impl Service {
+    pub fn fresh() -> Self {
+        Service { server: Server::fresh(), clients: std::array::from_fn(|_| Client::fresh()) }
+    }
+
+    #[inline]
+    pub fn take<R: Rules>(&mut self, step: &Step) -> Outcome {
+        match *step {
+            Step::Open { mode, client, file } => self.open::<R>(mode, client, file),
+            Step::Close { mode, client, file } => self.close::<R>(mode, client, file),
+            Step::Reply { client, file } => self.reply::<R>(client, file),
+            Step::Read { client, file, block } => self.read::<R>(client, file, block),
+            Step::Write { client, file, block, value } => self.write::<R>(client, file, block, value),
+            Step::Flush { client, file, block } => self.flush::<R>(client, file, block),
+            Step::Crash => self.crash::<R>(),
+            Step::Report { client } => self.report::<R>(client),
+            Step::End => self.end::<R>(),
+        }
+        .unwrap_or_else(Outcome::Refused)
+    }
+
+    fn open<R: Rules>(&mut self, mode: Mode, client: u64, file: u64) -> Answer {
+        R::may_open(self, mode, client, file)?;
+        let (opener, file) = (client as usize, file as usize);
+        let entry = &mut self.server.entries[file];
+        let callbacks = R::callbacks_due(entry, opener, mode);
+        if callbacks.is_empty() {
+            return Ok(Outcome::Granted(self.grant::<R>(opener, file, mode)));
+        }
+        R::wait(entry, WaitingOpen { opener, mode, callbacks });
+        Ok(Outcome::Waits(callbacks))
+    }
+
+    fn grant<R: Rules>(&mut self, opener: usize, file: usize, mode: Mode) -> Grant {
+        let entry = &mut self.server.entries[file];
+        let may_cache = R::permission_at_grant(entry, opener, mode);
+        let grant = R::grant_at_server(entry, opener, mode, may_cache);
+        entry.waiting = None;
+        R::grant_at_client(&mut self.clients[opener].files[file], mode, &grant);
+        grant
+    }
+
+    fn close<R: Rules>(&mut self, mode: Mode, client: u64, file: u64) -> Answer {
+        R::may_close(self, mode, client, file)?;
+        let (client, file) = (client as usize, file as usize);
+        R::close_at_server(&mut self.server.entries[file], client, mode);
+        R::close_at_client(&mut self.clients[client].files[file], mode);
+        Ok(Outcome::Done)
+    }
+
+    fn reply<R: Rules>(&mut self, client: u64, file: u64) -> Answer {
+        let kind = R::may_reply(self, client, file)?;
+        let (client, file) = (client as usize, file as usize);
+        let entry = &mut self.server.entries[file];
+        R::answer_at_client(&mut self.clients[client].files[file], kind, &mut entry.blocks);
+        R::answer_at_server(entry, client, kind);
+        let due = entry.waiting.filter(|waiting| waiting.callbacks.is_empty());
+        let granted = due.map(|open| (open.opener, self.grant::<R>(open.opener, file, open.mode)));
+        Ok(Outcome::Replied(granted))
+    }
+
+    fn read<R: Rules>(&mut self, client: u64, file: u64, block: u64) -> Answer {
+        R::may_read(self, client, file, block)?;
+        let (client, file) = (client as usize, file as usize);
+        let server = &self.server.entries[file].blocks;
+        Ok(Outcome::Value(R::read(&mut self.clients[client].files[file], block as usize, server)))
+    }
+
+    fn write<R: Rules>(&mut self, client: u64, file: u64, block: u64, value: u64) -> Answer {
+        R::may_write(self, client, file, block)?;
+        let (client, file) = (client as usize, file as usize);
+        let server = &mut self.server.entries[file].blocks;
+        R::write(&mut self.clients[client].files[file], block as usize, value, server);
+        Ok(Outcome::Done)
+    }
+
+    fn flush<R: Rules>(&mut self, client: u64, file: u64, block: u64) -> Answer {
+        R::may_flush(self, client, file, block)?;
+        let (client, file) = (client as usize, file as usize);
+        let server = &mut self.server.entries[file].blocks;
+        R::flush(&mut self.clients[client].files[file], block as usize, server);
+        Ok(Outcome::Done)
+    }
+
+    fn crash<R: Rules>(&mut self) -> Answer {
+        R::crash(self);
+        Ok(Outcome::Done)
+    }
+
+    fn report<R: Rules>(&mut self, client: u64) -> Answer {
+        R::may_report(self, client)?;
+        let client = client as usize;
+        for (entry, file) in self.server.entries.iter_mut().zip(&self.clients[client].files) {
+            R::report(entry, client, file);
+        }
+        self.server.reported = self.server.reported.with(client);
+        Ok(Outcome::Done)
+    }
+
+    fn end<R: Rules>(&mut self) -> Answer {
+        R::may_end(self)?;
+        R::end(&mut self.server);
+        Ok(Outcome::Done)
+    }
+}

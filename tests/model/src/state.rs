@@ -1,0 +1,38 @@
+//! The state of a file, by the 1989 paper's names and document 01's codes.
+
+use crate::Entry;
+
+#[derive(Clone, Copy, PartialEq, Eq, Debug)]
+#[repr(u8)]
+pub enum State {
+    Closed = 0,
+    ClosedDirty = 1,
+    OneReader = 2,
+    OneRdrDirty = 3,
+    MultReaders = 4,
+    OneWriter = 5,
+    WriteShared = 6,
+}
+
+impl State {
+    pub fn code(self) -> u64 {
+        self as u64
+    }
+
+    /// "Names, first that fits."
+    pub fn of(entry: &Entry) -> State {
+        let open = entry.open_clients();
+        if open.is_empty() {
+            return if entry.last_writer.is_none() { State::Closed } else { State::ClosedDirty };
+        }
+        if !open.minus(entry.caching_clients()).is_empty() {
+            return State::WriteShared;
+        }
+        match open.single() {
+            Some(client) if entry.records[client].writers > 0 => State::OneWriter,
+            Some(client) if entry.last_writer == Some(client) => State::OneRdrDirty,
+            Some(_) => State::OneReader,
+            None => State::MultReaders,
+        }
+    }
+}
