@@ -16,3 +16,7 @@ pub mod Invariant
 pub mod WhileRunning
 pub mod WhileRecovering
 pub mod Consistent
+pub mod Demand3
+pub mod Arms
+pub mod Turns
+pub mod Serving

@@ -4,5 +4,6 @@ pub mod Refusal
 pub mod Next
 pub mod Answer
 pub mod Step
+pub mod Served
 pub mod Fresh
 pub mod Demand3

@@ -3,7 +3,9 @@
 mod outcome;
 mod server;
 mod service;
+mod step;
 
 pub use outcome::Outcome;
+pub use server::Served;
 pub use server::Server;
 pub use service::Service;

@@ -1,48 +1,73 @@
 //! Step files played from a fresh service: as a stream, and in memory with a witness beside it.
 
 use std::io::{Read, Result, Write};
+use std::marker::PhantomData;
 
 use crate::check::Witness;
 use crate::input::Input;
-use crate::{Outcome, Printer, Refusal, Rules, Service, take_line};
+use crate::printer::Printer;
+use crate::reader::{Taker, take_line};
+use crate::{Outcome, Refusal, Rules, Service, Step, read_line};
 
 /// Plays a stream in constant memory. What is said of a buffer of input is out before the next one is read.
 pub fn play<R: Rules>(input: impl Read, output: impl Write) -> Result<()> {
     let mut input = Input::new(input);
-    let mut printer = Printer::new(output);
-    let mut service = Service::fresh();
+    let mut player = Player::<R, _> { service: Service::fresh(), printer: Printer::new(output), rules: PhantomData };
     while input.advance()? {
-        play_lines::<R>(&mut service, input.whole_lines(), &mut printer)?;
-        printer.flush()?;
+        player.lines(input.whole_lines())?;
+        player.printer.flush()?;
     }
-    play_lines::<R>(&mut service, input.last_line(), &mut printer)?;
-    printer.summary(&service.server)?;
-    printer.flush()
+    player.lines(input.last_line())?;
+    player.printer.summary(&player.service.server)?;
+    player.printer.flush()
 }
 
-fn play_lines<R: Rules>(service: &mut Service, mut bytes: &[u8], printer: &mut Printer<impl Write>) -> Result<()> {
-    while !bytes.is_empty() {
-        let (step, length) = take_line(bytes);
-        let outcome = match step {
-            Some(step) => service.take::<R>(&step),
-            None => Outcome::Refused(Refusal::NotAStep),
-        };
-        printer.outcome(&outcome)?;
-        bytes = &bytes[length..];
+struct Player<R, W> {
+    service: Service,
+    printer: Printer<W>,
+    rules: PhantomData<R>,
+}
+
+impl<R: Rules, W: Write> Player<R, W> {
+    fn lines(&mut self, mut bytes: &[u8]) -> Result<()> {
+        while !bytes.is_empty() {
+            let (printed, length) = take_line(bytes, &mut *self);
+            printed?;
+            bytes = &bytes[length..];
+        }
+        Ok(())
     }
-    Ok(())
+}
+
+impl<R: Rules, W: Write> Taker for &mut Player<R, W> {
+    type Answer = Result<()>;
+
+    #[inline(always)]
+    fn step(self, step: Step) -> Result<()> {
+        let outcome = self.service.take::<R>(&step);
+        self.printer.outcome(&outcome)
+    }
+
+    fn no_step(self) -> Result<()> {
+        self.printer.outcome(&Outcome::Refused(Refusal::NotAStep))
+    }
 }
 
 /// Plays a step file in memory and shows every step to the witness. Gives the output.
-pub fn replay<R: Rules, W: Witness>(mut input: &[u8], witness: &mut W) -> Vec<u8> {
+pub fn replay<R: Rules>(input: &[u8], witness: &mut dyn Witness) -> Vec<u8> {
+    replay_with(Service::take::<R>, input, witness)
+}
+
+/// Apart from `replay`, so that it is compiled once and not for each set of rules.
+fn replay_with(take: fn(&mut Service, &Step) -> Outcome, mut input: &[u8], witness: &mut dyn Witness) -> Vec<u8> {
     let mut service = Service::fresh();
     let mut printer = Printer::new(Vec::new());
     while !input.is_empty() {
-        let (step, length) = take_line(input);
+        let (step, length) = read_line(input);
         let outcome = match step {
             Some(step) => {
                 witness.before(&service, &step);
-                let outcome = service.take::<R>(&step);
+                let outcome = take(&mut service, &step);
                 witness.after(&service, &step, &outcome);
                 outcome
             }

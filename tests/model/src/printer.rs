@@ -22,7 +22,7 @@ impl<W: Write> Printer<W> {
     }
 
     /// The output line of the next input line.
-    #[inline]
+    #[inline(always)]
     pub fn outcome(&mut self, outcome: &Outcome) -> Result<()> {
         self.make_room()?;
         self.line.advance();
@@ -74,7 +74,7 @@ struct Text<'a> {
 }
 
 impl Text<'_> {
-    #[inline]
+    #[inline(always)]
     fn outcome(&mut self, outcome: &Outcome) {
         match outcome {
             Outcome::Granted(grant) => {

@@ -5,64 +5,95 @@ use crate::{Mode, Step};
 /// `WR` and four numbers of twenty digits: a line of more bytes gives no step.
 pub const LONGEST_STEP: usize = 86;
 
-/// Takes the first line off `bytes`: the step that it gives, if any, and how many bytes it has with its LF. A line
+/// What becomes of a line. It is told by the branch that has read the line's word: the compiler knows the kind of step
+/// there, so that the way from word to answer has one dispatch and not three.
+pub trait Taker {
+    type Answer;
+    fn step(self, step: Step) -> Self::Answer;
+    /// The line gives no step.
+    fn no_step(self) -> Self::Answer;
+}
+
+/// Hands the first line of `bytes` to the taker. Gives its answer and how many bytes the line has with its LF; a line
 /// without LF ends where `bytes` end.
-#[inline]
-pub fn take_line(bytes: &[u8]) -> (Option<Step>, usize) {
-    match step(bytes) {
-        Some((step, rest)) => (Some(step), bytes.len() - rest.len()),
-        None => (None, line_length(bytes)),
-    }
-}
-
-fn line_length(bytes: &[u8]) -> usize {
-    bytes.iter().position(|&byte| byte == b'\n').map_or(bytes.len(), |lf| lf + 1)
-}
-
-/// The step of the first line, and what follows that line.
 #[inline(always)]
-fn step(bytes: &[u8]) -> Option<(Step, &[u8])> {
-    let (word, mut rest) = bytes.split_first_chunk()?;
-    let mut next = || argument(&mut rest);
-    let step = match word {
-        b"OR" => Step::Open { mode: Mode::Read, client: next()?, file: next()? },
-        b"OW" => Step::Open { mode: Mode::Write, client: next()?, file: next()? },
-        b"CR" => Step::Close { mode: Mode::Read, client: next()?, file: next()? },
-        b"CW" => Step::Close { mode: Mode::Write, client: next()?, file: next()? },
-        b"AN" => Step::Reply { client: next()?, file: next()? },
-        b"RD" => Step::Read { client: next()?, file: next()?, block: next()? },
-        b"FL" => Step::Flush { client: next()?, file: next()?, block: next()? },
-        b"WR" => Step::Write { client: next()?, file: next()?, block: next()?, value: next()? },
-        b"XX" => Step::Crash,
-        b"RP" => Step::Report { client: next()? },
-        b"EN" => Step::End,
-        _ => return None,
-    };
-    match rest {
-        [] => Some((step, rest)),
-        [b'\n', rest @ ..] => Some((step, rest)),
-        _ => None,
+pub fn take_line<T: Taker>(bytes: &[u8], taker: T) -> (T::Answer, usize) {
+    let Some((word, rest)) = bytes.split_first_chunk() else { return no_step(bytes, taker) };
+    let line = Line { bytes, rest };
+    match word {
+        b"OR" => line.step(taker, |l| Some(Step::Open { mode: Mode::Read, client: l.number()?, file: l.number()? })),
+        b"OW" => line.step(taker, |l| Some(Step::Open { mode: Mode::Write, client: l.number()?, file: l.number()? })),
+        b"CR" => line.step(taker, |l| Some(Step::Close { mode: Mode::Read, client: l.number()?, file: l.number()? })),
+        b"CW" => line.step(taker, |l| Some(Step::Close { mode: Mode::Write, client: l.number()?, file: l.number()? })),
+        b"AN" => line.step(taker, |l| Some(Step::Reply { client: l.number()?, file: l.number()? })),
+        b"RD" => line.step(taker, |l| Some(Step::Read { client: l.number()?, file: l.number()?, block: l.number()? })),
+        b"FL" => line.step(taker, |l| Some(Step::Flush { client: l.number()?, file: l.number()?, block: l.number()? })),
+        b"WR" => line.step(taker, |l| {
+            Some(Step::Write { client: l.number()?, file: l.number()?, block: l.number()?, value: l.number()? })
+        }),
+        b"XX" => line.step(taker, |_| Some(Step::Crash)),
+        b"RP" => line.step(taker, |l| Some(Step::Report { client: l.number()? })),
+        b"EN" => line.step(taker, |_| Some(Step::End)),
+        _ => no_step(bytes, taker),
     }
 }
 
-/// One space and a decimal number below 2 to the 64th without a leading zero.
-#[inline(always)]
-fn argument(rest: &mut &[u8]) -> Option<u64> {
-    let [b' ', first @ b'0'..=b'9', more @ ..] = *rest else { return None };
-    *rest = more;
-    let value = u64::from(first - b'0');
-    if let [b'0'..=b'9', ..] = more { further_digits(value, rest) } else { Some(value) }
+/// The step of the first line, if it gives one, and how many bytes the line has.
+pub fn read_line(bytes: &[u8]) -> (Option<Step>, usize) {
+    struct Keep;
+    impl Taker for Keep {
+        type Answer = Option<Step>;
+        fn step(self, step: Step) -> Option<Step> {
+            Some(step)
+        }
+        fn no_step(self) -> Option<Step> {
+            None
+        }
+    }
+    take_line(bytes, Keep)
 }
 
-#[inline(never)]
-fn further_digits(first: u64, rest: &mut &[u8]) -> Option<u64> {
-    if first == 0 {
-        return None;
+#[cold]
+fn no_step<T: Taker>(bytes: &[u8], taker: T) -> (T::Answer, usize) {
+    let length = bytes.iter().position(|&byte| byte == b'\n').map_or(bytes.len(), |lf| lf + 1);
+    (taker.no_step(), length)
+}
+
+/// A line whose word is read.
+struct Line<'a> {
+    bytes: &'a [u8],
+    rest: &'a [u8],
+}
+
+impl Line<'_> {
+    /// Reads the fields of the step; the line must end behind them.
+    #[inline(always)]
+    fn step<T: Taker>(mut self, taker: T, fields: impl FnOnce(&mut Self) -> Option<Step>) -> (T::Answer, usize) {
+        let step = fields(&mut self);
+        let next = match self.rest {
+            [] => Some(self.rest),
+            [b'\n', next @ ..] => Some(next),
+            _ => None,
+        };
+        match (step, next) {
+            (Some(step), Some(next)) => (taker.step(step), self.bytes.len() - next.len()),
+            _ => no_step(self.bytes, taker),
+        }
     }
-    let mut value = first;
-    while let [digit @ b'0'..=b'9', more @ ..] = *rest {
-        value = value.checked_mul(10)?.checked_add(u64::from(digit - b'0'))?;
-        *rest = more;
+
+    /// One space and a decimal number below 2 to the 64th without a leading zero.
+    #[inline(always)]
+    fn number(&mut self) -> Option<u64> {
+        let [b' ', first @ b'0'..=b'9', rest @ ..] = self.rest else { return None };
+        let mut value = u64::from(first - b'0');
+        self.rest = rest;
+        while let [digit @ b'0'..=b'9', rest @ ..] = self.rest {
+            if value == 0 {
+                return None;
+            }
+            value = value.checked_mul(10)?.checked_add(u64::from(digit - b'0'))?;
+            self.rest = rest;
+        }
+        Some(value)
     }
-    Some(value)
 }

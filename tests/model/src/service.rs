@@ -15,7 +15,7 @@ impl Service {
         Service { server: Server::fresh(), clients: std::array::from_fn(|_| Client::fresh()) }
     }
 
-    #[inline]
+    #[inline(always)]
     pub fn take<R: Rules>(&mut self, step: &Step) -> Outcome {
         match *step {
             Step::Open { mode, client, file } => self.open::<R>(mode, client, file),

@@ -1,5 +1,7 @@
 //! The steps of a step file, with their numbers as written.
 
+use crate::{CLIENTS, FILES};
+
 #[derive(Clone, Copy, PartialEq, Eq, Debug)]
 pub enum Mode {
     Read,
@@ -19,4 +21,25 @@ pub enum Step {
     Crash,
     Report { client: u64 },
     End,
+}
+
+impl Step {
+    /// The client and the file that the step names, if it names both.
+    fn place(&self) -> Option<(u64, u64)> {
+        match *self {
+            Step::Open { client, file, .. }
+            | Step::Close { client, file, .. }
+            | Step::Reply { client, file }
+            | Step::Read { client, file, .. }
+            | Step::Write { client, file, .. }
+            | Step::Flush { client, file, .. } => Some((client, file)),
+            Step::Crash | Step::Report { .. } | Step::End => None,
+        }
+    }
+
+    /// The client and the file, if both exist.
+    pub fn existing_place(&self) -> Option<(usize, usize)> {
+        let (client, file) = self.place()?;
+        (client < CLIENTS as u64 && file < FILES as u64).then_some((client as usize, file as usize))
+    }
 }

@@ -1,5 +1,7 @@
 //! The inductive invariant of Demand 3, clause by clause and file by file, under the clauses' own names.
 
+use std::ops::Range;
+
 use super::{Demand3, TableEntry, Witness};
 use crate::{BLOCKS, CLIENTS, ClientFile, Entry, FILES, Kind, Mode, Outcome, Server, Service, Step, WaitingOpen};
 
@@ -11,7 +13,8 @@ pub struct BrokenClause {
     pub line: usize,
 }
 
-/// One file: both ends of it, the reference memory's blocks, and in a recovery the table's entry before it.
+/// One file: both ends of it, the reference memory's blocks, and in a recovery the table's entry before it. The words
+/// are the clauses' own: a client is marked when it has the last-writer flag, its label is the cached version.
 pub struct FileView<'a> {
     server: &'a Server,
     entry: &'a Entry,
@@ -24,47 +27,49 @@ type Clause = fn(&FileView) -> bool;
 
 /// A: while running. B: while recovering. S, L, D: always, on the clients' own records. W: while an open waits.
 pub const CLAUSES: [(&str, Clause); 21] = [
-    ("A1", |file| file.recovering() || file.each(|s| file.entry.records[s] == file.clients[s].record)),
-    ("A2", |file| file.recovering() || file.each(|s| (file.entry.last_writer == Some(s)) == file.marked(s))),
-    ("B1", |file| !file.recovering() || file.entry.waiting.is_none()),
-    ("B2", |file| {
-        !file.recovering() || file.each(|s| !file.reported(s) || file.entry.records[s] == file.clients[s].record)
-    }),
+    ("A1", |file| file.recovering() || file.each(|s| file.record_agrees(s))),
+    ("A2", |file| file.recovering() || file.each(|s| file.last_writer(s) == file.marked(s))),
+    ("B1", |file| file.running() || file.entry.waiting.is_none()),
+    ("B2", |file| file.running() || file.each(|s| implies(file.reported(s), file.record_agrees(s)))),
     ("B3", |file| {
-        let last = |s| file.entry.last_writer == Some(s);
-        !file.recovering()
-            || file.each(|s| (!(file.reported(s) && file.marked(s)) || last(s)) && (!last(s) || file.marked(s)))
+        file.running()
+            || file.each(|s| {
+                implies(file.reported(s) && file.marked(s), file.last_writer(s))
+                    && implies(file.last_writer(s), file.marked(s))
+            })
     }),
-    ("B4", |file| !file.recovering() || file.before_recovery.is_some_and(|table| file.agrees_with(table))),
-    ("S1", |file| file.each(|s| !file.caches(s) || file.open(s))),
-    ("S2", |file| file.pairs(|s, t| !(file.caches(s) && file.writes(s)) || !file.open(t))),
+    ("B4", |file| file.running() || file.before_recovery.is_some_and(|table| file.agrees_with(table))),
+    ("S1", |file| file.each(|s| implies(file.caches(s), file.open(s)))),
+    ("S2", |file| file.pairs(|s, t| implies(file.caches(s) && file.writes(s), !file.open(t)))),
     ("S3", |file| {
-        file.each(|s| !file.marked(s) || !file.writes(s))
-            && file.pairs(|s, t| !file.marked(s) || !(file.open(t) || file.marked(t)))
+        file.each(|s| implies(file.marked(s), !file.writes(s)))
+            && file.pairs(|s, t| implies(file.marked(s), !file.open(t) && !file.marked(t)))
     }),
-    ("S4", |file| file.each(|s| !(file.marked(s) && file.open(s)) || file.caches(s))),
-    ("S5", |file| file.pairs(|s, t| !(file.writes(t) && file.caches(s)))),
+    ("S4", |file| file.each(|s| implies(file.marked(s) && file.open(s), file.caches(s)))),
+    ("S5", |file| file.pairs(|s, t| implies(file.writes(t), !file.caches(s)))),
     ("L1", |file| file.each(|s| file.label(s) <= file.entry.version)),
-    ("L2", |file| file.each(|s| !(file.caches(s) || file.marked(s)) || file.current(s))),
+    ("L2", |file| file.each(|s| implies(file.caches(s) || file.marked(s), file.current(s)))),
     ("L3", |file| {
-        file.each(|t| !(file.writes(t) && file.current(t)) || file.caches(t))
-            && file.pairs(|s, t| !(file.writes(t) && file.current(s)))
+        file.each(|t| implies(file.writes(t) && file.current(t), file.caches(t)))
+            && file.pairs(|s, t| implies(file.writes(t), !file.current(s)))
     }),
-    ("L4", |file| file.pairs(|s, t| !(file.marked(s) && file.current(t)))),
-    ("D1", |file| file.copies(|s, b| !file.dirty(s, b) || file.clients[s].copies.held[b])),
-    ("D2", |file| file.copies(|s, b| !file.dirty(s, b) || file.marked(s) || (file.writes(s) && file.caches(s)))),
-    ("D3", |file| {
-        file.copies(|s, b| {
-            let copies = &file.clients[s].copies;
-            !(copies.held[b] && file.current(s)) || copies.values[b] == file.memory[b]
-        })
+    ("L4", |file| file.pairs(|s, t| implies(file.marked(s), !file.current(t)))),
+    ("D1", |file| file.copies(|s, b| implies(file.dirty(s, b), file.held(s, b)))),
+    ("D2", |file| file.copies(|s, b| implies(file.dirty(s, b), file.marked(s) || (file.writes(s) && file.caches(s))))),
+    ("D3", |file| file.copies(|s, b| implies(file.held(s, b) && file.current(s), file.value(s, b) == file.memory[b]))),
+    ("D4", |file| {
+        let clean = |b| file.each(|s| !file.dirty(s, b));
+        (0..BLOCKS).all(|b| implies(clean(b), file.entry.blocks[b] == file.memory[b]))
     }),
-    ("D4", |file| (0..BLOCKS).all(|b| !file.each(|s| !file.dirty(s, b)) || file.entry.blocks[b] == file.memory[b])),
-    ("WS", |file| file.entry.waiting.as_ref().is_none_or(|waiting| file.callbacks_suffice(waiting))),
+    ("WS", |file| file.entry.waiting.is_none_or(|open| file.callbacks_suffice(&open))),
     ("W6", |file| {
-        file.entry.waiting.as_ref().is_none_or(|open| open.mode == Mode::Read || file.entry.version < u32::MAX)
+        file.entry.waiting.is_none_or(|open| implies(open.mode == Mode::Write, file.entry.version < u32::MAX))
     }),
 ];
+
+fn implies(premise: bool, conclusion: bool) -> bool {
+    !premise || conclusion
+}
 
 impl FileView<'_> {
     fn each(&self, holds: impl Fn(usize) -> bool) -> bool {
@@ -82,6 +87,18 @@ impl FileView<'_> {
 
     fn recovering(&self) -> bool {
         self.server.recovering
+    }
+
+    fn running(&self) -> bool {
+        !self.server.recovering
+    }
+
+    fn record_agrees(&self, s: usize) -> bool {
+        self.entry.records[s] == self.clients[s].record
+    }
+
+    fn last_writer(&self, s: usize) -> bool {
+        self.entry.last_writer == Some(s)
     }
 
     fn reported(&self, s: usize) -> bool {
@@ -112,8 +129,16 @@ impl FileView<'_> {
         self.label(s) == self.entry.version
     }
 
+    fn held(&self, s: usize, b: usize) -> bool {
+        self.clients[s].copies.held[b]
+    }
+
     fn dirty(&self, s: usize, b: usize) -> bool {
         self.clients[s].copies.dirty[b]
+    }
+
+    fn value(&self, s: usize, b: usize) -> u64 {
+        self.clients[s].copies.values[b]
     }
 
     fn agrees_with(&self, table: &TableEntry) -> bool {
@@ -123,22 +148,40 @@ impl FileView<'_> {
     }
 
     /// The callbacks still out are enough to make the grant safe.
-    fn callbacks_suffice(&self, waiting: &WaitingOpen) -> bool {
-        let kind = |t| waiting.callbacks.kind(t);
-        let writes_back = |t| kind(t).is_some_and(Kind::writes_back);
-        let invalidates = |t| kind(t).is_some_and(Kind::invalidates);
-        kind(waiting.opener).is_none()
-            && self.each(|t| {
-                t == waiting.opener
-                    || ((!self.marked(t) || writes_back(t))
-                        && (!(self.caches(t) && self.writes(t)) || kind(t) == Some(Kind::Both))
-                        && (!(waiting.mode == Mode::Write && self.caches(t)) || invalidates(t))
-                        && (!writes_back(t) || self.each(|s| s == t || !self.marked(s))))
-            })
+    fn callbacks_suffice(&self, open: &WaitingOpen) -> bool {
+        open.callbacks.kind(open.opener).is_none() && self.each(|t| t == open.opener || self.callback_suffices(open, t))
+    }
+
+    fn callback_suffices(&self, open: &WaitingOpen, t: usize) -> bool {
+        let kind = open.callbacks.kind(t);
+        let writes_back = kind.is_some_and(Kind::writes_back);
+        let invalidates = kind.is_some_and(Kind::invalidates);
+        implies(self.marked(t), writes_back)
+            && implies(self.caches(t) && self.writes(t), kind == Some(Kind::Both))
+            && implies(open.mode == Mode::Write && self.caches(t), invalidates)
+            && implies(writes_back, self.each(|s| s == t || !self.marked(s)))
     }
 }
 
-/// Checks every clause for every file after every step.
+/// Every clause that does not hold of these files, with its file.
+pub fn broken_clauses<'a>(
+    service: &'a Service,
+    demand3: &'a Demand3,
+    files: Range<usize>,
+) -> impl Iterator<Item = (&'static str, usize)> + 'a {
+    files.flat_map(move |file| {
+        let view = FileView {
+            server: &service.server,
+            entry: &service.server.entries[file],
+            clients: std::array::from_fn(|client| &service.clients[client].files[file]),
+            memory: demand3.memory().file(file),
+            before_recovery: demand3.before_recovery().map(|table| &table.entries[file]),
+        };
+        CLAUSES.iter().filter(move |(_, holds)| !holds(&view)).map(move |(name, _)| (*name, file))
+    })
+}
+
+/// Checks every clause after every step: for the file of the step, or for all files if it names none.
 #[derive(Default)]
 pub struct Invariant {
     demand3: Demand3,
@@ -155,24 +198,6 @@ impl Invariant {
     pub fn broken(&self) -> Option<BrokenClause> {
         self.broken
     }
-
-    fn view<'a>(&'a self, service: &'a Service, file: usize) -> FileView<'a> {
-        FileView {
-            server: &service.server,
-            entry: &service.server.entries[file],
-            clients: std::array::from_fn(|client| &service.clients[client].files[file]),
-            memory: self.demand3.memory().file(file),
-            before_recovery: self.demand3.before_recovery().map(|table| &table.entries[file]),
-        }
-    }
-
-    fn broken_now(&self, service: &Service) -> Option<BrokenClause> {
-        (0..FILES).find_map(|file| {
-            let view = self.view(service, file);
-            let (name, _) = CLAUSES.iter().find(|(_, holds)| !holds(&view))?;
-            Some(BrokenClause { name, file, line: self.line + 1 })
-        })
-    }
 }
 
 impl Witness for Invariant {
@@ -183,7 +208,9 @@ impl Witness for Invariant {
     fn after(&mut self, service: &Service, step: &Step, outcome: &Outcome) {
         self.demand3.after(service, step, outcome);
         if self.broken.is_none() {
-            self.broken = self.broken_now(service);
+            let files = step.existing_place().map_or(0..FILES, |(_, file)| file..file + 1);
+            let first = broken_clauses(service, &self.demand3, files).next();
+            self.broken = first.map(|(name, file)| BrokenClause { name, file, line: self.line + 1 });
         }
     }
 

@@ -1,5 +1,6 @@
 //! What is checked beside a run: Demand 3, the invariant that carries it, and the counts of the summary.
 
+mod cuts;
 mod demand3;
 mod difference;
 mod invariant;
@@ -9,9 +10,10 @@ mod tally;
 
 use crate::{Outcome, Service, Step};
 
+pub use cuts::Cuts;
 pub use demand3::{Breach, Demand3};
 pub use difference::{Difference, shown};
-pub use invariant::{BrokenClause, CLAUSES, Invariant};
+pub use invariant::{BrokenClause, CLAUSES, Invariant, broken_clauses};
 pub use memory::ReferenceMemory;
 pub use table::{StateTable, TableEntry};
 pub use tally::Tally;
@@ -26,6 +28,20 @@ pub trait Witness {
 
 /// Nobody watches.
 impl Witness for () {}
+
+impl<A: Witness> Witness for &mut A {
+    fn before(&mut self, service: &Service, step: &Step) {
+        (**self).before(service, step);
+    }
+
+    fn after(&mut self, service: &Service, step: &Step, outcome: &Outcome) {
+        (**self).after(service, step, outcome);
+    }
+
+    fn answered(&mut self, outcome: &Outcome) {
+        (**self).answered(outcome);
+    }
+}
 
 impl<A: Witness, B: Witness> Witness for (A, B) {
     fn before(&mut self, service: &Service, step: &Step) {

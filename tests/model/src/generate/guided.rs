@@ -11,11 +11,12 @@ use super::text::write_step;
 use super::tide::Tide;
 use crate::{CLIENTS, Mode, Step};
 
-/// One step in so many, while the service runs, begins a scene.
+/// One step in so many, while the server neither recovers nor has an open that waits, begins a scene.
 const SCENE: usize = 80;
 
 pub struct Guided {
     stage: Stage,
+    /// Whether clients mostly take turns.
     turns: bool,
     tide: Option<Tide>,
     /// The steps of a scene still to come.
@@ -40,14 +41,14 @@ impl Guided {
         if let Some(step) = self.scene.pop_front() {
             return step;
         }
-        let running = !self.stage.service.server.recovering;
         if let Some(step) = self.tide.as_mut().and_then(|tide| tide.step(&mut self.stage)) {
             return step;
         }
-        if running && self.stage.rng.one_in(SCENE) {
+        let at_rest = !self.stage.service.server.recovering && !self.stage.any(|entry| entry.waiting.is_some());
+        if at_rest && self.stage.rng.one_in(SCENE) {
             self.begin_broken_off_invalidation();
         }
-        let aims: &Aims = if self.tide.is_some() && running { &Tide::HIGH } else { aims_for(&self.stage, self.turns) };
+        let aims: &Aims = if at_rest && self.tide.is_some() { &Tide::HIGH } else { aims_for(&self.stage, self.turns) };
         let aim = self.stage.rng.weighted(aims);
         self.stage.aimed(aim)
     }

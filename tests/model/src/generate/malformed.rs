@@ -4,7 +4,7 @@ use super::Author;
 use super::guided::Guided;
 use super::rng::Rng;
 use super::text::write_step;
-use crate::{LONGEST_STEP, take_line};
+use crate::{LONGEST_STEP, read_line};
 
 /// A player's buffer may be of this size: lines are made that end at its edge or reach past it.
 const BUFFER: usize = 64 * 1024;
@@ -161,7 +161,7 @@ impl Author for Malformed {
     fn line(&mut self, text: &mut Vec<u8>) {
         write_step(&self.steps.choose(), text);
         self.spoil(text);
-        if let (Some(step), _) = take_line(text) {
+        if let (Some(step), _) = read_line(text) {
             self.steps.stage().take(&step);
         }
         self.offset += text.len() + 1;

@@ -54,12 +54,13 @@ impl Stage {
     }
 
     pub fn take(&mut self, step: &Step) -> Outcome {
-        if let Some(place) = place_of(step) {
-            self.latest = place;
+        if let Some((client, file)) = step.existing_place() {
+            self.latest = (client as u64, file as u64);
         }
         self.service.take::<Document01>(step)
     }
 
+    /// Whether some file of the scope is like this at the server.
     pub fn any(&self, fits: impl Fn(&Entry) -> bool) -> bool {
         self.service.server.entries[..self.scope.files].iter().any(fits)
     }
@@ -124,6 +125,7 @@ impl Stage {
         self.number(self.scope.blocks, BLOCKS)
     }
 
+    /// A number below `scope`, or now and then one of `limit` or more.
     fn number(&mut self, scope: usize, limit: usize) -> u64 {
         if !self.rng.one_in(self.stray) {
             return self.rng.below(scope) as u64;
@@ -136,22 +138,8 @@ impl Stage {
     pub fn value(&mut self) -> u64 {
         match self.rng.below(4) {
             0 => *self.rng.pick(&[0, 1, u64::MAX, u64::MAX - 1, 1 << 32]),
-            1 => self.rng.next(),
+            1 => self.rng.draw(),
             _ => self.rng.below(1000) as u64,
         }
     }
-}
-
-/// The client and the file of a step, if it has both and they exist.
-fn place_of(step: &Step) -> Option<(u64, u64)> {
-    let (client, file) = match *step {
-        Step::Open { client, file, .. } | Step::Close { client, file, .. } | Step::Reply { client, file } => {
-            (client, file)
-        }
-        Step::Read { client, file, .. } | Step::Write { client, file, .. } | Step::Flush { client, file, .. } => {
-            (client, file)
-        }
-        Step::Crash | Step::Report { .. } | Step::End => return None,
-    };
-    (client < CLIENTS as u64 && file < FILES as u64).then_some((client, file))
 }

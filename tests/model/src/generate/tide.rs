@@ -37,7 +37,7 @@ impl Tide {
         let mode = if cycle.is_multiple_of(2) { self.first_mode } else { other_mode };
         let open = Step::Open { mode, client: 0, file: 0 };
         if stage.service.server.recovering || stage.any(|entry| entry.waiting.is_some()) {
-            return stage.rng.one_in(6).then_some(open);
+            return stage.rng.one_in(3).then_some(open);
         }
         self.turn += 1;
         match turn {

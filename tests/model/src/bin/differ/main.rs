@@ -5,7 +5,7 @@ mod process;
 
 use std::process::ExitCode;
 
-use model::check::{Breach, Demand3, Difference, Tally, shown};
+use model::check::{Breach, Cuts, Demand3, Difference, Tally, shown};
 use model::generate::{FileKind, step_file};
 use model::{Document01, replay};
 use options::Options;
@@ -30,32 +30,50 @@ fn main() -> ExitCode {
     }
 }
 
-/// The summary of a run without a difference, or the first finding.
-fn compare_all(options: &Options) -> Result<String, String> {
-    let mut tally = Tally::default();
-    let mut files = 0;
-    for seed in options.seeds.clone() {
-        for &kind in &options.kinds {
-            tally = compare(options, kind, seed, tally)?;
-            files += 1;
-        }
-    }
-    Ok(format!("{tally}\nfiles compared {files}\nno difference"))
+/// What has been compared so far.
+#[derive(Default)]
+struct Compared {
+    tally: Tally,
+    files: usize,
+    cut_short: usize,
 }
 
-fn compare(options: &Options, kind: FileKind, seed: u64, tally: Tally) -> Result<Tally, String> {
+/// The summary of a run without a difference, or the first finding.
+fn compare_all(options: &Options) -> Result<String, String> {
+    let mut compared = Compared::default();
+    for seed in options.seeds.clone() {
+        for &kind in &options.kinds {
+            compare(options, kind, seed, &mut compared)?;
+        }
+    }
+    let Compared { tally, files, cut_short } = compared;
+    Ok(format!("{tally}\nfiles compared {files}, and {cut_short} times one of them cut short\nno difference"))
+}
+
+fn compare(options: &Options, kind: FileKind, seed: u64, compared: &mut Compared) -> Result<(), String> {
     let name = format!("{} seed {seed} lines {}", kind.name(), options.lines);
     let input = step_file(kind, seed, options.lines);
-    let mut witness = (tally, Demand3::default());
-    let expected = replay::<Document01, _>(&input, &mut witness);
-    let (tally, demand3) = witness;
+    let mut demand3 = Demand3::default();
+    let mut cuts = Cuts::default();
+    let expected = replay::<Document01>(&input, &mut (&mut compared.tally, (&mut demand3, &mut cuts)));
     if let Some(breach) = demand3.breach() {
         return Err(format!("the model breaks Demand 3: {name}: {}", told(breach)));
     }
-    let actual = process::run(&options.player, &input, seed).map_err(|problem| format!("{name}: {problem}"))?;
-    match Difference::between(&expected, &actual) {
-        None => Ok(tally),
-        Some(difference) => Err(format!("difference: {name}, {}", located(&difference, &input))),
+    compare_with_player(options, &name, seed, &input, &expected)?;
+    compared.files += 1;
+    for beginning in cuts.of(&input) {
+        let expected = replay::<Document01>(beginning, &mut ());
+        compare_with_player(options, &format!("{name} cut short"), seed, beginning, &expected)?;
+        compared.cut_short += 1;
+    }
+    Ok(())
+}
+
+fn compare_with_player(options: &Options, name: &str, seed: u64, input: &[u8], expected: &[u8]) -> Result<(), String> {
+    let actual = process::run(&options.player, input, seed).map_err(|problem| format!("{name}: {problem}"))?;
+    match Difference::between(expected, &actual) {
+        None => Ok(()),
+        Some(difference) => Err(format!("difference: {name}, {}", located(&difference, input))),
     }
 }
 

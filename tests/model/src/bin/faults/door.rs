@@ -152,7 +152,8 @@ rule_faults! {
     read_fetches_in_recovery {
         fn may_read(service: &Service, client: u64, file: u64, block: u64) -> Admission {
             sparing(service.may_read(client, file, block), Refusal::Recovering, || {
-                !service.server.reported.contains(client as usize) && at_client(service, client, file).record.is_open()
+                let reported = service.server.reported.contains(client as usize);
+                !reported && at_client(service, client, file).record.is_open()
             })
         }
     }
@@ -166,7 +167,8 @@ rule_faults! {
     write_reaches_server_in_recovery {
         fn may_write(service: &Service, client: u64, file: u64, block: u64) -> Admission {
             sparing(service.may_write(client, file, block), Refusal::Recovering, || {
-                !service.server.reported.contains(client as usize) && at_client(service, client, file).record.writers > 0
+                let reported = service.server.reported.contains(client as usize);
+                !reported && at_client(service, client, file).record.writers > 0
             })
         }
     }

@@ -1,6 +1,6 @@
 //! What a fault is, and how one is written: a rule of the model replaced, or the text changed on its way in.
 
-use model::check::Demand3;
+use model::check::{Demand3, Witness};
 use model::{Document01, replay};
 
 pub struct Fault {
@@ -12,7 +12,7 @@ pub struct Fault {
 
 pub enum Wrong {
     /// The rules; this plays a step file by them.
-    Rules(fn(&[u8], &mut Demand3) -> Vec<u8>),
+    Rules(fn(&[u8], &mut dyn Witness) -> Vec<u8>),
     /// The text as it is taken, played by the right rules.
     Text(fn(&[u8]) -> Vec<u8>),
 }
@@ -22,7 +22,7 @@ impl Fault {
     pub fn play(&self, input: &[u8], demand3: &mut Demand3) -> Vec<u8> {
         match self.wrong {
             Wrong::Rules(play) => play(input, demand3),
-            Wrong::Text(taken) => replay::<Document01, _>(&taken(input), demand3),
+            Wrong::Text(taken) => replay::<Document01>(&taken(input), demand3),
         }
     }
 }
@@ -38,7 +38,7 @@ macro_rules! rule_faults {
         )*
         pub const FAULTS: &[$crate::fault::Fault] = &[$($crate::fault::Fault {
             name: stringify!($name),
-            wrong: $crate::fault::Wrong::Rules(model::replay::<$name, model::check::Demand3>),
+            wrong: $crate::fault::Wrong::Rules(model::replay::<$name>),
             unseen: $crate::fault::unseen!($($unseen)?),
         }),*];
     };

@@ -2,14 +2,16 @@
 
 use std::fmt;
 
-use model::check::{Breach, Demand3, Difference};
+use model::check::{Breach, Cuts, Demand3, Difference};
 use model::generate::{FileKind, step_file};
 use model::{Document01, replay};
 
 use crate::fault::Fault;
 
-const SEEDS: u64 = 250;
-const LINES: usize = 320;
+const SEEDS: u64 = 40;
+
+/// Short files end in many states, which the summary shows; long ones have more history.
+const LINES: [usize; 3] = [350, 1000, 3000];
 
 /// A step file and its right output.
 pub struct Sample {
@@ -21,19 +23,29 @@ pub struct Sample {
 
 impl Sample {
     pub fn all() -> Vec<Sample> {
-        (0..SEEDS).flat_map(|seed| FileKind::ALL.map(|kind| Sample::new(kind, seed))).collect()
+        (0..SEEDS).flat_map(|seed| FileKind::ALL.into_iter().flat_map(move |kind| Sample::of(kind, seed))).collect()
     }
 
-    fn new(kind: FileKind, seed: u64) -> Self {
-        let input = step_file(kind, seed, LINES);
-        let output = replay::<Document01, _>(&input, &mut ());
-        Sample { kind, seed, input, output }
+    /// The file whole, and cut short as the differential run does it.
+    fn of(kind: FileKind, seed: u64) -> Vec<Sample> {
+        let whole = step_file(kind, seed, LINES[seed as usize % LINES.len()]);
+        let mut cuts = Cuts::default();
+        let output = replay::<Document01>(&whole, &mut cuts);
+        let beginnings = cuts.of(&whole).into_iter().map(|input| Sample {
+            kind,
+            seed,
+            input: input.to_vec(),
+            output: replay::<Document01>(input, &mut ()),
+        });
+        let mut samples: Vec<Sample> = beginnings.collect();
+        samples.insert(0, Sample { kind, seed, input: whole, output });
+        samples
     }
 }
 
 pub struct Trial<'a> {
     fault: &'a Fault,
-    /// Files played up to the first difference, and that difference.
+    /// Plays up to the first difference, and that difference.
     difference: Option<(usize, &'a Sample, Difference)>,
     breach: Option<Breach>,
 }
@@ -78,11 +90,11 @@ impl fmt::Display for Trial<'_> {
     fn fmt(&self, out: &mut fmt::Formatter) -> fmt::Result {
         let Fault { name, unseen, .. } = self.fault;
         match (&self.difference, unseen) {
-            (Some((files, sample, difference)), _) => {
+            (Some((plays, sample, difference)), _) => {
                 let line = |side: &Option<String>| side.clone().unwrap_or("none".into());
                 let (right, wrong) = (line(&difference.expected), line(&difference.actual));
                 let (kind, seed) = (sample.kind.name(), sample.seed);
-                write!(out, "{name}: found in file {files} ({kind} seed {seed} line {}), ", difference.line)?;
+                write!(out, "{name}: found in play {plays} ({kind} seed {seed} line {}), ", difference.line)?;
                 write!(out, "right {right} wrong {wrong}; seen by Demand 3: {}", self.demand3())
             }
             (None, Some(reason)) => write!(out, "{name}: cannot be found: {reason}"),

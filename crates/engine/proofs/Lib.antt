@@ -1,0 +1,3 @@
+pub mod Accessed
+pub mod Ended
+pub mod Stored

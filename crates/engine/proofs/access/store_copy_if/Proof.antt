@@ -1,0 +1,24 @@
+use borrow.Author.Needs.{needs}
+use Rattle.engine.proofs.access.store_copy_if.Statement.{statement}
+use Rattle.engine.proofs.access.store_copy_if.Tie as tie
+use Rattle.engine.proofs.access.store_copy_if.Reads as reads
+use Rattle.engine.proofs.access.store_copy_if.Lts as lts
+
+-- src/access.rt:42:9
+mul-copies : tie.Need-mul-copies
+mul-copies c = search needs
+
+-- src/access.rt:42:9
+element-write-copies : tie.Need-element-write-copies
+element-write-copies c = search needs
+
+-- src/access.rt:37:1
+returns : tie.Need-returns
+returns c = rw (c .if1 .taken)
+
+-- src/access.rt:37:1
+returns-2 : tie.Need-returns-2
+returns-2 c = search needs
+
+pub store-copy-if-spec : {M : Type 1} → statement M
+store-copy-if-spec = tie.close (tie.spec mul-copies element-write-copies returns returns-2)

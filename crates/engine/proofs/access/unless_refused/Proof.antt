@@ -1,0 +1,16 @@
+use borrow.Author.Tests.{eq-eqb, ne-eqb}
+use Rattle.engine.proofs.access.unless_refused.Statement.{statement}
+use Rattle.engine.proofs.access.unless_refused.Tie as tie
+use Rattle.engine.proofs.access.unless_refused.Reads as reads
+use Rattle.engine.proofs.access.unless_refused.Lts as lts
+
+-- src/access.rt:27:1
+returns : tie.Need-returns
+returns c = rw (eq-eqb _ _ (c .if1 .taken))
+
+-- src/access.rt:27:1
+returns-2 : tie.Need-returns-2
+returns-2 c = rw (ne-eqb _ _ (c .if1 .left))
+
+pub unless-refused-spec : {M : Type 1} → statement M
+unless-refused-spec = tie.close (tie.spec returns returns-2)

@@ -1,0 +1,174 @@
+-- Reads, writes and flushes: they change copies of the block and the server's block, and no client's record. It leads
+-- to the promises reads, writes, flushes, readsOwn and writesOwn. Assumes nothing.
+use Prim.Native.Nat.{ℕ}
+use mathlib.Core.Path.{_≡_, refl}
+use mathlib.Core.Bool.{Bool, true, false, cond, not, _&&_, false≢true}
+use mathlib.Core.Logic.{inl, inr, ⊎-elim}
+use lib.Dec.{eqb}
+use borrow.Author.Tests.{not-true, not-false}
+use Rattle.records.specs.declared.version.Version.{Version}
+use Rattle.protocol.specs.declared.client.ClientFile.{ClientFile}
+use Rattle.protocol.specs.Client.{readNeedsServer, writeNeedsServer}
+use Rattle.protocol.specs.Table.{Row}
+use Rattle.protocol.proofs.View.{View, at, valueIn, readView, writtenView, flushedView}
+use Rattle.protocol.proofs.Invariant.{mayCache, hasOpen, hasWriters, isLatest, Copied, Sound, Running, Recovering}
+use Rattle.protocol.proofs.Invariant.Flags.{conflict, cases, and-left, and-right, and-both, positive, other-sym, change, at-same}
+
+module _
+    {n : ℕ}
+    {version : Version}
+    {client : ℕ → ClientFile}
+    {block : ℕ}
+    {copy : ℕ → ℕ}
+    {held dirty : ℕ → Bool}
+    {k : ℕ}
+    (h : Sound n version client block copy held dirty k)
+  where
+    -- a dirty block is of the latest version, and so the reference memory's number
+    pub dirty-latest : (s : ℕ) → dirty s ≡ true → isLatest version (client s) ≡ true
+    dirty-latest s d = h .clients .own s .L2 (⊎-elim (λ m. inr m) (λ x. inl (x .1)) (h .copied s .D2 d))
+
+    pub dirty-is : (s : ℕ) → dirty s ≡ true → copy s ≡ k
+    dirty-is s d = h .copied s .D3 (h .copied s .D1 d) (dirty-latest s d)
+
+    -- where i is open, no other client has the block dirty
+    other-clean : (i s : ℕ) → hasOpen (client i) ≡ true → eqb s i ≡ false → dirty s ≡ true → ⊥
+    other-clean i s o e d =
+        let far = h .clients .apart s i (other-sym i s e) in
+        ⊎-elim (λ m. far .S3 m (inl o)) (λ x. far .S2 (x .1) (x .0) o) (h .copied s .D2 d)
+
+    -- so the server's block is the reference memory's number, unless i has it dirty
+    server-is : (i : ℕ) → hasOpen (client i) ≡ true → (dirty i ≡ true → ⊥) → block ≡ k
+    server-is i o clean = h .D4 (change (λ s _. dirty s ≡ true → ⊥) i clean (λ s. other-clean i s o))
+
+    -- an open client that does not read its own copy has no dirty block
+    unread-clean : (i : ℕ) → hasOpen (client i) ≡ true → (mayCache (client i) && held i) ≡ false → dirty i ≡ true → ⊥
+    unread-clean i o e d =
+        let caches = ⊎-elim (λ m. h .clients .own i .S4 m o) (λ x. x .1) (h .copied i .D2 d) in
+        conflict (and-both caches (h .copied i .D1 d)) e
+
+    read-is : (i : ℕ) → hasOpen (client i) ≡ true → cond (mayCache (client i) && held i) (copy i) block ≡ k
+    read-is i o =
+        cases (λ b. cond b (copy i) block ≡ k) (mayCache (client i) && held i)
+        (λ e. h .copied i .D3 (and-right (mayCache (client i)) _ e)
+        (h .clients .own i .L2 (inl (and-left _ (held i) e))))
+        (λ e. server-is i o (unread-clean i o e))
+
+    sound-read :
+        (i : ℕ)
+        → hasOpen (client i) ≡ true
+        → let fetch = mayCache (client i) && not (held i) in
+        Sound n version client block (at i (cond fetch block (copy i)) copy) (at i (cond fetch true (held i)) held)
+        dirty k
+    sound-read i o =
+        let fetch = mayCache (client i) && not (held i) in
+        let unheld : fetch ≡ true → held i ≡ false = λ e. not-true (held i) (and-right (mayCache (client i)) _ e) in
+        let fetched : Copied version (client i) (cond fetch block (copy i)) (cond fetch true (held i)) (dirty i) k
+        = cases (λ b. Copied version (client i) (cond b block (copy i)) (cond b true (held i)) (dirty i) k) fetch
+        (λ e. record {
+          D1 = λ _. refl;
+          D2 = h .copied i .D2;
+          D3 = λ _ _. server-is i o (λ d. conflict (h .copied i .D1 d) (unheld e));
+        })
+        (λ _. h .copied i) in
+        record {
+          clients = h .clients;
+          copied = change (λ s b. Copied version (client s) (cond b (cond fetch block (copy i)) (copy s))
+              (cond b (cond fetch true (held i)) (held s)) (dirty s) k) i fetched (λ s _. h .copied s);
+          D4 = h .D4;
+        }
+
+    -- a write at i: another client has no copy of the latest version, and i has one only if it may cache
+    sound-written :
+        (i x : ℕ)
+        → hasWriters (client i) ≡ true
+        → let own = mayCache (client i) in
+        Sound n version client (cond own block x) (at i (cond own x (copy i)) copy) (at i (cond own true (held i)) held)
+        (at i (cond own true (dirty i)) dirty) x
+    sound-written i x w =
+        let own = mayCache (client i) in
+        let written = cases
+        (λ b. Copied version (client i) (cond b x (copy i)) (cond b true (held i)) (cond b true (dirty i)) x) own
+        (λ p. record { D1 = λ _. refl; D2 = λ _. inr (w, p); D3 = λ _ _. refl })
+        (λ p. record {
+          D1 = h .copied i .D1;
+          D2 = h .copied i .D2;
+          D3 = λ _ f. absurd (conflict (h .clients .own i .L3 w f) p);
+        }) in
+        record {
+          clients = h .clients;
+          copied = change (λ s b. Copied version (client s) (cond b (cond own x (copy i)) (copy s))
+              (cond b (cond own true (held i)) (held s)) (cond b (cond own true (dirty i)) (dirty s)) x) i written
+              (λ s e. record {
+                D1 = h .copied s .D1;
+                D2 = h .copied s .D2;
+                D3 = λ _ f. absurd (h .clients .apart i s e .L3 w f);
+              });
+          D4 = cases (λ b. ((s : ℕ) → at i (cond b true (dirty i)) dirty s ≡ true → ⊥) → cond b block x ≡ x) own
+              (λ _ clean. absurd (clean i (at-same i true dirty))) (λ _ _. refl);
+        }
+
+    sound-flushed : (i : ℕ) → dirty i ≡ true → Sound n version client (copy i) copy held (at i false dirty) k
+    sound-flushed i d =
+        record {
+          clients = h .clients;
+          copied = change (λ s b. Copied version (client s) (copy s) (held s) (cond b false (dirty s)) k) i
+              (record { D1 = λ e. absurd (false≢true e); D2 = λ e. absurd (false≢true e); D3 = h .copied i .D3 })
+              (λ s _. h .copied s);
+          D4 = λ _. dirty-is i d;
+        }
+
+pub read-kept :
+    (n : ℕ) (v : View) (k i : ℕ)
+    → Running n v k
+    → hasOpen (v .client i) ≡ true
+    → (valueIn v i ≡ k) × Running n (readView v i) k
+read-kept n v k i h o = (
+  read-is (h .sound) i o,
+  record { sound = sound-read (h .sound) i o; table = h .table; calls = h .calls; waiting = h .waiting },
+)
+
+pub write-kept :
+    (n : ℕ) (v : View) (k i x : ℕ)
+    → Running n v k
+    → eqb (v .client i .opens .writers) 0 ≡ false
+    → Running n (writtenView v i x) x
+write-kept n v k i x h w =
+    record {
+      sound = sound-written (h .sound) i x (positive (v .client i .opens .writers) w);
+      table = h .table;
+      calls = h .calls;
+      waiting = h .waiting;
+    }
+
+pub flush-kept : (n : ℕ) (v : View) (k i : ℕ) → Running n v k → v .dirty i ≡ true → Running n (flushedView v i) k
+flush-kept n v k i h d =
+    record { sound = sound-flushed (h .sound) i d; table = h .table; calls = h .calls; waiting = h .waiting }
+
+-- In a recovery, where the step needs no server.
+pub own-read-is :
+    (n : ℕ) (v : View) (k i : ℕ) (reported : ℕ → Bool) (row : Row)
+    → Recovering n v k reported row
+    → readNeedsServer (v .client i) (v .held i) ≡ false
+    → valueIn v i ≡ k
+own-read-is n v k i reported row h own =
+    let c = v .client i in
+    let all = not-false (hasOpen c && mayCache c && v .held i) own in
+    read-is (h .sound) i (and-left (hasOpen c) (mayCache c) (and-left _ (v .held i) all))
+
+pub own-write-kept :
+    (n : ℕ) (v : View) (k i x : ℕ) (reported : ℕ → Bool) (row : Row)
+    → Recovering n v k reported row
+    → writeNeedsServer (v .client i) ≡ false
+    → Recovering n (writtenView v i x) x reported row
+own-write-kept n v k i x reported row h own =
+    let c = v .client i in
+    let both = not-false (hasWriters c && mayCache c) own in
+    record {
+      sound = sound-written (h .sound) i x (and-left (hasWriters c) (mayCache c) both);
+      table = h .table;
+      calls = h .calls;
+      B1 = h .B1;
+      before = h .before;
+      version = h .version;
+    }

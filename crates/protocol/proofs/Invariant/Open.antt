@@ -1,0 +1,131 @@
+-- An open: it waits for the callbacks that are due, or is granted where there are none; and a waiting open is granted
+-- once no callback is out. It leads to the promises waitsFor, opens and answersLast. Assumes nothing.
+use Prim.Native.Nat.{ℕ, _<_, _≤_}
+use mathlib.Core.Path.{_≡_, refl, sym, _∙_, ap, subst, fun-ext}
+use mathlib.Core.Bool.{true, false, cond, _&&_}
+use mathlib.Core.List.{List}
+use native.Mathlib.Nat.{le-of-eq}
+use native.Mathlib.Omega.{arith}
+use lib.Dec.{eqb, ltb}
+use lib.ListN.{length, getD, replicate, length-replicate, List·getD-eq-default}
+use borrow.Author.Tests.{eqb-true, ltb-true, ltb-false}
+use Rattle.records.specs.declared.record.Mode.{Mode}
+use Rattle.records.specs.declared.version.Version.{Version}
+use Rattle.protocol.specs.declared.client.ClientFile.{ClientFile}
+use Rattle.protocol.specs.declared.entry.Entry.{Entry}
+use Rattle.protocol.specs.Sizes.{nobody}
+use Rattle.protocol.specs.Lists.{count}
+use Rattle.records.specs.Version.{isLastVersion}
+use Rattle.records.specs.Record.{isWrite}
+use Rattle.protocol.specs.Callback.{callbackDue}
+use Rattle.protocol.specs.Entry.{recordAt, waits, kindOf, callTo, callsOut, callsIn, callsDue}
+use Rattle.protocol.proofs.View.{View, waitingView, grantedView, callAnsweredView, waiterGrantedView}
+use Rattle.protocol.proofs.Invariant.{Waiting, Running}
+use Rattle.protocol.proofs.Invariant.Flags.{split, cases}
+use Rattle.protocol.proofs.Invariant.Lists.{length-stored, getD-stored}
+use Rattle.protocol.proofs.Invariant.Count.{some}
+use Rattle.protocol.proofs.Invariant.Due.{waiting-due}
+use Rattle.protocol.proofs.Invariant.Kind.{same-sends, same-drops}
+use Rattle.protocol.proofs.Invariant.Grant.{ready, grant-kept}
+use Rattle.protocol.proofs.Invariant.Answer.{answer-kept, called-waits}
+
+-- where a count of numbers above 0 is 0, each is 0
+silent :
+    (n : ℕ) (f : ℕ → ℕ)
+    → eqb (count n (λ i. ltb 0 (f i))) 0 ≡ true
+    → ((t : ℕ) → n ≤ t → f t ≡ 0)
+    → (t : ℕ)
+    → f t ≡ 0
+silent n f none out t =
+    split (ltb t n)
+    (λ below. split (ltb 0 (f t))
+    (λ e. let more = some n (λ i. ltb 0 (f i)) t (ltb-true t n below) e in
+    let zero = eqb-true (count n (λ i. ltb 0 (f i))) 0 none in
+    absurd (omega arith))
+    (λ e. let zero = ltb-false 0 (f t) e in omega arith))
+    (λ is. out t (ltb-false t n is))
+
+-- a list of one callback for each client calls nobody else
+beyond : (n : ℕ) (calls : List ℕ) → length calls ≡ n → (t : ℕ) → n ≤ t → getD calls t 0 ≡ 0
+beyond n calls size t out = List·getD-eq-default calls 0 (subst (λ m. m ≤ t) (sym size) out)
+
+uncalled : (n : ℕ) (e : Entry) → length (e .calls) ≡ n → (t : ℕ) → n ≤ t → callTo n e t ≡ 0
+uncalled n e size t out =
+    ap (λ x. cond (waits n e) (kindOf x) 0) (beyond n (e .calls) size t out)
+    ∙ cases (λ b. cond {A = ℕ} b 0 0 ≡ 0) (waits n e) (λ _. refl) (λ _. refl)
+
+-- WS holds of the kinds where it holds of the numbers
+waiting-kinds :
+    {version : Version} {client : ℕ → ClientFile} {opener : ℕ} {mode : Mode} {calls : ℕ → ℕ}
+    → Waiting version client opener mode calls
+    → Waiting version client opener mode (λ t. kindOf (calls t))
+waiting-kinds {calls = calls} h =
+    record {
+      uncalled = ap kindOf (h .uncalled);
+      marked = λ t e m. same-sends (calls t) ∙ h .marked t e m;
+      writing = λ t e p w. ap kindOf (h .writing t e p w);
+      caching = λ t e w p. same-drops (calls t) ∙ h .caching t e w p;
+      alone = λ s t w. h .alone s t (sym (same-sends (calls t)) ∙ w);
+      W6 = h .W6;
+    }
+
+-- Client i opens in the mode, and there is a version left.
+module _
+    (n : ℕ)
+    (v : View)
+    (k i : ℕ)
+    (mode : Mode)
+    (h : Running n v k)
+    (below : i < n)
+    (left : (isWrite mode && isLastVersion (v .entry .version)) ≡ false)
+  where
+    abbrev due : List ℕ
+    due = callsDue n (v .entry) i mode
+
+    due-size : length due ≡ n
+    due-size = length-stored n (λ j. j) _ (replicate n 0) ∙ length-replicate n 0
+
+    due-at : (t : ℕ) → t < n → getD due t 0 ≡ callbackDue n (λ s. v .client s .opens) (v .entry .last) i mode t
+    due-at t is =
+        getD-stored n (callbackDue n (recordAt (v .entry)) (v .entry .last) i mode) (replicate n 0) 0 t
+        (le-of-eq (sym (length-replicate n 0))) is
+        ∙ ap (λ r. callbackDue n r (v .entry .last) i mode t) (fun-ext (λ s. h .table .known s refl))
+
+    due-waiting : Waiting (v .entry .version) (v .client) i mode (λ t. getD due t 0)
+    due-waiting =
+        waiting-due (h .sound .clients) (h .table) i mode (λ t. getD due t 0) left below due-at (beyond n due due-size)
+
+    pub wait-kept : Running n (waitingView n v i mode) k
+    wait-kept =
+        record {
+          sound = h .sound;
+          table = h .table;
+          calls = due-size;
+          waiting = λ is. subst (Waiting (v .entry .version) (v .client) i mode)
+              (fun-ext (λ t. ap (λ b. cond b (kindOf (getD due t 0)) 0) (sym is))) (waiting-kinds due-waiting);
+        }
+
+    pub open-kept : n ≤ nobody → eqb (callsIn n due) 0 ≡ true → Running n (grantedView n v i mode) k
+    open-kept bound quiet =
+        grant-kept n v k i mode bound h below left
+        (ready due-waiting (silent n (λ t. getD due t 0) quiet (beyond n due due-size)))
+
+-- The last answer grants the open that waits.
+pub answer-last-kept :
+    (n : ℕ) (v : View) (k i : ℕ)
+    → n ≤ nobody
+    → Running n v k
+    → i < n
+    → eqb (callTo n (v .entry) i) 0 ≡ false
+    → eqb (callsOut n (callAnsweredView n v i .entry)) 0 ≡ true
+    → (v .entry .waiter < n) × Running n (waiterGrantedView n (callAnsweredView n v i)) k
+answer-last-kept n v k i bound h below called quiet =
+    let is = called-waits n (v .entry) i called in
+    let waiter = ltb-true (v .entry .waiter) n is in
+    let later = callAnsweredView n v i in
+    let h′ = answer-kept n v k i bound h below called in
+    let ws = h′ .waiting is in (
+      waiter,
+      grant-kept n later k (v .entry .waiter) (v .entry .mode) bound h′ waiter (ws .W6)
+          (ready ws (silent n (callTo n (later .entry)) quiet (uncalled n (later .entry) (h′ .calls)))),
+    )

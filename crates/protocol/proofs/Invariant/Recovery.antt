@@ -1,0 +1,173 @@
+-- A crash, a report and the end of a recovery. It leads to the promises crashes, crashesAgain, reports and ends.
+-- Assumes nothing.
+use Prim.Native.Nat.{ℕ, _<_, _≤_}
+use mathlib.Core.Path.{_≡_, refl, sym, _∙_, ap, subst}
+use mathlib.Core.Bool.{Bool, true, false, cond, false≢true}
+use mathlib.Core.Logic.{inr}
+use mathlib.Core.List.{List}
+use lib.Dec.{ltb}
+use lib.ListN.{length, length-set, length-replicate, List·getD-eq-default}
+use lib.Seq.{ext-getD, getD-set-same, getD-set-other}
+use borrow.Author.Tests.{eqb-false, le-ltb, ltb-true, ltb-false}
+use Rattle.records.specs.declared.record.ClientRecord.{ClientRecord}
+use Rattle.records.specs.declared.version.Version.{Version}
+use Rattle.protocol.specs.declared.client.ClientFile.{ClientFile}
+use Rattle.protocol.specs.declared.entry.Entry.{Entry}
+use Rattle.protocol.specs.Sizes.{nobody}
+use Rattle.records.specs.Record.{notOpen}
+use Rattle.protocol.specs.Entry.{recordAt, waits, crashedEntry, reportedEntry}
+use Rattle.protocol.specs.Table.{Row, rowOf}
+use Rattle.protocol.proofs.View.{View, at, crashedView, reportedView}
+use Rattle.protocol.proofs.Invariant.{Clients, LastWriter, Agrees, everybody, Running, Recovering}
+use Rattle.protocol.proofs.Invariant.Flags.{conflict, split, change}
+use Rattle.protocol.proofs.Invariant.Last.{last-none, last-one, last-same}
+use Rattle.protocol.proofs.Invariant.Change.{marked-is-client}
+
+-- the table after a crash, which nobody has told anything
+crashed-table :
+    (n : ℕ) (v : Version) (client : ℕ → ClientFile)
+    → n ≤ nobody
+    → Agrees n (crashedEntry n v .records) (crashedEntry n v .last) client (λ s. false)
+crashed-table n v client bound =
+    record {
+      size = length-replicate n notOpen;
+      known = λ s t. absurd (false≢true t);
+      lastWriter = last-none bound (λ s t _. false≢true t);
+    }
+
+pub crash-kept :
+    (n : ℕ) (v : View) (k : ℕ)
+    → n ≤ nobody
+    → Running n v k
+    → Recovering n (crashedView n v) k (λ i. false) (rowOf (v .entry))
+crash-kept n v k bound h =
+    record {
+      sound = h .sound;
+      table = crashed-table n (v .entry .version) (v .client) bound;
+      calls = length-replicate n 0;
+      B1 = le-ltb nobody n bound;
+      before = h .table;
+      version = refl;
+    }
+
+pub crash-again-kept :
+    (n : ℕ) (v : View) (k : ℕ) (reported : ℕ → Bool) (row : Row)
+    → n ≤ nobody
+    → Recovering n v k reported row
+    → Recovering n (crashedView n v) k (λ i. false) row
+crash-again-kept n v k reported row bound h =
+    record {
+      sound = h .sound;
+      table = crashed-table n (v .entry .version) (v .client) bound;
+      calls = length-replicate n 0;
+      B1 = le-ltb nobody n bound;
+      before = h .before;
+      version = h .version;
+    }
+
+module _
+    {n : ℕ}
+    {version : Version}
+    {client : ℕ → ClientFile}
+    {told : ℕ → Bool}
+    (c : Clients n version client)
+    (e : Entry)
+    (h : Agrees n (e .records) (e .last) client told)
+  where
+    -- the last writer after the report of client i: where i is marked no other client is, so that none is lost
+    last-told :
+        (i : ℕ)
+        → i < n
+        → LastWriter n (reportedEntry e i (client i) .last) client (at i true told)
+    last-told i below =
+        split (client i .marked)
+        (λ m. let is : reportedEntry e i (client i) .last ≡ i = cc in
+        rw is (last-one i below m (λ s away x. c .apart i s away .S3 m (inr x))))
+        (λ unmarked. let is : reportedEntry e i (client i) .last ≡ e .last = cc in
+        rw is (last-same (h .lastWriter)
+        (change (λ s b. cond b true (told s) ≡ true → client s .marked ≡ true
+        → (told s ≡ true) × (client s .marked ≡ true)) i
+        (λ _ m. absurd (conflict m unmarked)) (λ _ _ t m. (t, m)))
+        (λ _ m. m)))
+
+    -- the table after it
+    told-by :
+        (i : ℕ)
+        → i < n
+        → Agrees n (reportedEntry e i (client i) .records) (reportedEntry e i (client i) .last) client (at i true told)
+    told-by i below =
+        let fits : i < length (e .records) = subst (λ m. i < m) (sym (h .size)) below in
+        record {
+          size = length-set (e .records) i _ ∙ h .size;
+          known = change (λ s b. cond b true (told s) ≡ true
+              → recordAt (reportedEntry e i (client i)) s ≡ client s .opens) i
+              (λ _. getD-set-same (e .records) i _ notOpen fits)
+              (λ s away t. getD-set-other (e .records) i s _ notOpen (eqb-false s i away) ∙ h .known s t);
+          lastWriter = last-told i below;
+        }
+
+    -- once all clients have told it, the table agrees with everybody
+    told-all : ((s : ℕ) → s < n → told s ≡ true) → Agrees n (e .records) (e .last) client everybody
+    told-all all =
+        record {
+          size = h .size;
+          known = λ s _. split (ltb s n)
+              (λ is. h .known s (all s (ltb-true s n is)))
+              (λ is. let out = ltb-false s n is in
+              List·getD-eq-default (e .records) notOpen (subst (λ m. m ≤ s) (sym (h .size)) out)
+              ∙ ap (λ x. x .opens) (sym (c .beyond s out)));
+          lastWriter = last-same (h .lastWriter) (λ s _ m. (all s (marked-is-client c s m), m)) (λ _ m. m);
+        }
+
+pub report-kept :
+    (n : ℕ) (v : View) (k i : ℕ) (reported : ℕ → Bool) (row : Row)
+    → Recovering n v k reported row
+    → i < n
+    → Recovering n (reportedView v i) k (at i true reported) row
+report-kept n v k i reported row h below =
+    record {
+      sound = h .sound;
+      table = told-by (h .sound .clients) (v .entry) (h .table) i below;
+      calls = h .calls;
+      B1 = h .B1;
+      before = h .before;
+      version = h .version;
+    }
+
+-- Two tables that agree with everybody are one.
+module _
+    {n : ℕ}
+    {client : ℕ → ClientFile}
+    {records later : List ClientRecord}
+    {last now : ℕ}
+    (a : Agrees n records last client everybody)
+    (b : Agrees n later now client everybody)
+  where
+    same-records : records ≡ later
+    same-records =
+        ext-getD notOpen records later (a .size ∙ sym (b .size)) (λ i _. a .known i refl ∙ sym (b .known i refl))
+
+    same-last : last ≡ now
+    same-last =
+        let p = a .lastWriter in
+        let q = b .lastWriter in
+        split (ltb last n)
+        (λ e. sym (q .named last refl (p .holder (ltb-true last n e))))
+        (λ e. split (ltb now n)
+        (λ e′. p .named now refl (q .holder (ltb-true now n e′)))
+        (λ e′. p .unnamed (ltb-false last n e) ∙ sym (q .unnamed (ltb-false now n e′))))
+
+pub end-kept :
+    (n : ℕ) (v : View) (k : ℕ) (reported : ℕ → Bool) (row : Row)
+    → Recovering n v k reported row
+    → ((i : ℕ) → i < n → reported i ≡ true)
+    → Running n v k × (rowOf (v .entry) ≡ row) × (waits n (v .entry) ≡ false)
+end-kept n v k reported row h all =
+    let table = told-all (h .sound .clients) (v .entry) (h .table) all in
+    let records = same-records table (h .before) in
+    let last = same-last table (h .before) in
+    let version = h .version in (
+      record { sound = h .sound; table = table; calls = h .calls; waiting = λ w. absurd (conflict w (h .B1)) },
+      (λ i. record { records = records i; version = sym version i; last = last i }),
+      h .B1,
+    )

@@ -1,0 +1,32 @@
+-- Every step keeps the invariant of one file and one block, for any number of clients. Assumes nothing.
+use Prim.Native.Nat.{ℕ, _≤_}
+use Rattle.protocol.specs.Sizes.{nobody}
+use Rattle.protocol.proofs.Promises.{Promises}
+use Rattle.protocol.proofs.Invariant.{Running, Recovering}
+use Rattle.protocol.proofs.Invariant.Fresh.{fresh-kept}
+use Rattle.protocol.proofs.Invariant.Block.{read-kept, write-kept, flush-kept, own-read-is, own-write-kept}
+use Rattle.protocol.proofs.Invariant.Open.{wait-kept, open-kept, answer-last-kept}
+use Rattle.protocol.proofs.Invariant.Close.{close-kept}
+use Rattle.protocol.proofs.Invariant.Answer.{answer-kept}
+use Rattle.protocol.proofs.Invariant.Recovery.{crash-kept, crash-again-kept, report-kept, end-kept}
+
+-- `nobody` is no client: that is all that is asked of n.
+pub promises : (n : ℕ) → n ≤ nobody → Promises n (Running n) (Recovering n)
+promises n bound =
+    record {
+      fresh = fresh-kept n bound;
+      opens = λ v k i mode h below _ _ left none. open-kept n v k i mode h below left bound none;
+      waitsFor = λ v k i mode h below _ _ left. wait-kept n v k i mode h below left;
+      closes = λ v k i mode h below quiet _. close-kept n v k i mode h below quiet;
+      reads = λ v k i h _. read-kept n v k i h;
+      writes = λ v k i x h _. write-kept n v k i x h;
+      flushes = λ v k i h _. flush-kept n v k i h;
+      answers = λ v k i h below called _. answer-kept n v k i bound h below called;
+      answersLast = λ v k i h. answer-last-kept n v k i bound h;
+      crashes = λ v k. crash-kept n v k bound;
+      crashesAgain = λ v k reported row. crash-again-kept n v k reported row bound;
+      readsOwn = λ v k i reported row h _. own-read-is n v k i reported row h;
+      writesOwn = λ v k i x reported row h _. own-write-kept n v k i x reported row h;
+      reports = λ v k i reported row h below _. report-kept n v k i reported row h below;
+      ends = end-kept n;
+    }

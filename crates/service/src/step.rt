@@ -1,0 +1,184 @@
+// The step that the service takes.
+ghost use mathlib.Core.Path.{_≡_};
+ghost use Rattle.service.specs.Step.{stepOf};
+use crate::outcome::Outcome;
+use crate::service::Service;
+use engine::answer_call;
+use engine::clean_unless;
+use engine::close_ends;
+use engine::drop_copies_unless;
+use engine::flush_block;
+use engine::grant_waiter;
+use engine::open_ends;
+use engine::read_block;
+use engine::send_if;
+use engine::write_block;
+use protocol::Reply;
+use protocol::Step;
+use protocol::invalidates;
+use protocol::writes_back;
+
+impl Service {
+    // One step, from any service. The service is taken apart, each kind of step stores back what its parts give, and it is put
+    // together again; a refused step stores what stood there.
+    pub fn step(self, step: Step) -> Outcome
+        ensures { λ r. ⌜ r ≡ stepOf self step ⌝ }
+    {
+        let mut server = self.server;
+        let mut clients = self.clients;
+        let mut copies = self.copies;
+        let mut held = self.held;
+        let mut dirty = self.dirty;
+        let mut reply = Reply::Done;
+        let mut calls = [0u8; 8];
+        match step {
+            Step::Open { mode, client, file } => {
+                let f = file % 32;
+                let at = client % 8 * 32 + f;
+                let entry = server.files[f];
+                let own = clients[at];
+                let ends = open_ends(server.recovering, entry, own, mode, client, file);
+                let entry_after = ends.entry;
+                let own_after = ends.own;
+                let reply_after = ends.reply;
+                let calls_after = ends.calls;
+                server.files[f] = entry_after;
+                clients[at] = own_after;
+                drop_copies_unless(ends.keep, &mut copies, &mut held, at * 4);
+                clean_unless(ends.keep, &mut dirty, at * 4);
+                reply = reply_after;
+                calls = calls_after;
+            }
+            Step::Close { mode, client, file } => {
+                let f = file % 32;
+                let at = client % 8 * 32 + f;
+                let entry = server.files[f];
+                let own = clients[at];
+                let ends = close_ends(server.recovering, entry, own, mode, client, file);
+                let entry_after = ends.entry;
+                let own_after = ends.own;
+                let reply_after = ends.reply;
+                server.files[f] = entry_after;
+                clients[at] = own_after;
+                reply = reply_after;
+            }
+            Step::Read {
+                client,
+                file,
+                block,
+            } => {
+                let own = clients[client % 8 * 32 + file % 32];
+                let reported = server.reported[client % 8];
+                let blocks = server.blocks;
+                reply = read_block(
+                    server.recovering,
+                    reported,
+                    own,
+                    client,
+                    file,
+                    block,
+                    &blocks,
+                    &mut copies,
+                    &mut held,
+                );
+            }
+            Step::Write {
+                client,
+                file,
+                block,
+                value,
+            } => {
+                let own = clients[client % 8 * 32 + file % 32];
+                let reported = server.reported[client % 8];
+                reply = write_block(
+                    server.recovering,
+                    reported,
+                    own,
+                    client,
+                    file,
+                    block,
+                    value,
+                    &mut server.blocks,
+                    &mut copies,
+                    &mut held,
+                    &mut dirty,
+                );
+            }
+            Step::Flush {
+                client,
+                file,
+                block,
+            } => {
+                reply = flush_block(
+                    server.recovering,
+                    client,
+                    file,
+                    block,
+                    &copies,
+                    &mut server.blocks,
+                    &mut dirty,
+                );
+            }
+            Step::Answer { client, file } => {
+                let f = file % 32;
+                let at = client % 8 * 32 + f;
+                let entry = server.files[f];
+                let own = clients[at];
+                let answer = answer_call(server.recovering, entry, own, client, file);
+                let own_after = answer.own;
+                clients[at] = own_after;
+                send_if(
+                    writes_back(answer.kind),
+                    &dirty,
+                    &copies,
+                    at * 4,
+                    f * 4,
+                    &mut server.blocks,
+                );
+                drop_copies_unless(!invalidates(answer.kind), &mut copies, &mut held, at * 4);
+                clean_unless(answer.kind == 0, &mut dirty, at * 4);
+                let answered = answer.entry;
+                let answer_reply = answer.reply;
+                let waiter = answered.waiter as usize % 8 * 32 + f;
+                let waiting = clients[waiter];
+                let ends = grant_waiter(answered, waiting, answer.kind, answer_reply);
+                let entry_after = ends.entry;
+                let waiting_after = ends.own;
+                let reply_after = ends.reply;
+                server.files[f] = entry_after;
+                clients[waiter] = waiting_after;
+                drop_copies_unless(ends.keep, &mut copies, &mut held, waiter * 4);
+                clean_unless(ends.keep, &mut dirty, waiter * 4);
+                reply = reply_after;
+            }
+            Step::Crash => {
+                server = server.crashed();
+            }
+            Step::Report { client } => {
+                let served = server.report(clients, client);
+                let server_after = served.server;
+                let reply_after = served.reply;
+                server = server_after;
+                reply = reply_after;
+            }
+            Step::End => {
+                let served = server.end();
+                let server_after = served.server;
+                let reply_after = served.reply;
+                server = server_after;
+                reply = reply_after;
+            }
+        }
+        Outcome {
+            service: Service {
+                server,
+                clients,
+                copies,
+                held,
+                dirty,
+            },
+            reply,
+            calls,
+        }
+    }
+}

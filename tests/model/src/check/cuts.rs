@@ -1,0 +1,65 @@
+//! Lines after which a step file is worth cutting short. Only the summary shows the state table, so a file is played
+//! once more up to a line where the table is halfway: an open partly answered, a client that has closed one of several
+//! write opens, a recovery half reported or just ended.
+
+use super::Witness;
+use crate::{ClientSet, Mode, Outcome, Service, State, Step};
+
+#[derive(Default)]
+pub struct Cuts {
+    line: usize,
+    partly_answered: Option<usize>,
+    partly_closed: Option<usize>,
+    half_reported: Option<usize>,
+    recovered: Option<usize>,
+}
+
+impl Cuts {
+    /// The beginnings of this input up to the last line of each sort.
+    pub fn of<'a>(&self, input: &'a [u8]) -> Vec<&'a [u8]> {
+        let lines = [self.partly_answered, self.partly_closed, self.half_reported, self.recovered];
+        lines.into_iter().flatten().map(|line| first_lines(input, line)).collect()
+    }
+}
+
+fn first_lines(input: &[u8], lines: usize) -> &[u8] {
+    let length = input.split_inclusive(|&byte| byte == b'\n').take(lines).map(<[u8]>::len).sum();
+    &input[..length]
+}
+
+fn is_partly_answered(service: &Service) -> bool {
+    let mut entries = service.server.entries.iter();
+    entries.any(|entry| entry.waiting.is_some() && State::of(entry) == State::WriteShared)
+}
+
+fn is_partly_closed(service: &Service, step: &Step) -> bool {
+    let Step::Close { mode: Mode::Write, client, file } = *step else { return false };
+    service.server.entries[file as usize].records[client as usize].writers > 0
+}
+
+fn is_half_reported(service: &Service) -> bool {
+    let server = &service.server;
+    server.recovering && server.reported != ClientSet::NONE && server.reported != ClientSet::ALL
+}
+
+impl Witness for Cuts {
+    fn after(&mut self, service: &Service, step: &Step, outcome: &Outcome) {
+        let line = Some(self.line + 1);
+        if is_partly_answered(service) {
+            self.partly_answered = line;
+        }
+        if is_half_reported(service) {
+            self.half_reported = line;
+        }
+        if *outcome == Outcome::Done && is_partly_closed(service, step) {
+            self.partly_closed = line;
+        }
+        if *outcome == Outcome::Done && *step == Step::End {
+            self.recovered = line;
+        }
+    }
+
+    fn answered(&mut self, _outcome: &Outcome) {
+        self.line += 1;
+    }
+}

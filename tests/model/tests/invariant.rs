@@ -1,0 +1,140 @@
+//! Random runs under the inductive invariant and Demand 3, and a check that no clause of it is empty.
+
+use model::check::{CLAUSES, Demand3, Invariant, Tally, Witness, broken_clauses};
+use model::generate::{FileKind, step_file};
+use model::{Callbacks, ClientSet, Document01, FILES, Kind, Mode, Record, Refusal, Service, Step, WaitingOpen, replay};
+
+/// Plays seeded files under the invariant; tells what they met.
+fn hold(kind: FileKind, seeds: std::ops::Range<u64>, lines: usize) -> Tally {
+    let mut tally = Tally::default();
+    for seed in seeds {
+        let mut invariant = Invariant::default();
+        replay::<Document01>(&step_file(kind, seed, lines), &mut (&mut tally, &mut invariant));
+        assert_eq!(invariant.broken(), None, "{} seed {seed}", kind.name());
+        assert_eq!(invariant.demand3().breach(), None, "{} seed {seed}", kind.name());
+    }
+    tally
+}
+
+#[test]
+fn hot_files_keep_the_invariant() {
+    let tally = hold(FileKind::Hot, 0..48, 2000);
+    assert!(tally.waits() > 1000 && tally.recoveries() > 500);
+    let met = |number| tally.refused(number) > 10;
+    use Refusal::*;
+    assert!([NoSuchClient, NoSuchFile, NoSuchBlock, Recovering, NotRecovering, AlreadyReported].into_iter().all(met));
+    assert!([ReportsMissing, OpenWaits, NoCallback, NotOpen, CountAtLimit, NotDirty].into_iter().all(met));
+}
+
+#[test]
+fn wide_files_keep_the_invariant() {
+    hold(FileKind::Wide, 0..24, 2000);
+}
+
+#[test]
+fn malformed_files_keep_the_invariant() {
+    assert!(hold(FileKind::Malformed, 0..8, 1000).refused(Refusal::NotAStep) > 1000);
+}
+
+#[test]
+fn sessions_keep_the_invariant() {
+    hold(FileKind::Session, 0..4, 30_000);
+}
+
+/// Some six million lines; run it with `--release` and `--ignored`.
+#[test]
+#[ignore = "takes a minute"]
+fn long_runs_keep_the_invariant() {
+    hold(FileKind::Hot, 1000..3000, 2000);
+    hold(FileKind::Wide, 1000..1500, 2000);
+    hold(FileKind::Session, 1000..1010, 100_000);
+}
+
+/// A run of a few steps with Demand 3 beside it.
+struct Run {
+    service: Service,
+    demand3: Demand3,
+}
+
+impl Run {
+    fn of(steps: &[Step]) -> Self {
+        let mut run = Run { service: Service::fresh(), demand3: Demand3::default() };
+        for step in steps {
+            run.demand3.before(&run.service, step);
+            let outcome = run.service.take::<Document01>(step);
+            run.demand3.after(&run.service, step, &outcome);
+        }
+        assert_eq!(broken_clauses(&run.service, &run.demand3, 0..FILES).next(), None);
+        run
+    }
+}
+
+/// A change to the service after some steps that the clause must notice.
+type Spoilt = (&'static str, &'static [Step], fn(&mut Service));
+
+const RECORD: Record = Record { readers: 1, writers: 0, may_cache: false };
+const WRITER: Record = Record { readers: 0, writers: 1, may_cache: true };
+
+fn waiting(opener: usize, called: usize) -> Option<WaitingOpen> {
+    Some(WaitingOpen { opener, mode: Mode::Write, callbacks: Callbacks::to(ClientSet::only(called), Kind::Both) })
+}
+
+const SPOILT: [Spoilt; 21] = [
+    ("A1", &[], |service| service.server.entries[0].records[0] = RECORD),
+    ("A2", &[], |service| service.server.entries[0].last_writer = Some(0)),
+    ("B1", &[Step::Crash], |service| service.server.entries[0].waiting = waiting(0, 1)),
+    ("B2", &[Step::Crash, Step::Report { client: 0 }], |service| service.server.entries[0].records[0] = RECORD),
+    ("B3", &[Step::Crash], |service| service.server.entries[0].last_writer = Some(0)),
+    ("B4", &[Step::Crash], |service| service.server.entries[0].version = 2),
+    ("S1", &[], |service| service.clients[0].files[0].record.may_cache = true),
+    ("S2", &[], |service| {
+        service.clients[0].files[0].record = WRITER;
+        service.clients[1].files[0].record = RECORD;
+    }),
+    ("S3", &[], |service| {
+        service.clients[0].files[0].last_writer_flag = true;
+        service.clients[1].files[0].record = RECORD;
+    }),
+    ("S4", &[], |service| {
+        service.clients[0].files[0].record = RECORD;
+        service.clients[0].files[0].last_writer_flag = true;
+    }),
+    ("S5", &[], |service| {
+        service.clients[0].files[0].record = WRITER;
+        service.clients[1].files[0].record = Record { may_cache: true, ..RECORD };
+    }),
+    ("L1", &[], |service| service.clients[0].files[0].cached_version = 2),
+    ("L2", &[], |service| service.clients[0].files[0].last_writer_flag = true),
+    ("L3", &[], |service| {
+        service.clients[0].files[0].record = WRITER;
+        service.clients[1].files[0].cached_version = 1;
+    }),
+    ("L4", &[], |service| {
+        service.clients[0].files[0].last_writer_flag = true;
+        service.clients[1].files[0].cached_version = 1;
+    }),
+    ("D1", &[], |service| service.clients[0].files[0].copies.dirty[3] = true),
+    ("D2", &[], |service| service.clients[0].files[0].copies.dirty[3] = true),
+    ("D3", &[], |service| {
+        let file = &mut service.clients[0].files[0];
+        file.cached_version = 1;
+        file.copies.held[3] = true;
+        file.copies.values[3] = 7;
+    }),
+    ("D4", &[], |service| service.server.entries[0].blocks[3] = 7),
+    ("WS", &[], |service| service.server.entries[0].waiting = waiting(0, 0)),
+    ("W6", &[], |service| {
+        service.server.entries[0].version = u32::MAX;
+        service.server.entries[0].waiting = waiting(0, 1);
+    }),
+];
+
+#[test]
+fn every_clause_notices_a_spoilt_service() {
+    assert_eq!(SPOILT.map(|(clause, ..)| clause), CLAUSES.map(|(clause, _)| clause));
+    for (clause, steps, spoil) in SPOILT {
+        let mut run = Run::of(steps);
+        spoil(&mut run.service);
+        assert!(broken_clauses(&run.service, &run.demand3, 0..1).any(|broken| broken == (clause, 0)), "{clause}");
+    }
+}

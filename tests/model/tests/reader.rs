@@ -1,0 +1,85 @@
+//! The reader against a plain one, which splits lines at spaces and takes numbers that print as they were written.
+
+use model::generate::{FileKind, step_file};
+use model::{LONGEST_STEP, Mode, Step, read_line};
+
+fn plainly_read(line: &[u8]) -> Option<Step> {
+    let mut fields = str::from_utf8(line).ok()?.split(' ');
+    let word = fields.next()?;
+    let numbers: Vec<u64> = fields.map(number).collect::<Option<_>>()?;
+    Some(match (word, numbers[..].iter().as_slice()) {
+        ("OR", &[client, file]) => Step::Open { mode: Mode::Read, client, file },
+        ("OW", &[client, file]) => Step::Open { mode: Mode::Write, client, file },
+        ("CR", &[client, file]) => Step::Close { mode: Mode::Read, client, file },
+        ("CW", &[client, file]) => Step::Close { mode: Mode::Write, client, file },
+        ("AN", &[client, file]) => Step::Reply { client, file },
+        ("RD", &[client, file, block]) => Step::Read { client, file, block },
+        ("FL", &[client, file, block]) => Step::Flush { client, file, block },
+        ("WR", &[client, file, block, value]) => Step::Write { client, file, block, value },
+        ("XX", &[]) => Step::Crash,
+        ("RP", &[client]) => Step::Report { client },
+        ("EN", &[]) => Step::End,
+        _ => return None,
+    })
+}
+
+fn number(field: &str) -> Option<u64> {
+    let value: u64 = field.parse().ok()?;
+    (value.to_string() == field).then_some(value)
+}
+
+fn assert_read_alike(line: &[u8]) {
+    let plain = plainly_read(line);
+    assert_eq!(read_line(line), (plain, line.len()), "{}", line.escape_ascii());
+    let with_lf = [line, b"\nOR 0 0\n"].concat();
+    assert_eq!(read_line(&with_lf), (plain, line.len() + 1), "{}", line.escape_ascii());
+}
+
+#[test]
+fn generated_lines_are_read_alike() {
+    let mut steps = 0;
+    for seed in 0..20 {
+        for line in step_file(FileKind::Malformed, seed, 2000).split(|&byte| byte == b'\n') {
+            assert_read_alike(line);
+            steps += usize::from(plainly_read(line).is_some());
+        }
+    }
+    assert!(steps > 10_000);
+}
+
+/// Every line of up to three bytes from those that matter.
+#[test]
+fn short_lines_are_read_alike() {
+    let bytes = b"XENRPODW 019\t\r\0";
+    assert_read_alike(b"");
+    for &first in bytes {
+        assert_read_alike(&[first]);
+        for &second in bytes {
+            assert_read_alike(&[first, second]);
+            for &third in bytes {
+                assert_read_alike(&[first, second, third]);
+            }
+        }
+    }
+}
+
+#[test]
+fn numbers_about_powers_of_ten_and_two_are_read_alike() {
+    for exponent in 0..40 {
+        for base in [2u128, 10] {
+            let Some(power) = base.checked_pow(exponent * if base == 2 { 3 } else { 1 }) else { continue };
+            for value in [power - 1, power, power + 1] {
+                assert_read_alike(format!("OR {value} 0").as_bytes());
+                assert_read_alike(format!("WR 0 0 0 {value}").as_bytes());
+            }
+        }
+    }
+}
+
+#[test]
+fn the_longest_step_has_86_bytes() {
+    let max = u64::MAX;
+    let longest = format!("WR {max} {max} {max} {max}");
+    assert_eq!(longest.len(), LONGEST_STEP);
+    assert!(matches!(read_line(longest.as_bytes()), (Some(Step::Write { value: u64::MAX, .. }), LONGEST_STEP)));
+}
