@@ -61,16 +61,10 @@ pub fn count_others(records: [ClientRecord; 8], property: Property, client: usiz
     let mut i = 0;
     while i < 8 {
         let counted = records[i];
-        count += one_if(is_other(i, client, counted, property));
+        count += one_if((i != client) & has(counted, property));
         i += 1;
     }
     count
-}
-
-fn is_other(i: usize, client: usize, counted: ClientRecord, property: Property) -> bool
-    ensures { λ r. ⌜ r ≡ (not (eqb i client) && has property counted) ⌝ }
-{
-    (i != client) & has(counted, property)
 }
 
 pub fn state_of(records: [ClientRecord; 8], last: u8) -> FileState

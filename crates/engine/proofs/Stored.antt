@@ -1,15 +1,15 @@
--- The list that a loop of stores leaves, turn by turn. Assumes nothing.
-use mathlib.Core.Path.{_≡_, refl, ap, sym, _∙_}
+-- The blocks of one file, as a loop that drops or sends them leaves them, turn by turn. Assumes nothing.
+use mathlib.Core.Path.{_≡_, refl, ap, _∙_}
 use mathlib.Core.Bool.{Bool, true, false, cond}
 use mathlib.Core.List.{List}
-use Prim.Native.Nat.{ℕ, zero, suc, _+_, _<_, _≤_}
+use Prim.Native.Nat.{ℕ, _+_}
 use native.Mathlib.Numerals.{add-one}
 use native.Mathlib.Omega.{arith}
-use lib.ListN.{length, getD, set, length-set}
-use lib.Seq.{getD-set-other}
+use lib.ListN.{getD, set}
 use Rattle.protocol.specs.Sizes.{blocks}
 use Rattle.protocol.specs.Lists.{stored}
 use Rattle.protocol.specs.Client.{kept, sent}
+use Rattle.protocol.proofs.Storing.{getD-stored-other}
 
 pub stored-none {ℓ} : {A : Type ℓ} (place : ℕ → ℕ) (value : ℕ → A) (l : List A) → l ≡ stored 0 place value l
 unfolding stored
@@ -21,12 +21,6 @@ pub stored-next {ℓ} :
     → set m (place n) (value n) ≡ stored (n + 1) place value l
 unfolding stored
 stored-next n place value l m e = rw (e, add-one)
-
-pub length-stored {ℓ} :
-    {A : Type ℓ} (n : ℕ) (place : ℕ → ℕ) (value : ℕ → A) (l : List A) → length (stored n place value l) ≡ length l
-unfolding stored
-length-stored zero place value l = refl
-length-stored (suc n) place value l = length-set (stored n place value l) (place n) (value n) ∙ length-stored n place value l
 
 -- a list that is kept, and one whose places a loop has stored
 pub kept-whole {ℓ} :
@@ -41,17 +35,6 @@ pub kept-none {ℓ} :
     → m ≡ kept keep none base l
 kept-none keep none base n l m e q h = rw (e, ← q) h
 
--- a place that no turn has reached has what it had
-pub stored-later {ℓ} :
-    {A : Type ℓ} (n m to : ℕ) (value : ℕ → A) (l : List A) (d : A)
-    → n ≤ m
-    → getD (stored n (λ k. to + k) value l) (to + m) d ≡ getD l (to + m) d
-unfolding stored
-stored-later zero m to value l d h = refl
-stored-later (suc n) m to value l d h =
-    getD-set-other (stored n (λ k. to + k) value l) (to + n) (to + m) (value n) d (omega arith)
-    ∙ stored-later n m to value l d (omega arith)
-
 -- one more block is sent: what stood at the server's place is what stood there before the loop
 pub sent-next :
     (n base to : ℕ) (dirty : List Bool) (copies l m : List ℕ) (x : ℕ)
@@ -61,7 +44,7 @@ pub sent-next :
     ≡ stored (n + 1) (λ k. to + k) (λ k. cond (getD dirty (base + k) false) (getD copies (base + k) 0) (getD l (to + k) 0)) l
 sent-next n base to dirty copies l m x e q =
     let value : ℕ → ℕ = λ k. cond (getD dirty (base + k) false) (getD copies (base + k) 0) (getD l (to + k) 0) in
-    let same : getD m (to + n) 0 ≡ getD l (to + n) 0 = rw e (stored-later n n to value l 0 (omega arith)) in
+    let same : getD m (to + n) 0 ≡ getD l (to + n) 0 = rw e (getD-stored-other n (λ k. to + k) value l 0 (to + n) (λ k lt. omega arith)) in
     ap (λ (y : ℕ). set m (to + n) y)
     (q ∙ ap (λ (y : ℕ). cond (getD dirty (base + n) false) (getD copies (base + n) 0) y) same)
     ∙ stored-next n (λ k. to + k) value l m e

@@ -116,7 +116,8 @@ pub fn close_ends(
     }
 }
 
-// What an answer leaves of the entry and of the client's side of the file, before the waiting open is granted; the kind
+// What an answer leaves of the entry and of the client's side of the file, before the waiting open is granted; the
+// kind
 // is that of the callback that is answered, 0 where the step is refused.
 pub struct CallAnswer {
     pub entry: Entry,

@@ -1,5 +1,5 @@
--- Counting: `count n p` is how many of the numbers below n have the property p, and a loop that counts them one by one. Assumes
--- nothing.
+-- Counting: `count n p` is how many of the numbers below n have the property p. Its laws, and a loop that counts one by
+-- one. Assumes nothing.
 use Prim.Native.Nat.{ℕ, zero, suc, _+_, _≤_, _<_}
 use mathlib.Core.Path.{_≡_, refl, ap, _∙_}
 use mathlib.Core.Bool.{Bool, true, false, cond}
@@ -39,7 +39,8 @@ unfolding count
 counted-none = record { passed = omega arith; counts = refl }
 
 -- a turn: b is the test of i, and k what it adds
-module _ {n : ℕ} {p : ℕ → Bool} {x i k : ℕ} {b : Bool} (h : Counted n p x i) (more : i < n) (test : b ≡ p i) (adds : k ≡ cond b 1 0) where
+module _ {n : ℕ} {p : ℕ → Bool} {x i k : ℕ} {b : Bool}
+    (h : Counted n p x i) (more : i < n) (test : b ≡ p i) (adds : k ≡ cond b 1 0) where
   pub counted-next : Counted n p (x + k) (i + 1)
   counted-next = record { passed = omega arith; counts = cc (count-next i p) }
 

@@ -1,7 +1,7 @@
--- Storing: `stored n place value l` is the list l with value k stored at place k for each k below n, and a loop that stores them one by
--- one. Assumes nothing.
+-- Storing: `stored n place v l` is the list l with v k stored at place k for each k below n. Its laws, and a loop that
+-- stores one by one. Assumes nothing.
 use Prim.Native.Nat.{ℕ, zero, suc, _+_, _≤_, _<_}
-use mathlib.Core.Path.{_≡_, refl, sym, ap, _∙_}
+use mathlib.Core.Path.{_≡_, refl, ap, _∙_}
 use mathlib.Core.List.{List}
 use mathlib.Core.Logic.{_≢_, ⊎-elim}
 use native.Mathlib.Nat.{eq-or-lt-of-le, le-of-suc-le-suc}
@@ -12,44 +12,53 @@ use lib.Seq.{getD-set-same, getD-set-other, set-getD}
 use Rattle.protocol.specs.Lists.{stored}
 
 module _ {ℓ} {A : Type ℓ} where
-  pub stored-next : (n : ℕ) (place : ℕ → ℕ) (value : ℕ → A) (l : List A) → stored (n + 1) place value l ≡ set (stored n place value l) (place n) (value n)
+  pub stored-next : (n : ℕ) (place : ℕ → ℕ) (v : ℕ → A) (l : List A)
+      → stored (n + 1) place v l ≡ set (stored n place v l) (place n) (v n)
   unfolding stored
-  stored-next n place value l = rw add-one
+  stored-next n place v l = rw add-one
 
-  pub length-stored : (n : ℕ) (place : ℕ → ℕ) (value : ℕ → A) (l : List A) → length (stored n place value l) ≡ length l
+  pub length-stored : (n : ℕ) (place : ℕ → ℕ) (v : ℕ → A) (l : List A) → length (stored n place v l) ≡ length l
   unfolding stored
-  length-stored zero place value l = refl
-  length-stored (suc n) place value l = rw (length-set, length-stored n place value l)
+  length-stored zero place v l = refl
+  length-stored (suc n) place v l = rw (length-set, length-stored n place v l)
 
   -- values that agree below n
-  pub stored-agree : (n : ℕ) (place : ℕ → ℕ) (v w : ℕ → A) (l : List A) → ((k : ℕ) → k < n → v k ≡ w k) → stored n place v l ≡ stored n place w l
+  pub stored-agree : (n : ℕ) (place : ℕ → ℕ) (v w : ℕ → A) (l : List A)
+      → ((k : ℕ) → k < n → v k ≡ w k) → stored n place v l ≡ stored n place w l
   unfolding stored
   stored-agree zero place v w l same = refl
-  stored-agree (suc n) place v w l same = rw (stored-agree n place v w l (λ k h. same k (omega arith)), same n (omega arith))
+  stored-agree (suc n) place v w l same =
+      rw (stored-agree n place v w l (λ k h. same k (omega arith)), same n (omega arith))
 
   -- storing what stands there already
-  pub stored-same : (n : ℕ) (place : ℕ → ℕ) (v : ℕ → A) (l : List A) (d : A) → ((k : ℕ) → k < n → v k ≡ getD l (place k) d) → stored n place v l ≡ l
+  pub stored-same : (n : ℕ) (place : ℕ → ℕ) (v : ℕ → A) (l : List A) (d : A)
+      → ((k : ℕ) → k < n → v k ≡ getD l (place k) d) → stored n place v l ≡ l
   unfolding stored
   stored-same zero place v l d same = refl
-  stored-same (suc n) place v l d same = rw (stored-same n place v l d (λ k h. same k (omega arith)), same n (omega arith), set-getD)
+  stored-same (suc n) place v l d same =
+      rw (stored-same n place v l d (λ k h. same k (omega arith)), same n (omega arith), set-getD)
 
-  -- what stands at a place to which nothing was stored
-  pub getD-stored-other : (n : ℕ) (place : ℕ → ℕ) (v : ℕ → A) (l : List A) (d : A) (j : ℕ) → ((k : ℕ) → k < n → j ≢ place k) → getD (stored n place v l) j d ≡ getD l j d
+  -- what stands at j, where nothing was stored
+  pub getD-stored-other : (n : ℕ) (place : ℕ → ℕ) (v : ℕ → A) (l : List A) (d : A) (j : ℕ)
+      → ((k : ℕ) → k < n → j ≢ place k) → getD (stored n place v l) j d ≡ getD l j d
   unfolding stored
   getD-stored-other zero place v l d j off = refl
   getD-stored-other (suc n) place v l d j off =
       getD-set-other (stored n place v l) (place n) j (v n) d (off n (omega arith))
       ∙ getD-stored-other n place v l d j (λ k h. off k (omega arith))
 
-  -- what stands at place i, where no later value was stored to the same place
-  pub getD-stored : (n : ℕ) (place : ℕ → ℕ) (v : ℕ → A) (l : List A) (d : A) (i : ℕ) → i < n → place i < length l → ((k : ℕ) → i < k → k < n → place i ≢ place k) → getD (stored n place v l) (place i) d ≡ v i
+  -- what stands at place i, where nothing was stored later
+  pub getD-stored : (n : ℕ) (place : ℕ → ℕ) (v : ℕ → A) (l : List A) (d : A) (i : ℕ)
+      → i < n → place i < length l → ((k : ℕ) → i < k → k < n → place i ≢ place k)
+      → getD (stored n place v l) (place i) d ≡ v i
   unfolding stored
   getD-stored zero place v l d i h r off = absurd (omega arith)
   getD-stored (suc n) place v l d i h r off =
       ⊎-elim
       (λ (e : i ≡ n). rw e (getD-set-same (stored n place v l) (place n) (v n) d (rw length-stored (rw e at r))))
-      (λ (lt : i < n). getD-set-other (stored n place v l) (place n) (place i) (v n) d (off n lt (omega arith))
-      ∙ getD-stored n place v l d i lt r (λ k a b. off k a (omega arith)))
+      (λ (less : i < n).
+      getD-set-other (stored n place v l) (place n) (place i) (v n) d (off n less (omega arith))
+      ∙ getD-stored n place v l d i less r (λ k a b. off k a (omega arith)))
       (eq-or-lt-of-le (le-of-suc-le-suc h))
 
 -- The invariant of a loop that stores up to n: i values are stored into l₀, which gives l.
@@ -62,7 +71,8 @@ module _ {ℓ} {A : Type ℓ} {n : ℕ} {place : ℕ → ℕ} {v : ℕ → A} {l
   unfolding stored
   stored-none = record { passed = omega arith; stores = refl }
 
-  pub stored-more : {l : List A} {i : ℕ} {w : A} → Stored n place v l₀ l i → i < n → w ≡ v i → Stored n place v l₀ (set l (place i) w) (i + 1)
+  pub stored-more : {l : List A} {i : ℕ} {w : A}
+      → Stored n place v l₀ l i → i < n → w ≡ v i → Stored n place v l₀ (set l (place i) w) (i + 1)
   stored-more {i = i} h more e = record { passed = omega arith; stores = cc (stored-next i place v l₀) }
 
   pub stored-all : {l : List A} {i : ℕ} → Stored n place v l₀ l i → n ≤ i → l ≡ stored n place v l₀

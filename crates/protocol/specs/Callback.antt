@@ -13,7 +13,8 @@ use Rattle.protocol.specs.Lists.{stored}
 use Rattle.records.specs.Record.{isOpen, keepsPermission}
 use Rattle.protocol.specs.State.{stateOf}
 
--- The table of document 01, "Opening": what a client other than the opener is called for, from its record and whether it is the
+-- The table of document 01, "Opening": what a client other than the opener is called for, from its record and whether
+-- it is the
 -- last writer.
 abbrev pub callbackKind : FileState → Mode → ClientRecord → Bool → ℕ
 callbackKind Closed m r isLast = 0
@@ -28,7 +29,8 @@ callbackKind MultReaders Write r isLast = cond (isOpen r) 2 0
 callbackKind OneWriter m r isLast = cond (isOpen r) 3 0
 callbackKind WriteShared m r isLast = cond (isOpen r && r .caching) 2 0
 
--- The callback that client i is due when the opener opens in the mode: none to the opener, and none where the opener keeps its
+-- The callback that client i is due when the opener opens in the mode: none to the opener, and none where the opener
+-- keeps its
 -- permission.
 abbrev pub callbackDue : ℕ → (ℕ → ClientRecord) → ℕ → ℕ → Mode → ℕ → ℕ
 callbackDue n r last opener mode i =

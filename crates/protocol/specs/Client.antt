@@ -1,4 +1,5 @@
--- A client's side of one file: its own record, its last-writer flag (document 01: mark) and the version of its copy (label), and how a
+-- A client's side of one file: its own record, its last-writer flag (document 01: mark) and the version of its copy
+-- (label), and how a
 -- grant, a close and an answer change them and the copies of its blocks.
 use Prim.Native.Nat.{ℕ, _+_}
 use mathlib.Core.Bool.{Bool, true, false, cond, not, _&&_, _||_}
@@ -29,7 +30,8 @@ grantedClient mode g own =
 abbrev pub keepsBlocks : Mode → Grant → ClientFile → Bool
 keepsBlocks mode g own = g .caching && keepsCopy mode (own .cached) (g .latest)
 
--- "If that was the last writer count and the station may cache, it becomes .. marked. A final close takes its permission away; its
+-- "If that was the last writer count and the station may cache, it becomes .. marked. A final close takes its
+-- permission away; its
 -- copy stays."
 abbrev pub closedClient : Mode → ClientFile → ClientFile
 closedClient mode own =
@@ -48,19 +50,22 @@ answeredClient kind own =
       cached = cond (invalidates kind) (versionOf 0) (own .cached);
     }
 
--- A read "needs the server .. unless the station is open, may cache and holds the block", a write "unless it has writers and may cache".
+-- A read "needs the server .. unless the station is open, may cache and holds the block", a write "unless it has
+-- writers and may cache".
 abbrev pub readNeedsServer : ClientFile → Bool → Bool
 readNeedsServer own held = not (isOpen (own .opens) && own .opens .caching && held)
 
 abbrev pub writeNeedsServer : ClientFile → Bool
 writeNeedsServer own = not (ltb 0 (own .opens .writers) && own .opens .caching)
 
--- "A dropped block is not held, not dirty and zero": the values, or the flags, of one file's blocks from `base` on, with none in
+-- "A dropped block is not held, not dirty and zero": the values, or the flags, of one file's blocks from `base` on,
+-- with none in
 -- each place, unless they are kept.
 abbrev pub kept {ℓ} : {A : Type ℓ} → Bool → A → ℕ → List A → List A
 kept keep none base l = cond keep l (stored blocks (λ b. base + b) (λ b. none) l)
 
--- "1 sends every dirty block": the server's blocks from `to` on, after the dirty ones of the copies from `base` on have come.
+-- "1 sends every dirty block": the server's blocks from `to` on, after the dirty ones of the copies from `base` on
+-- have come.
 abbrev pub sent : Bool → List Bool → List ℕ → ℕ → ℕ → List ℕ → List ℕ
 sent send dirty copies base to l =
     cond send

@@ -1,4 +1,5 @@
--- The server's side of one file: the entry of the state table, and how an open, a grant, a close, an answer, a crash and a report
+-- The server's side of one file: the entry of the state table, and how an open, a grant, a close, an answer, a crash
+-- and a report
 -- change it. n is the number of clients.
 use Prim.Native.Nat.{ℕ}
 use mathlib.Core.Bool.{Bool, cond}
@@ -68,7 +69,8 @@ grantOf n e opener mode =
       caching = permissionAtGrant n (recordAt e) opener mode;
     }
 
--- "Grant: the count of that mode rises by 1. For write, the version rises by 1 and the last writer becomes none." A read open leaves
+-- "Grant: the count of that mode rises by 1. For write, the version rises by 1 and the last writer becomes none." A
+-- read open leaves
 -- both as they are stored. After a grant no open waits.
 abbrev pub grantedEntry : ℕ → Entry → ℕ → Mode → Grant → Entry
 grantedEntry n e opener mode g =
@@ -81,7 +83,8 @@ grantedEntry n e opener mode g =
       calls = replicate n 0;
     }
 
--- "Close in a mode lowers that count by 1. If that was the last writer count and the station may cache, it becomes last writer"
+-- "Close in a mode lowers that count by 1. If that was the last writer count and the station may cache, it becomes
+-- last writer"
 abbrev pub closedEntry : Entry → ℕ → Mode → Entry
 closedEntry e i mode =
     record {
@@ -110,7 +113,8 @@ abbrev pub crashedEntry : ℕ → Version → Entry
 crashedEntry n v =
     record { records = replicate n notOpen; version = v; last = nobody; waiter = nobody; mode = Read; calls = replicate n 0 }
 
--- "a station gives counts, permissions and marks for all files; the table takes them. If two claim one mark, the later stands."
+-- "a station gives counts, permissions and marks for all files; the table takes them. If two claim one mark, the
+-- later stands."
 abbrev pub reportedEntry : Entry → ℕ → ClientFile → Entry
 reportedEntry e i own =
     record {

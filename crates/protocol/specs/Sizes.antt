@@ -1,4 +1,5 @@
--- The sizes of the service, named once. "Stations 0 to 7, files 0 to 31, blocks 0 to 3 in each file." A station is called a client.
+-- The sizes of the service, named once. "Stations 0 to 7, files 0 to 31, blocks 0 to 3 in each file." A station is
+-- called a client.
 use Prim.Native.Nat.{ℕ, _+_, _*_}
 
 abbrev pub clients : ℕ

@@ -1,4 +1,5 @@
--- The state of a file: "Names, first that fits". The number of clients n and a function r from client to record are all that it looks
+-- The state of a file: "Names, first that fits". The number of clients n and a function r from client to record are
+-- all that it looks
 -- at, with the last writer, which is a client only below n.
 use Prim.Native.Nat.{ℕ}
 use mathlib.Core.Bool.{Bool, cond, not, _&&_}
@@ -39,8 +40,10 @@ tally n r p = count n (λ i. has p (r i))
 abbrev pub others : ℕ → (ℕ → ClientRecord) → Property → ℕ → ℕ
 others n r p i = count n (λ j. not (eqb j i) && has p (r j))
 
--- "0 CLOSED: none open, no last writer. 1 CLOSED_DIRTY: none open, a last writer. 6 WRITE_SHARED: some open station may not cache.
--- 5 ONE_WRITER: one open, writers above 0. 3 ONE_RDRDIRTY: one open, and it is the last writer. 2 ONE_READER: one open.
+-- "0 CLOSED: none open, no last writer. 1 CLOSED_DIRTY: none open, a last writer. 6 WRITE_SHARED: some open station
+-- may not cache.
+-- 5 ONE_WRITER: one open, writers above 0. 3 ONE_RDRDIRTY: one open, and it is the last writer. 2 ONE_READER: one
+-- open.
 -- 4 MULT_READERS: otherwise."
 unfoldable pub stateOf : ℕ → (ℕ → ClientRecord) → ℕ → FileState
 stateOf n r last =

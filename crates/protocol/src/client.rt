@@ -1,6 +1,7 @@
 // A client's side of one file: what it holds besides the copies of the blocks, and how its steps change it.
 ghost use mathlib.Core.Path.{_≡_};
-ghost use Rattle.protocol.specs.Client.{grantedClient, keepsBlocks, closedClient, answeredClient, readNeedsServer, writeNeedsServer};
+ghost use Rattle.protocol.specs.Client.{grantedClient, keepsBlocks, closedClient, answeredClient};
+ghost use Rattle.protocol.specs.Client.{readNeedsServer, writeNeedsServer};
 use crate::callback::invalidates;
 use crate::callback::writes_back;
 use crate::copy::keeps_copy;

@@ -1,4 +1,5 @@
-// The consistency protocol of one file: the types of both ends, the client's side, and the definitions of every rule of one file
+// The consistency protocol of one file: the types of both ends, the client's side, and the definitions of every rule
+// of one file
 // with the theorem that they keep it consistent. Nothing here knows of lists of files or of the whole service.
 mod callback;
 mod client;

@@ -1,4 +1,5 @@
--- Choosing by a test: `cond b x y` is x where b is true and y where it is false. Assumes nothing.
+-- Choosing by a test: `cond b x y` is x where b is true and y where it is false. `unless _ _ e ∙ when _ _ f` passes a
+-- chain of tests, with e and f by the lemmas of `borrow.Author.Tests`. Assumes nothing.
 use mathlib.Core.Path.{_≡_, refl, ap}
 use mathlib.Core.Bool.{Bool, true, false, cond, not}
 
@@ -12,7 +13,3 @@ module _ {ℓ} {A : Type ℓ} where
   pub cond-not : (b : Bool) (x y : A) → cond (not b) x y ≡ cond b y x
   cond-not true x y = refl
   cond-not false x y = refl
-
-  pub cond-same : (b : Bool) (x : A) → cond b x x ≡ x
-  cond-same true x = refl
-  cond-same false x = refl

@@ -1,4 +1,5 @@
--- One client's opens of one file: "readers 0 to 255, writers 0 to 255, may-cache". The permission to cache is the field `caching`.
+-- One client's opens of one file: "readers 0 to 255, writers 0 to 255, may-cache". The permission to cache is the
+-- field `caching`.
 use Prim.Native.Nat.{ℕ, _+_, _-_}
 use mathlib.Core.Bool.{Bool, true, false, cond, _&&_, _||_}
 use lib.Dec.{eqb, ltb}
@@ -22,7 +23,8 @@ abbrev pub countOf : Mode → ClientRecord → ℕ
 countOf Read r = r .readers
 countOf Write r = r .writers
 
--- "A station already open that opens for read, or that has writers and opens for either, causes no call and keeps its permission."
+-- "A station already open that opens for read, or that has writers and opens for either, causes no call and keeps its
+-- permission."
 abbrev pub keepsPermission : Mode → ClientRecord → Bool
 keepsPermission Read r = isOpen r
 keepsPermission Write r = ltb 0 (r .writers)

@@ -1,4 +1,5 @@
--- "A version of 32 bits (1 at the start)"; 0 labels no copy. "Version numbers are never compared with counts or block values":
+-- "A version of 32 bits (1 at the start)"; 0 labels no copy. "Version numbers are never compared with counts or block
+-- values":
 -- these functions alone make, read and compare one.
 use Prim.Native.Nat.{ℕ, _+_, _-_}
 use mathlib.Core.Bool.{Bool, cond}
@@ -32,7 +33,8 @@ nextVersion v = cond (isLastVersion v) v (versionOf (numberOf v + 1))
 abbrev pub previousVersion : Version → Version
 previousVersion v = versionOf (numberOf v - 1)
 
--- "For write, the version rises by 1": the latest version, once an open in this mode is granted at the stored version v
+-- "For write, the version rises by 1": the latest version, once an open in this mode is granted at the stored version
+-- v
 abbrev pub latestAt : Mode → Version → Version
 latestAt Read v = asRead v
 latestAt Write v = nextVersion (asRead v)

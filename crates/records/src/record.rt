@@ -3,8 +3,8 @@ ghost use mathlib.Core.Path.{_≡_};
 ghost use mathlib.Core.Bool.{cond};
 ghost use Prim.Native.Nat.{_-_};
 ghost use Rattle.records.specs.Record.{isWrite, isOpen, countOf, keepsPermission, leavesLastWriter};
-ghost use Rattle.records.specs.Record.{raised as raisedCount, opened as openedRecord, lowered as loweredRecord};
-ghost use Rattle.records.specs.Record.{settled as settledRecord, closed as closedRecord, uncached as uncachedRecord};
+ghost use Rattle.records.specs.Record.{raised as raisedCount, opened as openedRecord, closed as closedRecord};
+ghost use Rattle.records.specs.Record.{settled as settledRecord, uncached as uncachedRecord};
 
 // The mode of an open or a close. Opening for write means read and write.
 pub enum Mode {
@@ -96,23 +96,17 @@ impl ClientRecord {
     pub fn closed(self, mode: Mode) -> Self
         ensures { λ r. ⌜ r ≡ closedRecord mode self ⌝ }
     {
-        self.lowered(mode).settled()
-    }
-
-    fn lowered(self, mode: Mode) -> Self
-        ensures { λ r. ⌜ r ≡ loweredRecord mode self ⌝ }
-    {
         match mode {
             Mode::Read => ClientRecord {
                 readers: lowered(self.readers),
                 writers: self.writers,
                 caching: self.caching,
-            },
+            }.settled(),
             Mode::Write => ClientRecord {
                 readers: self.readers,
                 writers: lowered(self.writers),
                 caching: self.caching,
-            },
+            }.settled(),
         }
     }
 

@@ -1,8 +1,10 @@
-// The version of a file, and of a client's copy of it: 32 bits, 1 at the start, 0 for no copy. The field is private, so
+// The version of a file, and of a client's copy of it: 32 bits, 1 at the start, 0 for no copy. The field is private,
+// so
 // that no count and no block value can stand for a version.
 ghost use mathlib.Core.Path.{_≡_};
 ghost use mathlib.Core.Bool.{cond};
-ghost use Rattle.records.specs.Version.{versionOf, numberOf, asRead, nextVersion, previousVersion, isLastVersion, sameVersion, latestAt};
+ghost use Rattle.records.specs.Version.{versionOf, numberOf, asRead, nextVersion, previousVersion};
+ghost use Rattle.records.specs.Version.{isLastVersion, sameVersion, latestAt};
 use crate::record::Mode;
 
 pub struct Version(u32);
@@ -49,7 +51,7 @@ impl Version {
         ensures { λ r. ⌜ r ≡ previousVersion self ⌝ }
     {
         if self.0 == 0 {
-            Version(0)
+            self
         } else {
             Version(self.0 - 1)
         }

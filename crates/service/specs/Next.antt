@@ -61,7 +61,8 @@ afterClose s i f mode =
       dirty = s .dirty;
     }
 
--- "a station that may cache gives the held block, or fetches and holds it. Without permission the server's block is given and not held."
+-- "a station that may cache gives the held block, or fetches and holds it. Without permission the server's block is
+-- given and not held."
 abbrev pub fetches : Service → ℕ → ℕ → ℕ → Bool
 fetches s i f b = clientAt s i f .opens .caching && not (heldAt s i f b)
 
@@ -108,7 +109,8 @@ afterFlush s i f b =
       dirty = set (s .dirty) (cell i f b) false;
     }
 
--- A callback of the kind is answered, at both ends: "1 sends every dirty block, each then clean and still held ..; 2 drops the copy".
+-- A callback of the kind is answered, at both ends: "1 sends every dirty block, each then clean and still held ..; 2
+-- drops the copy".
 abbrev pub answered : Service → ℕ → ℕ → ℕ → Service
 answered s i f kind =
     record {
@@ -145,7 +147,8 @@ waiterGranted s f = granted s (waiterOf s f) f (entryAt s f .mode) (waitingGrant
 abbrev pub afterAnswer : Service → ℕ → ℕ → Service
 afterAnswer s i f = cond (lastAnswer s i f) (waiterGranted (callAnswered s i f) f) (callAnswered s i f)
 
--- "the server's readers, writers, permissions, last writers, waits and reports are lost; nothing at a station changes; recovery begins"
+-- "the server's readers, writers, permissions, last writers, waits and reports are lost; nothing at a station
+-- changes; recovery begins"
 abbrev pub crashed : Server → Server
 crashed v =
     record {

@@ -1,4 +1,5 @@
--- The outcome of a step, from any service: "A refusal gives only its number; server, stations and every lent buffer stay as they came."
+-- The outcome of a step, from any service: "A refusal gives only its number; server, stations and every lent buffer
+-- stay as they came."
 use Prim.Native.Nat.{ℕ}
 use mathlib.Core.Bool.{cond}
 use lib.Dec.{eqb}

@@ -1,4 +1,5 @@
-// The two ends together: the server with its state table and blocks, the clients with their copies, and the steps that
+// The two ends together: the server with its state table and blocks, the clients with their copies, and the steps
+// that
 // the service takes.
 mod outcome;
 mod server;

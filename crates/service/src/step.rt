@@ -19,7 +19,8 @@ use protocol::invalidates;
 use protocol::writes_back;
 
 impl Service {
-    // One step, from any service. The service is taken apart, each kind of step stores back what its parts give, and it is put
+    // One step, from any service. The service is taken apart, each kind of step stores back what its parts give, and
+    // it is put
     // together again; a refused step stores what stood there.
     pub fn step(self, step: Step) -> Outcome
         ensures { λ r. ⌜ r ≡ stepOf self step ⌝ }

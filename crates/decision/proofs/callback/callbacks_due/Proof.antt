@@ -1,11 +1,11 @@
--- `callbacks_due` meets its contract: none is due where the opener keeps its permission, and else after i clients theirs are stored.
--- Assumes nothing.
+-- `callbacks_due` meets its contract: none is due where the opener keeps its permission, and else after i clients theirs
+-- are stored. Assumes nothing.
 use Prim.Native.Nat.{_-_}
 use lib.Dec.{eqb}
 use lib.ListN.{replicate}
 use borrow.Author.Needs.{needs}
-use Rattle.protocol.specs.State.{recordIn}
 use Rattle.protocol.specs.Lists.{stored}
+use Rattle.protocol.specs.State.{recordIn}
 use Rattle.protocol.specs.Callback.{callbackDue}
 use Rattle.records.proofs.Choosing.{cond-not}
 use Rattle.protocol.proofs.Storing.{Stored, stored-none, stored-more, stored-all}
@@ -27,6 +27,7 @@ loop-again : tie.Need-loop-again Inv-loop μ-loop
 loop-again c =
     let t = c .before .before .before in
     let b = t .before .before .before in
+    let is-opener = eqb (t .before .loop .i) (b .before .before .before .args .opener) in
     stored-more (t .before .loop .inv) (t .loop-test .taken)
     (rw (
       c .kind-if .ensures,
@@ -35,7 +36,7 @@ loop-again c =
       ← b .before .before .record-of .ensures,
       ← b .before .keeps-permission .ensures,
       b .if1 .left,
-    ) (cond-not (eqb (t .before .loop .i) (b .before .before .before .args .opener)) _ 0))
+    ) (cond-not is-opener _ 0))
 
 pub callbacks-due-spec : {M : Type 1} → statement M
 callbacks-due-spec =

@@ -11,5 +11,5 @@ to-last-writer-spec =
     (search needs)
     (search needs)
     (search needs)
-    (λ c. cc)
-    (λ c. cc))
+    (λ c. rw (c .before .enum-told .given .1) (c .kind-if .ensures))
+    (λ c. rw (c .before .enum-told2 .given .1) (c .kind-if2 .ensures)))

@@ -12,4 +12,4 @@ to-reader-spec =
     (search needs)
     (search needs)
     (λ c. search needs)
-    (λ c. cc))
+    (λ c. rw (c .before .before .enum-told2 .given .1, c .kind-if .ensures, c .before .is-open .ensures)))

@@ -1,4 +1,5 @@
--- `permission_at_grant` meets its contract: an opener that keeps its permission keeps it, and else the three counts decide. Assumes nothing.
+-- `permission_at_grant` meets its contract: an opener that keeps its permission has it as before, and for any other the
+-- three counts decide. Assumes nothing.
 use borrow.Author.Needs.{needs}
 use Rattle.protocol.specs.Permission.{permissionAtGrant}
 use Rattle.decision.proofs.permission.permission_at_grant.Statement.{statement}

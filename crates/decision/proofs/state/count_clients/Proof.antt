@@ -16,7 +16,8 @@ abbrev μ-loop : tie.MeasureT-loop
 add-count : tie.Need-add-count Inv-loop μ-loop
 add-count c =
     let t = c .before .before .before in
-    omega (arith, counted-fits (t .before .loop .inv) (t .loop-test .taken) (c .before .has .ensures) (c .one-if .ensures))
+    let test = c .before .has .ensures in
+    omega (arith, counted-fits (t .before .loop .inv) (t .loop-test .taken) test (c .one-if .ensures))
 
 loop-again : tie.Need-loop-again Inv-loop μ-loop
 loop-again c =

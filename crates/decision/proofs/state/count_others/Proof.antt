@@ -1,6 +1,7 @@
 -- `count_others` meets its contract: after i clients the sum is the tally of the others among them. Assumes nothing.
 use Prim.Native.Nat.{_-_}
-use mathlib.Core.Bool.{not, _&&_}
+use mathlib.Core.Path.{ap}
+use mathlib.Core.Bool.{Bool, not, _&&_}
 use native.Mathlib.Omega.{arith}
 use lib.Dec.{eqb}
 use borrow.Author.Needs.{needs}
@@ -19,12 +20,16 @@ abbrev μ-loop : tie.MeasureT-loop
 add-count : tie.Need-add-count Inv-loop μ-loop
 add-count c =
     let t = c .before .before .before in
-    omega (arith, counted-fits (t .before .loop .inv) (t .loop-test .taken) (c .before .is-other .ensures) (c .one-if .ensures))
+    let other = not (eqb (t .before .loop .i) (t .before .before .args .client)) in
+    let test = ap (λ (b : Bool). other && b) (c .before .has .ensures) in
+    omega (arith, counted-fits (t .before .loop .inv) (t .loop-test .taken) test (c .one-if .ensures))
 
 loop-again : tie.Need-loop-again Inv-loop μ-loop
 loop-again c =
     let t = c .before .before .before in
-    counted-next (t .before .loop .inv) (t .loop-test .taken) (c .before .is-other .ensures) (c .one-if .ensures)
+    let other = not (eqb (t .before .loop .i) (t .before .before .args .client)) in
+    let test = ap (λ (b : Bool). other && b) (c .before .has .ensures) in
+    counted-next (t .before .loop .inv) (t .loop-test .taken) test (c .one-if .ensures)
 
 pub count-others-spec : {M : Type 1} → statement M
 count-others-spec =

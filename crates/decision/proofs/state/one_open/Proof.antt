@@ -18,27 +18,54 @@ returns-2 : tie.Need-returns-2
 unfolding stateOf
 returns-2 c =
     let b = c .before .before in
-    rw (b .before .before .pre, ← b .before .count-clients .ensures, le-ltb _ _ (b .if1 .left), ← c .before .count-clients2 .ensures, lt-ltb _ _ (c .if2 .taken))
+    rw (
+      b .before .before .pre,
+      ← b .before .count-clients .ensures,
+      le-ltb _ _ (b .if1 .left),
+      ← c .before .count-clients2 .ensures,
+      lt-ltb _ _ (c .if2 .taken),
+    )
 
 -- where it may cache and has no writers, it is a reader
-a-reader : (c : tie.Else2) → (let a = c .before .before .before .before .args in stateOf 8 (recordIn (a .records)) (a .last) ≡ cond (ltb (a .last) 8 && isOpen (recordIn (a .records) (a .last))) OneReaderDirty OneReader)
+a-reader : (c : tie.Else2)
+    → (let a = c .before .before .before .before .args in
+    stateOf 8 (recordIn (a .records)) (a .last)
+    ≡ cond (ltb (a .last) 8 && isOpen (recordIn (a .records) (a .last))) OneReaderDirty OneReader)
 unfolding stateOf
 a-reader c =
     let b = c .before .before in
-    rw (b .before .before .pre, ← b .before .count-clients .ensures, le-ltb _ _ (b .if1 .left), ← c .before .count-clients2 .ensures, le-ltb _ _ (c .if2 .left))
+    rw (
+      b .before .before .pre,
+      ← b .before .count-clients .ensures,
+      le-ltb _ _ (b .if1 .left),
+      ← c .before .count-clients2 .ensures,
+      le-ltb _ _ (c .if2 .left),
+    )
 
 returns-3 : tie.Need-returns-3
 returns-3 c = rw (a-reader (c .before), le-ltb _ _ (c .if3 .taken))
 
 returns-4 : tie.Need-returns-4
 returns-4 c =
-    let b = c .before .before .before in
-    rw (a-reader (b .before), lt-ltb _ _ (b .if3 .left), ← c .before .before .record-of .ensures, ← c .before .is-open .ensures, c .if4 .taken)
+    let b = c .before .before in
+    rw (
+      a-reader (b .before .before),
+      lt-ltb _ _ (b .before .if3 .left),
+      ← b .record-of .ensures,
+      ← c .before .is-open .ensures,
+      c .if4 .taken,
+    )
 
 returns-5 : tie.Need-returns-5
 returns-5 c =
-    let b = c .before .before .before in
-    rw (a-reader (b .before), lt-ltb _ _ (b .if3 .left), ← c .before .before .record-of .ensures, ← c .before .is-open .ensures, c .if4 .left)
+    let b = c .before .before in
+    rw (
+      a-reader (b .before .before),
+      lt-ltb _ _ (b .before .if3 .left),
+      ← b .record-of .ensures,
+      ← c .before .is-open .ensures,
+      c .if4 .left,
+    )
 
 pub one-open-spec : {M : Type 1} → statement M
 one-open-spec =

@@ -1,4 +1,5 @@
--- `state_of` meets its contract. Assumes nothing.
+-- `state_of` meets its contract: the count of the clients that are open, none, one or more, leaves few of the tests.
+-- Assumes nothing.
 use borrow.Author.Tests.{lt-ltb, le-ltb, lt-leb, le-leb, ne-eqb}
 use borrow.Author.Needs.{needs}
 use Rattle.protocol.specs.State.{stateOf}
@@ -17,13 +18,24 @@ returns-4 : tie.Need-returns-4
 unfolding stateOf
 returns-4 c =
     let b = c .before .before in
-    rw (← b .before .count-clients .ensures, ne-eqb _ _ (b .match .rest .0 .1), ← c .before .count-clients2 .ensures, lt-ltb _ _ (c .if2 .taken))
+    rw (
+      ← b .before .count-clients .ensures,
+      ne-eqb _ _ (b .match .rest .0 .1),
+      ← c .before .count-clients2 .ensures,
+      lt-ltb _ _ (c .if2 .taken),
+    )
 
 returns-5 : tie.Need-returns-5
 unfolding stateOf
 returns-5 c =
     let b = c .before .before in
-    rw (← b .before .count-clients .ensures, ne-eqb _ _ (b .match .rest .0 .1), ne-eqb _ _ (b .match .rest .1), ← c .before .count-clients2 .ensures, le-ltb _ _ (c .if2 .left))
+    rw (
+      ← b .before .count-clients .ensures,
+      ne-eqb _ _ (b .match .rest .0 .1),
+      ne-eqb _ _ (b .match .rest .1),
+      ← c .before .count-clients2 .ensures,
+      le-ltb _ _ (c .if2 .left),
+    )
 
 pub state-of-spec : {M : Type 1} → statement M
 state-of-spec =

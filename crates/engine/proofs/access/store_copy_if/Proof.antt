@@ -1,22 +1,17 @@
+-- `store_copy_if` meets its contract: where it does not store, nothing changes. Assumes nothing.
 use borrow.Author.Needs.{needs}
 use Rattle.engine.proofs.access.store_copy_if.Statement.{statement}
 use Rattle.engine.proofs.access.store_copy_if.Tie as tie
-use Rattle.engine.proofs.access.store_copy_if.Reads as reads
-use Rattle.engine.proofs.access.store_copy_if.Lts as lts
 
--- src/access.rt:42:9
 mul-copies : tie.Need-mul-copies
 mul-copies c = search needs
 
--- src/access.rt:42:9
 element-write-copies : tie.Need-element-write-copies
 element-write-copies c = search needs
 
--- src/access.rt:37:1
 returns : tie.Need-returns
 returns c = rw (c .if1 .taken)
 
--- src/access.rt:37:1
 returns-2 : tie.Need-returns-2
 returns-2 c = search needs
 

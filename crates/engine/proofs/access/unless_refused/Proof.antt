@@ -1,14 +1,11 @@
+-- `unless_refused` meets its contract: the test of the refusal is that of the definition. Assumes nothing.
 use borrow.Author.Tests.{eq-eqb, ne-eqb}
 use Rattle.engine.proofs.access.unless_refused.Statement.{statement}
 use Rattle.engine.proofs.access.unless_refused.Tie as tie
-use Rattle.engine.proofs.access.unless_refused.Reads as reads
-use Rattle.engine.proofs.access.unless_refused.Lts as lts
 
--- src/access.rt:27:1
 returns : tie.Need-returns
 returns c = rw (eq-eqb _ _ (c .if1 .taken))
 
--- src/access.rt:27:1
 returns-2 : tie.Need-returns-2
 returns-2 c = rw (ne-eqb _ _ (c .if1 .left))
 

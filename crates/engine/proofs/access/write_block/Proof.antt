@@ -1,51 +1,34 @@
+-- `write_block` meets its contract: what the tests and the stores give is a write, by `write-done`. Assumes nothing.
 use denote.Ref.{now}
 use Rattle.engine.proofs.Accessed.{write-done}
 use borrow.Author.Needs.{needs}
 use Rattle.engine.proofs.access.write_block.Statement.{statement}
 use Rattle.engine.proofs.access.write_block.Tie as tie
-use Rattle.engine.proofs.access.write_block.Reads as reads
-use Rattle.engine.proofs.access.write_block.Lts as lts
-use Rattle.engine.proofs.access.cell_of.Reads as cell-of-reads
-use Rattle.engine.proofs.access.place_of.Reads as place-of-reads
-use Rattle.engine.proofs.access.store_block_if.Reads as store-block-if-reads
-use Rattle.engine.proofs.access.store_copy_if.Reads as store-copy-if-reads
-use Rattle.engine.proofs.access.store_flag_if.Reads as store-flag-if-reads
-use Rattle.engine.proofs.access.unless_refused.Reads as unless-refused-reads
-use Rattle.engine.proofs.refusal.write_refusal.Reads as write-refusal-reads
 
--- src/access.rt:114:9
 cell-of-requires : tie.Need-cell-of-requires
 cell-of-requires c κs = search needs
 
--- src/access.rt:115:9
 place-of-requires : tie.Need-place-of-requires
 place-of-requires c κs = search needs
 
--- src/access.rt:117:9
 write-refusal-requires : tie.Need-write-refusal-requires
 write-refusal-requires c κs = search needs
 
--- src/access.rt:119:5
 store-block-if-requires : tie.Need-store-block-if-requires
 store-block-if-requires c κs = search needs
 
--- src/access.rt:120:5
 store-copy-if-requires : tie.Need-store-copy-if-requires
 store-copy-if-requires c κs = search needs
 
--- src/access.rt:121:5
 store-flag-if-requires : tie.Need-store-flag-if-requires
 store-flag-if-requires c κs = search needs
 
--- src/access.rt:122:5
 store-flag-if-requires-2 : tie.Need-store-flag-if-requires-2
 store-flag-if-requires-2 c κs = search needs
 
--- src/access.rt:123:5
 unless-refused-requires : tie.Need-unless-refused-requires
 unless-refused-requires c κs = search needs
 
--- src/access.rt:96:1
 returns : tie.Need-returns
 returns c =
     let soiled = c .before in

@@ -1,4 +1,4 @@
--- `engine::blocks::clean_unless` meets its contract: after b turns the flags are those with b of them stored. Assumes nothing.
+-- `clean_unless` meets its contract: after b turns the flags are those with b of them stored. Assumes nothing.
 use Prim.Native.Nat.{ℕ, _+_, _-_, _≤_}
 use mathlib.Core.Path.{_≡_, refl, ap, _∙_}
 use mathlib.Core.Bool.{false}

@@ -1,4 +1,4 @@
--- `engine::blocks::drop_copies_unless` meets its contract: after b turns both lists are those with b places stored. Assumes nothing.
+-- `drop_copies_unless` meets its contract: after b turns both lists are those with b places stored. Assumes nothing.
 use Prim.Native.Nat.{ℕ, _+_, _-_, _≤_}
 use mathlib.Core.Path.{_≡_}
 use mathlib.Core.Bool.{false}

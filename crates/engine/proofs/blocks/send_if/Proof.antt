@@ -1,4 +1,4 @@
--- `engine::blocks::send_if` meets its contract: after b turns b of the server's blocks are stored, each the client's where that is
+-- `send_if` meets its contract: after b turns b of the server's blocks are stored, each the client's where that is
 -- dirty. Assumes nothing.
 use Prim.Native.Nat.{ℕ, _+_, _-_, _≤_}
 use mathlib.Core.Path.{_≡_}

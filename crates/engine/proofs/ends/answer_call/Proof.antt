@@ -1,20 +1,13 @@
+-- `answer_call` meets its contract: refused or done. Assumes nothing.
 use mathlib.Core.Path.{refl}
 use Rattle.engine.proofs.Ended.{client-there, answer-refused, answer-done}
 use borrow.Author.Needs.{needs}
 use Rattle.engine.proofs.ends.answer_call.Statement.{statement}
 use Rattle.engine.proofs.ends.answer_call.Tie as tie
-use Rattle.engine.proofs.ends.answer_call.Reads as reads
-use Rattle.engine.proofs.ends.answer_call.Lts as lts
-use Rattle.engine.proofs.refusal.answer_refusal.Reads as answer-refusal-reads
-use Rattle.protocol.proofs.client.ClientFile.answered.Reads as answered-reads
-use Rattle.table.proofs.answered_entry.Reads as answered-entry-reads
-use Rattle.table.proofs.call_to.Reads as call-to-reads
 
--- src/ends.rt:110:9
 answer-refusal-requires : tie.Need-answer-refusal-requires
 answer-refusal-requires c κs = search needs
 
--- src/ends.rt:112:9
 returns : tie.Need-returns
 returns c =
     let tested = c .before in
@@ -24,22 +17,18 @@ returns c =
     (c .if1 .taken)
     refl
 
--- src/ends.rt:119:9
 call-to-requires : tie.Need-call-to-requires
 call-to-requires c κs = search needs
 
--- src/ends.rt:121:16
 answered-entry-requires : tie.Need-answered-entry-requires
 answered-entry-requires c κs =
     let passed = c .before in
     let tested = passed .before in
     client-there (tested .before .args .client) (tested .answer-refusal .result) _ (tested .answer-refusal .ensures) (passed .if1 .left)
 
--- src/ends.rt:122:14
 answered-requires : tie.Need-answered-requires
 answered-requires c κs = search needs
 
--- src/ends.rt:107:1
 returns-2 : tie.Need-returns-2
 returns-2 c =
     let called = c .before .before in

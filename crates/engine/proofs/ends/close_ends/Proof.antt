@@ -1,23 +1,15 @@
+-- `close_ends` meets its contract: refused or done. Assumes nothing.
 use Rattle.engine.proofs.Ended.{client-there, close-refused, close-done}
 use borrow.Author.Needs.{needs}
 use Rattle.engine.proofs.ends.close_ends.Statement.{statement}
 use Rattle.engine.proofs.ends.close_ends.Tie as tie
-use Rattle.engine.proofs.ends.close_ends.Reads as reads
-use Rattle.engine.proofs.ends.close_ends.Lts as lts
-use Rattle.engine.proofs.ends.refused.Reads as refused-reads
-use Rattle.engine.proofs.refusal.close_refusal.Reads as close-refusal-reads
-use Rattle.protocol.proofs.client.ClientFile.closed.Reads as closed-reads
-use Rattle.table.proofs.closed_entry.Reads as closed-entry-reads
 
--- src/ends.rt:85:9
 close-refusal-requires : tie.Need-close-refusal-requires
 close-refusal-requires c κs = search needs
 
--- src/ends.rt:87:9
 refused-requires : tie.Need-refused-requires
 refused-requires c κs = search needs
 
--- src/ends.rt:87:9
 returns : tie.Need-returns
 returns c =
     let tested = c .before .before in
@@ -27,17 +19,14 @@ returns c =
     (c .before .if1 .taken)
     (c .refused .ensures)
 
--- src/ends.rt:90:16
 closed-entry-requires : tie.Need-closed-entry-requires
 closed-entry-requires c κs =
     let tested = c .before in
     client-there (tested .before .args .client) (tested .close-refusal .result) _ (tested .close-refusal .ensures) (c .if1 .left)
 
--- src/ends.rt:91:14
 closed-requires : tie.Need-closed-requires
 closed-requires c κs = search needs
 
--- src/ends.rt:82:1
 returns-2 : tie.Need-returns-2
 returns-2 c =
     let passed = c .before .before in

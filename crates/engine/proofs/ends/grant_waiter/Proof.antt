@@ -1,31 +1,23 @@
+-- `grant_waiter` meets its contract: the waiting open is granted where every test of `grantsWaiter` holds. Assumes nothing.
 use mathlib.Core.Path.{refl}
 use Rattle.engine.proofs.Ended.{waiter-stays, waiter-granted, no-call, no-waiter, calls-left, last-call}
 use borrow.Author.Needs.{needs}
 use Rattle.engine.proofs.ends.grant_waiter.Statement.{statement}
 use Rattle.engine.proofs.ends.grant_waiter.Tie as tie
-use Rattle.engine.proofs.ends.grant_waiter.Reads as reads
-use Rattle.engine.proofs.ends.grant_waiter.Lts as lts
-use Rattle.engine.proofs.ends.granted.Reads as granted-reads
-use Rattle.table.proofs.calls_out.Reads as calls-out-reads
-use Rattle.table.proofs.grant_of.Reads as grant-of-reads
 
--- src/ends.rt:140:9
 returns : tie.Need-returns
 returns c =
     let a = c .before .args in
     waiter-stays (a .entry) (a .own) (a .kind) (a .reply) _ (no-call (a .entry) (a .kind) (c .if1 .taken)) refl
 
--- src/ends.rt:144:9
 returns-2 : tie.Need-returns-2
 returns-2 c =
     let a = c .before .before .args in
     waiter-stays (a .entry) (a .own) (a .kind) (a .reply) _ (no-waiter (a .entry) (a .kind) (c .if2 .taken)) refl
 
--- src/ends.rt:146:8
 calls-out-requires : tie.Need-calls-out-requires
 calls-out-requires c κs = search needs
 
--- src/ends.rt:147:9
 returns-3 : tie.Need-returns-3
 returns-3 c =
     let counted = c .before in
@@ -34,23 +26,18 @@ returns-3 c =
     (calls-left (a .entry) (a .kind) _ (counted .calls-out .ensures) (c .if3 .taken))
     refl
 
--- src/ends.rt:150:33
 cast-grant-of : tie.Need-cast-grant-of
 cast-grant-of c = search needs
 
--- src/ends.rt:150:9
 grant-of-requires : tie.Need-grant-of-requires
 grant-of-requires c κs = search needs
 
--- src/ends.rt:151:25
 cast-granted : tie.Need-cast-granted
 cast-granted c = search needs
 
--- src/ends.rt:151:5
 granted-requires : tie.Need-granted-requires
 granted-requires c κs = search needs
 
--- src/ends.rt:129:1
 returns-4 : tie.Need-returns-4
 returns-4 c =
     let granting = c .before in

@@ -1,26 +1,15 @@
+-- `open_ends` meets its contract: refused, granted or waiting, by what the functions that it calls give. Assumes nothing.
 use Rattle.engine.proofs.Ended.{client-there, open-refused, open-granted, open-waits}
 use borrow.Author.Needs.{needs}
 use Rattle.engine.proofs.ends.open_ends.Statement.{statement}
 use Rattle.engine.proofs.ends.open_ends.Tie as tie
-use Rattle.engine.proofs.ends.open_ends.Reads as reads
-use Rattle.engine.proofs.ends.open_ends.Lts as lts
-use Rattle.engine.proofs.ends.granted.Reads as granted-reads
-use Rattle.engine.proofs.ends.refused.Reads as refused-reads
-use Rattle.engine.proofs.refusal.open_refusal.Reads as open-refusal-reads
-use Rattle.table.proofs.calls_due.Reads as calls-due-reads
-use Rattle.table.proofs.count_calls.Reads as count-calls-reads
-use Rattle.table.proofs.grant_of.Reads as grant-of-reads
-use Rattle.table.proofs.waiting_entry.Reads as waiting-entry-reads
 
--- src/ends.rt:64:9
 open-refusal-requires : tie.Need-open-refusal-requires
 open-refusal-requires c κs = search needs
 
--- src/ends.rt:66:9
 refused-requires : tie.Need-refused-requires
 refused-requires c κs = search needs
 
--- src/ends.rt:66:9
 returns : tie.Need-returns
 returns c =
     let tested = c .before .before in
@@ -30,26 +19,21 @@ returns c =
     (c .before .if1 .taken)
     (c .refused .ensures)
 
--- src/ends.rt:68:9
 calls-due-requires : tie.Need-calls-due-requires
 calls-due-requires c κs = search needs
 
--- src/ends.rt:69:8
 count-calls-requires : tie.Need-count-calls-requires
 count-calls-requires c κs = search needs
 
--- src/ends.rt:70:13
 grant-of-requires : tie.Need-grant-of-requires
 grant-of-requires c κs = search needs
 
--- src/ends.rt:71:9
 granted-requires : tie.Need-granted-requires
 granted-requires c κs =
     let passed = c .before .before .before .before in
     let tested = passed .before in
     client-there (tested .before .args .client) (tested .open-refusal .result) _ (tested .open-refusal .ensures) (passed .if1 .left)
 
--- src/ends.rt:71:9
 returns-2 : tie.Need-returns-2
 returns-2 c =
     let granting = c .before in
@@ -67,14 +51,12 @@ returns-2 c =
     (granting .grant-of .ensures)
     (c .granted .ensures)
 
--- src/ends.rt:74:16
 waiting-entry-requires : tie.Need-waiting-entry-requires
 waiting-entry-requires c κs =
     let passed = c .before .before .before in
     let tested = passed .before in
     client-there (tested .before .args .client) (tested .open-refusal .result) _ (tested .open-refusal .ensures) (passed .if1 .left)
 
--- src/ends.rt:61:1
 returns-3 : tie.Need-returns-3
 returns-3 c =
     let counted = c .before .before in

@@ -1,25 +1,27 @@
--- `answered_entry` meets its contract: a callback that invalidates takes the permission, one that writes back the last writer.
--- Assumes nothing.
+-- `answered_entry` meets its contract: a callback that invalidates takes the permission, and one that writes back takes
+-- the last writer. Assumes nothing.
 use borrow.Author.Needs.{needs}
 use Rattle.table.proofs.entry.answered_entry.Statement.{statement}
 use Rattle.table.proofs.entry.answered_entry.Tie as tie
 
 returns : tie.Need-returns
 returns c =
+    let b = c .before .before in
     rw (
-      c .before .before .either .ensures,
-      c .before .before .before .uncached .ensures,
-      c .before .before .before .before .invalidates .ensures,
+      b .either .ensures,
+      b .before .uncached .ensures,
+      b .before .before .invalidates .ensures,
       ← c .before .writes-back .ensures,
       c .if1 .taken,
     )
 
 returns-2 : tie.Need-returns-2
 returns-2 c =
+    let b = c .before .before in
     rw (
-      c .before .before .either .ensures,
-      c .before .before .before .uncached .ensures,
-      c .before .before .before .before .invalidates .ensures,
+      b .either .ensures,
+      b .before .uncached .ensures,
+      b .before .before .invalidates .ensures,
       ← c .before .writes-back .ensures,
       c .if1 .left,
     )

@@ -1,4 +1,5 @@
--- `calls_out` meets its contract: after i clients the sum is how many of them have still to answer. Assumes nothing.
+-- `calls_out` meets its contract: after i clients the sum is how many of them have still to answer.
+-- Assumes nothing.
 use Prim.Native.Nat.{_-_}
 use mathlib.Core.Path.{ap}
 use native.Mathlib.Omega.{arith}
@@ -18,12 +19,14 @@ abbrev μ-loop : tie.MeasureT-loop
 add-count : tie.Need-add-count Inv-loop μ-loop
 add-count c =
     let t = c .before .before in
-    omega (arith, counted-fits (t .before .loop .inv) (t .loop-test .taken) (ap (ltb 0) (c .before .call-to .ensures)) (c .one-if .ensures))
+    let calls = ap (ltb 0) (c .before .call-to .ensures) in
+    omega (arith, counted-fits (t .before .loop .inv) (t .loop-test .taken) calls (c .one-if .ensures))
 
 loop-again : tie.Need-loop-again Inv-loop μ-loop
 loop-again c =
     let t = c .before .before in
-    counted-next (t .before .loop .inv) (t .loop-test .taken) (ap (ltb 0) (c .before .call-to .ensures)) (c .one-if .ensures)
+    let calls = ap (ltb 0) (c .before .call-to .ensures) in
+    counted-next (t .before .loop .inv) (t .loop-test .taken) calls (c .one-if .ensures)
 
 pub calls-out-spec : {M : Type 1} → statement M
 calls-out-spec =

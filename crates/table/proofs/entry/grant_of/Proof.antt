@@ -10,4 +10,4 @@ grant-of-spec =
     (search needs)
     (search needs)
     (search needs)
-    (λ c. cc))
+    (λ c. rw (c .before .previous .ensures, c .before .before .latest-at .ensures, c .permission-at-grant .ensures)))

@@ -1,13 +1,8 @@
--- `granted_entry` meets its contract: a write open takes the grant's version and leaves no last writer. Assumes nothing.
+-- `granted_entry` meets its contract: a write open takes the grant's version and leaves no last writer, a read open
+-- keeps both. Assumes nothing.
 use borrow.Author.Needs.{needs}
 use Rattle.table.proofs.entry.granted_entry.Statement.{statement}
 use Rattle.table.proofs.entry.granted_entry.Tie as tie
-
-returns : tie.Need-returns
-returns c = rw (c .before .before .opened .ensures, c .enum-told .given .1)
-
-returns-2 : tie.Need-returns-2
-returns-2 c = rw (c .before .before .opened .ensures, c .enum-told2 .given .1)
 
 pub granted-entry-spec : {M : Type 1} → statement M
 granted-entry-spec =
@@ -20,5 +15,5 @@ granted-entry-spec =
     (search needs)
     (search needs)
     (search needs)
-    returns
-    returns-2)
+    (λ c. rw (c .before .before .opened .ensures, c .enum-told .given .1))
+    (λ c. rw (c .before .before .opened .ensures, c .enum-told2 .given .1)))

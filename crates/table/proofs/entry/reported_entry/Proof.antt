@@ -1,13 +1,8 @@
--- `reported_entry` meets its contract: a client that reports the last-writer flag becomes the last writer. Assumes nothing.
+-- `reported_entry` meets its contract: a client that reports its last-writer flag set becomes the last writer.
+-- Assumes nothing.
 use borrow.Author.Needs.{needs}
 use Rattle.table.proofs.entry.reported_entry.Statement.{statement}
 use Rattle.table.proofs.entry.reported_entry.Tie as tie
-
-returns : tie.Need-returns
-returns c = rw (c .if1 .taken)
-
-returns-2 : tie.Need-returns-2
-returns-2 c = rw (c .if1 .left)
 
 pub reported-entry-spec : {M : Type 1} → statement M
 reported-entry-spec =
@@ -16,5 +11,5 @@ reported-entry-spec =
     (search needs)
     (search needs)
     (search needs)
-    returns
-    returns-2)
+    (λ c. rw (c .if1 .taken))
+    (λ c. rw (c .if1 .left)))

@@ -9,4 +9,4 @@ closed-spec =
     (tie.spec
     (search needs)
     (search needs)
-    (λ c. cc))
+    (λ c. rw (c .before .before .closed .ensures, c .before .leaves-last-writer .ensures)))

@@ -1,4 +1,4 @@
--- `ClientFile::keeps_blocks` meets its contract: the copies are kept with permission and a copy that is kept. Assumes nothing.
+-- `ClientFile::keeps_blocks` meets its contract: with permission, where the copy check keeps the copy. Assumes nothing.
 use borrow.Author.Needs.{needs}
 use Rattle.protocol.proofs.client.ClientFile.keeps_blocks.Statement.{statement}
 use Rattle.protocol.proofs.client.ClientFile.keeps_blocks.Tie as tie
@@ -8,4 +8,4 @@ keeps-blocks-spec =
     tie.close
     (tie.spec
     (search needs)
-    (λ c. cc))
+    (λ c. rw (c .before .keeps-copy .ensures)))

@@ -10,5 +10,5 @@ keeps-permission-spec =
     (search needs)
     (search needs)
     (search needs)
-    (λ c. cc)
-    (λ c. cc))
+    (λ c. rw (c .before .enum-told .given .1) (c .is-open .ensures))
+    (λ c. rw (c .before .enum-told2 .given .1)))

@@ -10,4 +10,4 @@ leaves-last-writer-spec =
     (search needs)
     (search needs)
     (λ c. search needs)
-    (λ c. cc))
+    (λ c. rw (c .before .before .enum-told2 .given .1)))

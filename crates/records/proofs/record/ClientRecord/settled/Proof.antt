@@ -8,4 +8,4 @@ settled-spec =
     tie.close
     (tie.spec
     (search needs)
-    (λ c. cc))
+    (λ c. rw (c .before .is-open .ensures)))

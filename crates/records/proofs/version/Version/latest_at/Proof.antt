@@ -12,5 +12,5 @@ latest-at-spec =
     (search needs)
     (search needs)
     (search needs)
-    (λ c. cc)
-    (λ c. cc))
+    (λ c. rw (c .before .enum-told .given .1) (c .as-read .ensures))
+    (λ c. rw (c .before .before .enum-told2 .given .1, c .next .ensures, c .before .as-read2 .ensures)))

@@ -1,25 +1,18 @@
+-- `Server::end` meets its contract: refused or done. Assumes nothing.
 use Rattle.service.proofs.Serving.{served-refused, served-done}
 use borrow.Author.Needs.{needs}
 use Rattle.service.proofs.server.Server.end.Statement.{statement}
 use Rattle.service.proofs.server.Server.end.Tie as tie
-use Rattle.service.proofs.server.Server.end.Reads as reads
-use Rattle.service.proofs.server.Server.end.Lts as lts
-use Rattle.service.proofs.server.Server.ended.Reads as ended-reads
-use Rattle.service.proofs.server.end_refusal.Reads as end-refusal-reads
 
--- src/server.rt:97:13
 end-refusal-requires : tie.Need-end-refusal-requires
 end-refusal-requires c κs = search needs
 
--- src/server.rt:99:13
 returns : tie.Need-returns
 returns c = served-refused _ _ _ _ (c .before .end-refusal .ensures) (c .if1 .taken)
 
--- src/server.rt:105:21
 ended-requires : tie.Need-ended-requires
 ended-requires c κs = search needs
 
--- src/server.rt:93:5
 returns-2 : tie.Need-returns-2
 returns-2 c = served-done _ _ _ _ _ (c .before .before .end-refusal .ensures) (c .before .if1 .left) (c .ended .ensures)
 

@@ -129,7 +129,7 @@ array-copy-out-own : tie.Need-array-copy-out-own
 array-copy-out-own c = search needs
 
 open-ends-requires : tie.Need-open-ends-requires
-open-ends-requires c κs = search needs
+open-ends-requires c κs = tt
 
 mul-entry-after : tie.Need-mul-entry-after
 mul-entry-after c = search needs
@@ -177,7 +177,7 @@ array-copy-out-own-2 : tie.Need-array-copy-out-own-2
 array-copy-out-own-2 c = search needs
 
 close-ends-requires : tie.Need-close-ends-requires
-close-ends-requires c κs = search needs
+close-ends-requires c κs = tt
 
 mul-entry-after-2 : tie.Need-mul-entry-after-2
 mul-entry-after-2 c = search needs
@@ -210,7 +210,7 @@ element-copy-out-reported : tie.Need-element-copy-out-reported
 element-copy-out-reported c = search needs
 
 read-block-requires : tie.Need-read-block-requires
-read-block-requires c κs = search needs
+read-block-requires c κs = tt
 
 enum-known-step-4 : tie.Need-enum-known-step-4
 enum-known-step-4 c = search needs
@@ -231,13 +231,13 @@ element-copy-out-reported-2 : tie.Need-element-copy-out-reported-2
 element-copy-out-reported-2 c = search needs
 
 write-block-requires : tie.Need-write-block-requires
-write-block-requires c κs = search needs
+write-block-requires c κs = tt
 
 enum-known-step-5 : tie.Need-enum-known-step-5
 enum-known-step-5 c = search needs
 
 flush-block-requires : tie.Need-flush-block-requires
-flush-block-requires c κs = search needs
+flush-block-requires c κs = tt
 
 enum-known-step-6 : tie.Need-enum-known-step-6
 enum-known-step-6 c = search needs
@@ -261,7 +261,7 @@ array-copy-out-own-5 : tie.Need-array-copy-out-own-5
 array-copy-out-own-5 c = search needs
 
 answer-call-requires : tie.Need-answer-call-requires
-answer-call-requires c κs = search needs
+answer-call-requires c κs = tt
 
 mul-clients-3 : tie.Need-mul-clients-3
 mul-clients-3 c = search needs
@@ -270,7 +270,7 @@ array-set-from-clients-3 : tie.Need-array-set-from-clients-3
 array-set-from-clients-3 c = search needs
 
 writes-back-requires : tie.Need-writes-back-requires
-writes-back-requires c κs = search needs
+writes-back-requires c κs = tt
 
 mul-send-if : tie.Need-mul-send-if
 mul-send-if c = search needs
@@ -282,7 +282,7 @@ send-if-requires : tie.Need-send-if-requires
 send-if-requires c κs = search needs
 
 invalidates-requires : tie.Need-invalidates-requires
-invalidates-requires c κs = search needs
+invalidates-requires c κs = tt
 
 mul-drop-copies-unless-2 : tie.Need-mul-drop-copies-unless-2
 mul-drop-copies-unless-2 c = search needs
@@ -312,7 +312,7 @@ array-copy-out-waiting : tie.Need-array-copy-out-waiting
 array-copy-out-waiting c = search needs
 
 grant-waiter-requires : tie.Need-grant-waiter-requires
-grant-waiter-requires c κs = search needs
+grant-waiter-requires c κs = tt
 
 mul-entry-after-3 : tie.Need-mul-entry-after-3
 mul-entry-after-3 c = search needs
@@ -342,19 +342,19 @@ enum-told : tie.Need-enum-told
 enum-told c = search needs
 
 crashed-requires : tie.Need-crashed-requires
-crashed-requires c κs = search needs
+crashed-requires c κs = tt
 
 enum-known-step-7 : tie.Need-enum-known-step-7
 enum-known-step-7 c = search needs
 
 report-requires : tie.Need-report-requires
-report-requires c κs = search needs
+report-requires c κs = tt
 
 enum-told-2 : tie.Need-enum-told-2
 enum-told-2 c = search needs
 
 end-requires : tie.Need-end-requires
-end-requires c κs = search needs
+end-requires c κs = tt
 
 pub step-spec : {M : Type 1} → statement M
 step-spec =

@@ -1,0 +1,6 @@
+-- The laws that the functions' proofs cite, by the definition that they read by.
+pub mod Numbers
+pub mod Shapes
+pub mod Words
+pub mod Ends
+pub mod LineEnds

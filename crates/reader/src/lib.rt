@@ -1,0 +1,7 @@
+// Lines of the step file to steps, read where they stand in the input.
+mod line;
+mod number;
+mod step;
+
+pub use line::read_at;
+pub use line::read_line;

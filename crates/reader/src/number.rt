@@ -1,0 +1,86 @@
+// The numbers of a step, read where they stand in the input.
+ghost use mathlib.Core.Path.{_≡_};
+ghost use lib.ListN.{drop};
+ghost use Rattle.stepfile.specs.Grammar.{digitsOn, numeral, argument};
+ghost use Rattle.reader.specs.Places.{numberIn};
+
+// What reading a number at a place finds.
+pub enum Number {
+    // The number, and the place past its last digit.
+    Is { value: u64, next: usize },
+    Missing,
+}
+
+// A space and a number.
+pub fn argument_at(s: &[u8], at: usize) -> Number
+    ensures { λ r. ⌜ argument (drop at (now (s .entry))) ≡ numberIn (now (s .entry)) r ⌝ }
+{
+    if s.len() <= at {
+        return Number::Missing;
+    }
+    if s[at] != b' ' {
+        return Number::Missing;
+    }
+    numeral_at(s, at + 1)
+}
+
+fn numeral_at(s: &[u8], at: usize) -> Number
+    ensures { λ r. ⌜ numeral (drop at (now (s .entry))) ≡ numberIn (now (s .entry)) r ⌝ }
+{
+    if s.len() <= at {
+        return Number::Missing;
+    }
+    let first = s[at];
+    if first == b'0' {
+        return Number::Is {
+            value: 0,
+            next: at + 1,
+        };
+    }
+    if first < b'0' {
+        return Number::Missing;
+    }
+    if b'9' < first {
+        return Number::Missing;
+    }
+    digits_from(s, at + 1, wide(first - b'0'))
+}
+
+// The largest number that another digit can follow, and the largest number.
+const TENTH: u64 = 1844674407370955161;
+
+const LARGEST: u64 = 18446744073709551615;
+
+// The digits that follow, after those that give the number so far.
+fn digits_from(s: &[u8], from: usize, so_far: u64) -> Number
+    ensures { λ r. ⌜ digitsOn «so_far» (drop from (now (s .entry))) ≡ numberIn (now (s .entry)) r ⌝ }
+{
+    let mut value = so_far;
+    let mut i = from;
+    while i < s.len() {
+        let byte = s[i];
+        if byte < b'0' {
+            return Number::Is { value, next: i };
+        }
+        if b'9' < byte {
+            return Number::Is { value, next: i };
+        }
+        let digit = wide(byte - b'0');
+        if TENTH < value {
+            return Number::Missing;
+        }
+        let tens = value * 10;
+        if LARGEST - tens < digit {
+            return Number::Missing;
+        }
+        value = tens + digit;
+        i += 1;
+    }
+    Number::Is { value, next: i }
+}
+
+pub fn wide(byte: u8) -> u64
+    ensures { λ r. ⌜ r ≡ byte ⌝ }
+{
+    byte as u64
+}

@@ -1,0 +1,23 @@
+-- The whole case of document 01, byte for byte, from the definitions by evaluation. Assumes nothing.
+use mathlib.Core.Path.{_≡_, refl}
+use Rattle.protocol.specs.Lists.{count, stored}
+use Rattle.protocol.specs.State.{stateOf}
+use Rattle.protocol.specs.Permission.{permissionAtGrant}
+use Rattle.service.specs.Step.{stepOf}
+use Rattle.service.specs.Fresh.{fresh}
+use Rattle.stepfile.specs.Text.{bytes, decimal, digitsOf, valuesText}
+use Rattle.stepfile.specs.Grammar.{digitsOn, numeral, argument, shapeOf, shaped, step, parseLine}
+use Rattle.stepfile.specs.Line.{callsText, lineText}
+use Rattle.stepfile.specs.Summary.{filesText, summaryText}
+use Rattle.stepfile.specs.Transcript.{lines, transcript, after}
+use Rattle.stepfile.specs.Played.{saidOf, serviceAfter, played}
+
+pub record WholeCase : Type 0 where
+  pub empty : played (bytes "") ≡ bytes "files 0\n"
+  pub case :
+      played (bytes "OW 0 3\nWR 0 3 0 77\nCW 0 3\nOR 1 3\nRD 1 3 0\nAN 0 3\nRD 1 3 0\nOW 2 3\n")
+      ≡ bytes "1 G 2 1 1\n2 K\n3 K\n4 W 0:1\n5 N 11\n6 A 1 2 1 1\n7 V 77\n8 W 1:2\nfiles 1\n3 2 2 -\n"
+
+pub wholeCase : WholeCase
+unfolding fresh stepOf stateOf permissionAtGrant count stored digitsOf decimal digitsOn numeral argument shapeOf shaped step parseLine valuesText callsText lineText filesText summaryText lines transcript after saidOf serviceAfter played
+wholeCase = record { empty = refl; case = refl }

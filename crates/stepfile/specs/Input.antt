@@ -1,0 +1,28 @@
+-- The line that starts at a place of an input.
+use Prim.Native.Nat.{ℕ, _+_}
+use mathlib.Core.Bool.{cond}
+use mathlib.Core.List.{List, [], _∷_}
+use lib.Dec.{eqb}
+use lib.ListN.{length, drop}
+use Rattle.stepfile.specs.declared.parsed.Parsed.{Parsed}
+use Rattle.stepfile.specs.declared.parsed.Parsed.the-variants.{NoStep}
+use Rattle.stepfile.specs.declared.parsed.Read.{Read}
+use Rattle.stepfile.specs.declared.parsed.Read.the-variants.{Line, Part}
+use Rattle.stepfile.specs.Grammar.{Reading, found, nothing, onward, parseLine}
+
+-- the first line of an input, and what follows its LF; nothing where there is no LF
+unfoldable pub firstLine : List ℕ → Reading (List ℕ)
+firstLine [] = nothing
+firstLine (b ∷ l) = cond (eqb b 10) (found [] l) (onward (firstLine l) (λ line rest. found (b ∷ line) rest))
+
+-- what a line that starts at the place gives, and the place past its LF
+abbrev pub lineRead : (List ℕ → Parsed) → ℕ → Reading (List ℕ) → Read
+lineRead gives at (found line rest) = Line (gives line) (at + length line + 1)
+lineRead gives at nothing = Part
+
+abbrev pub readAt : List ℕ → ℕ → Read
+readAt s at = lineRead parseLine at (firstLine (drop at s))
+
+-- the same of a line that is known to be no step
+abbrev pub noStepAt : List ℕ → ℕ → Read
+noStepAt s at = lineRead (λ line. NoStep) at (firstLine (drop at s))

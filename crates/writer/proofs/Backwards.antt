@@ -1,0 +1,62 @@
+-- A number written into a buffer from its last digit to its first. Assumes nothing.
+use Prim.Native.Nat.{ℕ, zero, suc, _+_, _-_, _/_, _%_, _≤_, _<_}
+use mathlib.Core.Path.{_≡_, refl, sym, _∙_, ap}
+use mathlib.Core.List.{List, [], _∷_, _++_, append-assoc, append-nil}
+use native.Mathlib.Numerals.{add-one}
+use native.Mathlib.Omega.{arith}
+use lib.ListN.{length, set, length-append, length-set}
+use Rattle.stepfile.specs.Text.{decimal}
+use Rattle.writer.specs.Buffer.{written, Wrote}
+use Rattle.stepfile.proofs.Decimals.{decimal-small, decimal-large, decimal-some, length-large}
+use Rattle.writer.proofs.Buffers.{written-none, written-before, length-written}
+
+-- The digits after those of rest stand in the buffer d′, which was d, from place i on; the number is n, and its place is at.
+pub record Partly (d : List ℕ) (at n : ℕ) (d′ : List ℕ) (i rest : ℕ) : Type 0 where
+  pub tail : List ℕ
+  pub text : decimal n ≡ decimal rest ++ tail
+  pub bytes : d′ ≡ written d i tail
+  pub place : i ≡ at + length (decimal rest)
+
+pub begins : (d : List ℕ) (at n i : ℕ) → i ≡ at + length (decimal n) → Partly d at n d i n
+begins d at n i e = record { tail = []; text = sym (append-nil (decimal n)); bytes = sym (written-none d i); place = e }
+
+module _ (d : List ℕ) (at n : ℕ) (d′ : List ℕ) (i rest : ℕ) (fits : at + length (decimal n) ≤ length d) (so-far : Partly d at n d′ i rest) where
+  -- all digits of n: those of rest, and the tail
+  lengths : length (decimal rest) + length (so-far .tail) ≡ length (decimal n)
+  lengths = sym (length-append (decimal rest) (so-far .tail)) ∙ sym (ap length (so-far .text))
+
+  pub further : at < i
+  further = omega (arith, so-far .place, decimal-some rest)
+
+  pub kept : length d′ ≡ length d
+  kept = ap length (so-far .bytes) ∙ length-written d i (so-far .tail) (omega (arith, lengths, so-far .place))
+
+  -- one digit more
+  pub goes-on : 10 ≤ rest → Partly d at n (set d′ (i - 1) (48 + rest % 10)) (i - 1) (rest / 10)
+  goes-on large =
+      let b = 48 + rest % 10 in
+      let t = so-far .tail in
+      let back : i ≡ suc (i - 1) = omega (arith, further) in
+      let within : i - 1 < length d = omega (arith, further, lengths, so-far .place) in
+      record {
+        tail = b ∷ t;
+        text = so-far .text ∙ ap (λ l. l ++ t) (decimal-large rest large) ∙ append-assoc (decimal (rest / 10)) (b ∷ []) t;
+        bytes = ap (λ l. set l (i - 1) b) (so-far .bytes ∙ ap (λ k. written d k t) back) ∙ written-before d (i - 1) b t within;
+        place = omega (arith, so-far .place, length-large rest large);
+      }
+
+  -- the first digit
+  pub ends : rest < 10 → Wrote d at (decimal n) (set d′ at (48 + rest)) (at + length (decimal n))
+  ends small =
+      let b = 48 + rest in
+      let t = so-far .tail in
+      let one : length (decimal rest) ≡ 1 = ap length (decimal-small rest small) in
+      let back : i ≡ suc at = so-far .place ∙ ap (λ k. at + k) one ∙ add-one at in
+      let within : at < length d = omega (arith, further, lengths, so-far .place) in
+      let all : decimal n ≡ b ∷ t = so-far .text ∙ ap (λ l. l ++ t) (decimal-small rest small) in
+      record {
+        bytes = ap (λ l. set l at b) (so-far .bytes ∙ ap (λ k. written d k t) back) ∙ written-before d at b t within
+            ∙ ap (written d at) (sym all);
+        next = refl;
+        fits = fits;
+      }

@@ -1,0 +1,25 @@
+-- `to_twenty` meets its contract: the tests bound the number by powers of ten. Assumes nothing.
+use mathlib.Core.Path.{sym}
+use native.Mathlib.Omega.{arith}
+use lib.Dec.{lit≤}
+use Rattle.stepfile.proofs.Decimals.{decimal-count}
+use Rattle.writer.proofs.decimal.to_twenty.Statement.{statement}
+use Rattle.writer.proofs.decimal.to_twenty.Tie as tie
+
+returns : tie.Need-returns
+returns c = (sym (decimal-count 15 _ (c .before .pre) (c .if1 .taken)), lit≤ tt)
+
+returns-2 : tie.Need-returns-2
+returns-2 c = (sym (decimal-count 16 _ (c .before .if1 .left) (c .if2 .taken)), lit≤ tt)
+
+returns-3 : tie.Need-returns-3
+returns-3 c = (sym (decimal-count 17 _ (c .before .if2 .left) (c .if3 .taken)), lit≤ tt)
+
+returns-4 : tie.Need-returns-4
+returns-4 c = (sym (decimal-count 18 _ (c .before .if3 .left) (c .if4 .taken)), lit≤ tt)
+
+returns-5 : tie.Need-returns-5
+returns-5 c = (sym (decimal-count 19 _ (c .if4 .left) (omega (arith, c .before .before .before .before .fits .n))), lit≤ tt)
+
+pub to-twenty-spec : {M : Type 1} → statement M
+to-twenty-spec = tie.close (tie.spec returns returns-2 returns-3 returns-4 returns-5)

@@ -1,0 +1,19 @@
+-- `write_reply` meets its contract, by the room. Assumes nothing.
+use native.Mathlib.Omega.{arith}
+use borrow.Author.Needs.{needs}
+use Rattle.writer.proofs.Buffers.{placed, placed-none}
+use Rattle.writer.proofs.reply.write_reply.Statement.{statement}
+use Rattle.writer.proofs.reply.write_reply.Tie as tie
+
+returns : tie.Need-returns
+returns c = (placed-none _ _ _ _ (omega arith), search needs)
+
+returns-2 : tie.Need-returns-2
+returns-2 c = (placed-none _ _ _ _ (omega arith), search needs)
+
+returns-3 : tie.Need-returns-3
+returns-3 c = (placed _ _ _ _ _ _ (omega arith) (c .before .before .put-reply .ensures .0), search needs)
+
+pub write-reply-spec : {M : Type 1} → statement M
+write-reply-spec =
+    tie.close (tie.spec returns (search needs) returns-2 (search needs) (search needs) returns-3)

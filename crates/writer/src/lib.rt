@@ -1,0 +1,9 @@
+// Replies and the summary to lines, written into a buffer.
+mod decimal;
+mod reply;
+mod summary;
+
+pub use reply::LINE_ROOM;
+pub use reply::write_reply;
+pub use summary::SUMMARY_ROOM;
+pub use summary::write_summary;

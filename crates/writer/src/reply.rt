@@ -1,0 +1,137 @@
+// The line that a reply is told in, written into a buffer.
+ghost use Prim.Native.Nat.{_+_, _≤_};
+ghost use mathlib.Core.Path.{_≡_};
+ghost use mathlib.Core.Bool.{cond};
+ghost use mathlib.Core.List.{[], _∷_};
+ghost use lib.ListN.{length};
+ghost use Rattle.protocol.specs.Sizes.{clients};
+ghost use Rattle.protocol.specs.Reply.{grantValues, letterOf};
+ghost use Rattle.stepfile.specs.Line.{callText, callsText, fieldsText, lineText};
+ghost use Rattle.stepfile.specs.Text.{valuesText};
+ghost use Rattle.writer.specs.Buffer.{Wrote, Placed, lineRoom};
+use crate::decimal::put_argument;
+use crate::decimal::put_byte;
+use crate::decimal::put_decimal;
+use protocol::Grant;
+use protocol::Reply;
+
+// The room that a line is given: more than any line takes.
+pub const LINE_ROOM: usize = 400;
+
+// Writes the line of a reply, and answers the place past it. Where the buffer has less than LINE_ROOM bytes from the
+// place on, writes nothing and answers the place.
+pub fn write_reply(out: &mut [u8], at: usize, number: u64, reply: Reply, calls: [u8; 8]) -> usize
+    ensures { λ r. ⌜ Placed lineRoom (now (out .entry)) at (lineText number reply calls) (now (out .exit)) r ⌝ }
+    ensures { λ r. ⌜ r ≤ at + lineRoom ⌝ }
+{
+    if out.len() < LINE_ROOM {
+        return at;
+    }
+    if out.len() - LINE_ROOM < at {
+        return at;
+    }
+    put_reply(out, at, number, reply, calls)
+}
+
+fn put_reply(out: &mut [u8], at: usize, number: u64, reply: Reply, calls: [u8; 8]) -> usize
+    requires { ⌜ at + lineRoom ≤ length (now out) ⌝ }
+    ensures { λ r. ⌜ Wrote (now (out .entry)) at (lineText number reply calls) (now (out .exit)) r ⌝ }
+    ensures { λ r. ⌜ r ≤ at + lineRoom ⌝ }
+{
+    let letter = put_decimal(out, at, number);
+    let fields = put_letter(out, letter, letter_of(reply));
+    let end = put_fields(out, fields, reply, calls);
+    put_byte(out, end, b'\n')
+}
+
+fn letter_of(reply: Reply) -> u8
+    ensures { λ r. ⌜ r ≡ letterOf reply ⌝ }
+{
+    match reply {
+        Reply::Granted(_) => b'G',
+        Reply::Waiting => b'W',
+        Reply::Value(_) => b'V',
+        Reply::Refused(_) => b'N',
+        Reply::Answered => b'A',
+        Reply::AnsweredGrant(_, _) => b'A',
+        Reply::Done => b'K',
+    }
+}
+
+// A space and the letter of a reply.
+fn put_letter(out: &mut [u8], at: usize, letter: u8) -> usize
+    requires { ⌜ at + 2 ≤ length (now out) ⌝ }
+    ensures { λ r. ⌜ Wrote (now (out .entry)) at (32 ∷ letter ∷ []) (now (out .exit)) r ⌝ }
+    ensures { λ r. ⌜ r ≤ at + 2 ⌝ }
+{
+    let next = put_byte(out, at, b' ');
+    put_byte(out, next, letter)
+}
+
+// What follows the letter.
+fn put_fields(out: &mut [u8], at: usize, reply: Reply, calls: [u8; 8]) -> usize
+    requires { ⌜ at + 336 ≤ length (now out) ⌝ }
+    ensures { λ r. ⌜ Wrote (now (out .entry)) at (fieldsText reply calls) (now (out .exit)) r ⌝ }
+    ensures { λ r. ⌜ r ≤ at + 336 ⌝ }
+{
+    match reply {
+        Reply::Granted(grant) => put_grant(out, at, grant),
+        Reply::Waiting => put_calls(out, at, calls),
+        Reply::Value(value) => put_argument(out, at, value),
+        Reply::Refused(refusal) => put_argument(out, at, refusal as u64),
+        Reply::Answered => at,
+        Reply::AnsweredGrant(client, grant) => {
+            let granted = put_argument(out, at, client as u64);
+            put_grant(out, granted, grant)
+        }
+        Reply::Done => at,
+    }
+}
+
+// The latest version, the previous one, and the permission.
+fn put_grant(out: &mut [u8], at: usize, grant: Grant) -> usize
+    requires { ⌜ at + 63 ≤ length (now out) ⌝ }
+    ensures { λ r. ⌜ Wrote (now (out .entry)) at (valuesText (grantValues grant)) (now (out .exit)) r ⌝ }
+    ensures { λ r. ⌜ r ≤ at + 63 ⌝ }
+{
+    let latest = grant.latest.number();
+    let previous = grant.previous.number();
+    let second = put_argument(out, at, latest as u64);
+    let third = put_argument(out, second, previous as u64);
+    put_argument(out, third, permission(grant.caching))
+}
+
+fn permission(caching: bool) -> u64
+    ensures { λ r. ⌜ r ≡ cond caching 1 0 ⌝ }
+{
+    if caching { 1 } else { 0 }
+}
+
+// The callbacks, the clients ascending.
+fn put_calls(out: &mut [u8], at: usize, calls: [u8; 8]) -> usize
+    requires { ⌜ at + 336 ≤ length (now out) ⌝ }
+    ensures { λ r. ⌜ Wrote (now (out .entry)) at (callsText clients calls) (now (out .exit)) r ⌝ }
+    ensures { λ r. ⌜ r ≤ at + 336 ⌝ }
+{
+    let mut next = at;
+    let mut client: usize = 0;
+    while client < 8 {
+        next = put_call(out, next, client, calls[client]);
+        client += 1;
+    }
+    next
+}
+
+// A callback, if the kind is one.
+fn put_call(out: &mut [u8], at: usize, client: usize, kind: u8) -> usize
+    requires { ⌜ at + 42 ≤ length (now out) ⌝ }
+    ensures { λ r. ⌜ Wrote (now (out .entry)) at (callText client kind) (now (out .exit)) r ⌝ }
+    ensures { λ r. ⌜ r ≤ at + 42 ⌝ }
+{
+    if kind == 0 {
+        return at;
+    }
+    let colon = put_argument(out, at, client as u64);
+    let second = put_byte(out, colon, b':');
+    put_decimal(out, second, kind as u64)
+}
