@@ -3,25 +3,21 @@ ghost use mathlib.Core.Path.{_≡_};
 ghost use Rattle.service.specs.Step.{stepOf};
 use crate::outcome::Outcome;
 use crate::service::Service;
+use engine::answer_blocks;
 use engine::answer_call;
-use engine::clean_unless;
 use engine::close_ends;
-use engine::drop_copies_unless;
+use engine::drop_file_unless;
 use engine::flush_block;
 use engine::grant_waiter;
 use engine::open_ends;
 use engine::read_block;
-use engine::send_if;
 use engine::write_block;
 use protocol::Reply;
 use protocol::Step;
-use protocol::invalidates;
-use protocol::writes_back;
 
 impl Service {
     // One step, from any service. The service is taken apart, each kind of step stores back what its parts give, and
-    // it is put
-    // together again; a refused step stores what stood there.
+    // it is put together again; a refused step stores what stood there.
     pub fn step(self, step: Step) -> Outcome
         ensures { λ r. ⌜ r ≡ stepOf self step ⌝ }
     {
@@ -45,8 +41,7 @@ impl Service {
                 let calls_after = ends.calls;
                 server.files[f] = entry_after;
                 clients[at] = own_after;
-                drop_copies_unless(ends.keep, &mut copies, &mut held, at * 4);
-                clean_unless(ends.keep, &mut dirty, at * 4);
+                drop_file_unless(ends.keep, &mut copies, &mut held, &mut dirty, at * 4);
                 reply = reply_after;
                 calls = calls_after;
             }
@@ -128,16 +123,15 @@ impl Service {
                 let answer = answer_call(server.recovering, entry, own, client, file);
                 let own_after = answer.own;
                 clients[at] = own_after;
-                send_if(
-                    writes_back(answer.kind),
-                    &dirty,
-                    &copies,
+                answer_blocks(
+                    answer.kind,
+                    &mut copies,
+                    &mut held,
+                    &mut dirty,
                     at * 4,
-                    f * 4,
                     &mut server.blocks,
+                    f * 4,
                 );
-                drop_copies_unless(!invalidates(answer.kind), &mut copies, &mut held, at * 4);
-                clean_unless(answer.kind == 0, &mut dirty, at * 4);
                 let answered = answer.entry;
                 let answer_reply = answer.reply;
                 let waiter = answered.waiter as usize % 8 * 32 + f;
@@ -148,8 +142,7 @@ impl Service {
                 let reply_after = ends.reply;
                 server.files[f] = entry_after;
                 clients[waiter] = waiting_after;
-                drop_copies_unless(ends.keep, &mut copies, &mut held, waiter * 4);
-                clean_unless(ends.keep, &mut dirty, waiter * 4);
+                drop_file_unless(ends.keep, &mut copies, &mut held, &mut dirty, waiter * 4);
                 reply = reply_after;
             }
             Step::Crash => {

@@ -19,16 +19,15 @@ table-whole c = search unmapped
 
 returns : tie.Need-returns
 returns c =
-    let dropped = c .before .before in
-    let opened = dropped .before .before .before .before .before .before in
+    let opened = c .before .before .before .before .before .before .before in
     let known = opened .before .before .before .before .step .given in
     let a = opened .before .before .before .before .before .before .before .before .before .before .before .args in
     open-result (a .self) (a .step) (known .0 .0) (known .0 .1 .0) (known .0 .1 .1 .0) (opened .open-ends .result) _ _ _
     (known .1)
     (opened .open-ends .ensures)
-    (dropped .drop-copies-unless .ensures .0)
-    (dropped .drop-copies-unless .ensures .1)
-    (c .clean-unless .ensures)
+    (c .drop-file-unless .ensures .0)
+    (c .drop-file-unless .ensures .1 .0)
+    (c .drop-file-unless .ensures .1 .1)
 
 returns-2 : tie.Need-returns-2
 returns-2 c =
@@ -66,14 +65,9 @@ returns-5 c =
 
 returns-6 : tie.Need-returns-6
 returns-6 c =
-    let regranted = c .before .before in
-    let granted = regranted .before .before .before .before .before in
-    let cleaned = granted .before .before .before .before in
-    let dropped = cleaned .before .before .before in
-    let sorted = dropped .before .before .before in
-    let sent = sorted .before in
-    let told = sent .before .before .before .before in
-    let answered = told .before .before in
+    let granted = c .before .before .before .before .before .before in
+    let sent = granted .before .before .before .before in
+    let answered = sent .before .before .before .before .before .before in
     let known = answered .before .before .before .before .step6 .given in
     let start = answered .before .before .before .before .before .before .before .before .before .before .before in
     let a = start .args in
@@ -82,14 +76,14 @@ returns-6 c =
     (table-whole start)
     (known .1)
     (answered .answer-call .ensures)
-    (rw (← (told .writes-back .ensures)) (sent .send-if .ensures))
-    (rw (← (sorted .invalidates .ensures)) (dropped .drop-copies-unless2 .ensures .0))
-    (rw (← (sorted .invalidates .ensures)) (dropped .drop-copies-unless2 .ensures .1))
-    (cleaned .clean-unless2 .ensures)
+    (sent .answer-blocks .ensures .0)
+    (sent .answer-blocks .ensures .1 .0)
+    (sent .answer-blocks .ensures .1 .1 .0)
+    (sent .answer-blocks .ensures .1 .1 .1)
     (granted .grant-waiter .ensures)
-    (regranted .drop-copies-unless3 .ensures .0)
-    (regranted .drop-copies-unless3 .ensures .1)
-    (c .clean-unless3 .ensures)
+    (c .drop-file-unless2 .ensures .0)
+    (c .drop-file-unless2 .ensures .1 .0)
+    (c .drop-file-unless2 .ensures .1 .1)
 
 returns-7 : tie.Need-returns-7
 returns-7 c =
@@ -143,17 +137,11 @@ mul-clients c = search needs
 array-set-from-clients : tie.Need-array-set-from-clients
 array-set-from-clients c = search needs
 
-mul-drop-copies-unless : tie.Need-mul-drop-copies-unless
-mul-drop-copies-unless c = search needs
+mul-drop-file-unless : tie.Need-mul-drop-file-unless
+mul-drop-file-unless c = search needs
 
-drop-copies-unless-requires : tie.Need-drop-copies-unless-requires
-drop-copies-unless-requires c κs = search needs
-
-mul-clean-unless : tie.Need-mul-clean-unless
-mul-clean-unless c = search needs
-
-clean-unless-requires : tie.Need-clean-unless-requires
-clean-unless-requires c κs = search needs
+drop-file-unless-requires : tie.Need-drop-file-unless-requires
+drop-file-unless-requires c κs = search needs
 
 enum-known-step-2 : tie.Need-enum-known-step-2
 enum-known-step-2 c = search needs
@@ -269,32 +257,14 @@ mul-clients-3 c = search needs
 array-set-from-clients-3 : tie.Need-array-set-from-clients-3
 array-set-from-clients-3 c = search needs
 
-writes-back-requires : tie.Need-writes-back-requires
-writes-back-requires c κs = tt
+mul-answer-blocks : tie.Need-mul-answer-blocks
+mul-answer-blocks c = search needs
 
-mul-send-if : tie.Need-mul-send-if
-mul-send-if c = search needs
+mul-answer-blocks-2 : tie.Need-mul-answer-blocks-2
+mul-answer-blocks-2 c = search needs
 
-mul-send-if-2 : tie.Need-mul-send-if-2
-mul-send-if-2 c = search needs
-
-send-if-requires : tie.Need-send-if-requires
-send-if-requires c κs = search needs
-
-invalidates-requires : tie.Need-invalidates-requires
-invalidates-requires c κs = tt
-
-mul-drop-copies-unless-2 : tie.Need-mul-drop-copies-unless-2
-mul-drop-copies-unless-2 c = search needs
-
-drop-copies-unless-requires-2 : tie.Need-drop-copies-unless-requires-2
-drop-copies-unless-requires-2 c κs = search needs
-
-mul-clean-unless-2 : tie.Need-mul-clean-unless-2
-mul-clean-unless-2 c = search needs
-
-clean-unless-requires-2 : tie.Need-clean-unless-requires-2
-clean-unless-requires-2 c κs = search needs
+answer-blocks-requires : tie.Need-answer-blocks-requires
+answer-blocks-requires c κs = search needs
 
 cast-waiter : tie.Need-cast-waiter
 cast-waiter c = search needs
@@ -326,17 +296,11 @@ mul-clients-4 c = search needs
 array-set-from-clients-4 : tie.Need-array-set-from-clients-4
 array-set-from-clients-4 c = search needs
 
-mul-drop-copies-unless-3 : tie.Need-mul-drop-copies-unless-3
-mul-drop-copies-unless-3 c = search needs
+mul-drop-file-unless-2 : tie.Need-mul-drop-file-unless-2
+mul-drop-file-unless-2 c = search needs
 
-drop-copies-unless-requires-3 : tie.Need-drop-copies-unless-requires-3
-drop-copies-unless-requires-3 c κs = search needs
-
-mul-clean-unless-3 : tie.Need-mul-clean-unless-3
-mul-clean-unless-3 c = search needs
-
-clean-unless-requires-3 : tie.Need-clean-unless-requires-3
-clean-unless-requires-3 c κs = search needs
+drop-file-unless-requires-2 : tie.Need-drop-file-unless-requires-2
+drop-file-unless-requires-2 c κs = search needs
 
 enum-told : tie.Need-enum-told
 enum-told c = search needs
@@ -372,10 +336,8 @@ step-spec =
     element-set-from-entry-after
     mul-clients
     array-set-from-clients
-    mul-drop-copies-unless
-    drop-copies-unless-requires
-    mul-clean-unless
-    clean-unless-requires
+    mul-drop-file-unless
+    drop-file-unless-requires
     enum-known-step-2
     mul-at-2
     add-at-2
@@ -414,15 +376,9 @@ step-spec =
     answer-call-requires
     mul-clients-3
     array-set-from-clients-3
-    writes-back-requires
-    mul-send-if
-    mul-send-if-2
-    send-if-requires
-    invalidates-requires
-    mul-drop-copies-unless-2
-    drop-copies-unless-requires-2
-    mul-clean-unless-2
-    clean-unless-requires-2
+    mul-answer-blocks
+    mul-answer-blocks-2
+    answer-blocks-requires
     cast-waiter
     mul-waiter
     add-waiter
@@ -433,10 +389,8 @@ step-spec =
     element-set-from-entry-after-3
     mul-clients-4
     array-set-from-clients-4
-    mul-drop-copies-unless-3
-    drop-copies-unless-requires-3
-    mul-clean-unless-3
-    clean-unless-requires-3
+    mul-drop-file-unless-2
+    drop-file-unless-requires-2
     enum-told
     crashed-requires
     enum-known-step-7
