@@ -16,8 +16,8 @@ use Rattle.protocol.specs.declared.reply.Reply.the-variants.{Refused}
 use Rattle.protocol.specs.declared.step.Step.{Step}
 use Rattle.protocol.specs.Sizes.{clients, files, blocks, slot}
 use Rattle.protocol.specs.Client.{kept}
-use Rattle.engine.specs.declared.ends.Ends.{Ends}
-use Rattle.engine.specs.Ends.{refusedEnds}
+use Rattle.ends.specs.declared.ends.Ends.{Ends}
+use Rattle.ends.specs.Ends.{refusedEnds}
 use Rattle.service.specs.declared.service.Service.{Service}
 use Rattle.service.specs.declared.outcome.Outcome.{Outcome}
 use Rattle.service.specs.Places.{noEntry, noClient, entryAt, clientAt, withEntry}

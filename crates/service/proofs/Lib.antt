@@ -4,6 +4,7 @@ pub mod Run
 pub mod Edges
 pub mod WholeCase
 pub mod Readings
+pub mod Rows
 pub mod Tests
 pub mod Lists
 pub mod Places

@@ -14,8 +14,8 @@ use Rattle.protocol.specs.declared.step.Step.the-variants.{Read, Write, Flush}
 use Rattle.protocol.specs.Sizes.{clients, files, blocks, place, cell}
 use Rattle.protocol.specs.Lists.{firstOf}
 use Rattle.protocol.specs.Refusal.{readTests, writeTests, flushTests}
-use Rattle.engine.specs.Access as parts
-use Rattle.engine.specs.Access.{unlessRefused, storedIf}
+use Rattle.access.specs.Access as parts
+use Rattle.access.specs.Access.{unlessRefused, storedIf}
 use Rattle.service.specs.declared.service.Service.{Service}
 use Rattle.service.specs.declared.outcome.Outcome.{Outcome}
 use Rattle.service.specs.Places.{clientAt, reportedAt, blockAt, copyAt, heldAt, dirtyAt}

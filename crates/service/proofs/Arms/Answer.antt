@@ -19,9 +19,9 @@ use Rattle.protocol.specs.Sizes.{clients, files, blocks, slot, place, cell}
 use Rattle.protocol.specs.Callback.{writesBack, invalidates}
 use Rattle.protocol.specs.Entry.{waits, callTo, callsOut, grantOf, grantedEntry, answeredEntry}
 use Rattle.protocol.specs.Client.{grantedClient, keepsBlocks, answeredClient, kept, sent}
-use Rattle.engine.specs.declared.ends.Ends.{Ends}
-use Rattle.engine.specs.declared.ends.CallAnswer.{CallAnswer}
-use Rattle.engine.specs.Ends.{unchangedEnds, grantedEnds, answerRefusal, answerCall, grantsWaiter, grantWaiter}
+use Rattle.ends.specs.declared.ends.Ends.{Ends}
+use Rattle.ends.specs.declared.ends.CallAnswer.{CallAnswer}
+use Rattle.ends.specs.Ends.{unchangedEnds, grantedEnds, answerRefusal, answerCall, grantsWaiter, grantWaiter}
 use Rattle.service.specs.declared.service.Service.{Service}
 use Rattle.service.specs.declared.outcome.Outcome.{Outcome}
 use Rattle.service.specs.Places.{noEntry, noClient, entryAt, clientIn, clientAt, withEntry}

@@ -11,8 +11,8 @@ use Rattle.protocol.specs.declared.step.Step.the-variants.{Open, Close}
 use Rattle.protocol.specs.Sizes.{clients, files, blocks, slot, cell}
 use Rattle.protocol.specs.Entry.{callsDue, closedEntry}
 use Rattle.protocol.specs.Client.{closedClient}
-use Rattle.engine.specs.declared.ends.Ends.{Ends}
-use Rattle.engine.specs.Ends.{unchangedEnds, refusedEnds, grantedEnds, waitingEnds, openRefusal, openEnds, closeRefusal, closeEnds}
+use Rattle.ends.specs.declared.ends.Ends.{Ends}
+use Rattle.ends.specs.Ends.{unchangedEnds, refusedEnds, grantedEnds, waitingEnds, openRefusal, openEnds, closeRefusal, closeEnds}
 use Rattle.service.specs.declared.service.Service.{Service}
 use Rattle.service.specs.Places.{noClient, entryAt, clientAt}
 use Rattle.service.specs.Refusal.{refusalOf}

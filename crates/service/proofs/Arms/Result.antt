@@ -14,10 +14,10 @@ use Rattle.protocol.specs.declared.step.Step.the-variants.{Open, Close, Read, W
 use Rattle.protocol.specs.Sizes.{clients, files, blocks, slot}
 use Rattle.protocol.specs.Callback.{writesBack, invalidates}
 use Rattle.protocol.specs.Client.{kept, sent}
-use Rattle.engine.specs.declared.ends.Ends.{Ends}
-use Rattle.engine.specs.declared.ends.CallAnswer.{CallAnswer}
-use Rattle.engine.specs.Ends.{grantWaiter}
-use Rattle.engine.specs.Access as parts
+use Rattle.ends.specs.declared.ends.Ends.{Ends}
+use Rattle.ends.specs.declared.ends.CallAnswer.{CallAnswer}
+use Rattle.ends.specs.Ends.{grantWaiter}
+use Rattle.access.specs.Access as parts
 use Rattle.service.specs.declared.server.Server.{Server}
 use Rattle.service.specs.declared.server.Served.{Served}
 use Rattle.service.specs.declared.service.Service.{Service}

@@ -1,0 +1,3 @@
+-- The laws behind the parts of a step on blocks.
+pub mod Accessed
+pub mod Stored

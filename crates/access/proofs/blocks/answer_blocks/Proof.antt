@@ -1,0 +1,43 @@
+-- `answer_blocks` meets its contract: each of its three parts gives a clause. Assumes nothing.
+use borrow.Author.Needs.{needs}
+use Rattle.access.proofs.blocks.answer_blocks.Statement.{statement}
+use Rattle.access.proofs.blocks.answer_blocks.Tie as tie
+
+writes-back-requires : tie.Need-writes-back-requires
+writes-back-requires c κs = tt
+
+send-if-requires : tie.Need-send-if-requires
+send-if-requires c κs = search needs
+
+invalidates-requires : tie.Need-invalidates-requires
+invalidates-requires c κs = tt
+
+drop-copies-unless-requires : tie.Need-drop-copies-unless-requires
+drop-copies-unless-requires c κs = search needs
+
+clean-unless-requires : tie.Need-clean-unless-requires
+clean-unless-requires c κs = search needs
+
+returns : tie.Need-returns
+returns c =
+    let dropped = c .before .before in
+    let sorted = dropped .before .before .before in
+    let sent = sorted .before in
+    let told = sent .before .before .before .before in (
+      rw (← (told .writes-back .ensures)) (sent .send-if .ensures),
+      (
+        rw (← (sorted .invalidates .ensures)) (dropped .drop-copies-unless .ensures .0),
+        (rw (← (sorted .invalidates .ensures)) (dropped .drop-copies-unless .ensures .1), c .clean-unless .ensures),
+      ),
+    )
+
+pub answer-blocks-spec : {M : Type 1} → statement M
+answer-blocks-spec =
+    tie.close
+    (tie.spec
+    writes-back-requires
+    send-if-requires
+    invalidates-requires
+    drop-copies-unless-requires
+    clean-unless-requires
+    returns)

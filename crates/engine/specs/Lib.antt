@@ -1,5 +1,0 @@
--- What the parts of a step do, in terms of the protocol's definitions. Read to follow the proof of the service's
--- step, whose contract
--- does not mention them.
-pub mod Ends
-pub mod Access

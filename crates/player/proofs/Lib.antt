@@ -1,0 +1,2 @@
+-- The laws behind the loop over a buffer.
+pub mod Playing

@@ -1,0 +1,2 @@
+-- What playing a buffer leaves.
+pub mod Progress
