@@ -18,8 +18,11 @@ use protocol::Reply;
 use protocol::Step;
 use reader::read_at;
 use service::Service;
+use service::end_refusal;
+use service::report_refusal;
 use stepfile::Parsed;
 use stepfile::Read;
+use table::reported_entry;
 use writer::LINE_ROOM;
 use writer::write_reply;
 
@@ -34,7 +37,7 @@ pub struct Progress {
 }
 
 // Whether another line can be told: there is room for it, and another number after its own.
-fn can_tell(room: usize, to: usize, number: u64) -> bool
+pub fn can_tell(room: usize, to: usize, number: u64) -> bool
     ensures { λ r. ⌜ r ≡ leb (to + lineRoom) room && ltb number lastNumber ⌝ }
 {
     if room < LINE_ROOM {
@@ -193,18 +196,34 @@ pub fn play_lines(service: Service, first: u64, input: &[u8], out: &mut [u8]) ->
                 to = write_reply(out, to, line, Reply::Done, [0; 8]);
             }
             Step::Report { client } => {
-                let served = server.report(clients, client);
-                let server_after = served.server;
-                let reply = served.reply;
-                server = server_after;
-                to = write_reply(out, to, line, reply, [0; 8]);
+                let given = server.reported;
+                let refusal = report_refusal(server.recovering, given, client);
+                if refusal != 0 {
+                    to = write_reply(out, to, line, Reply::Refused(refusal), [0; 8]);
+                    continue;
+                }
+                let mut f = 0;
+                while f < 32 {
+                    let own = clients[client * 32 + f];
+                    let entry = server.files[f];
+                    let after = reported_entry(entry, client, own);
+                    server.files[f] = after;
+                    f += 1;
+                }
+                server.reported[client] = true;
+                to = write_reply(out, to, line, Reply::Done, [0; 8]);
             }
             Step::End => {
-                let served = server.end();
-                let server_after = served.server;
-                let reply = served.reply;
-                server = server_after;
-                to = write_reply(out, to, line, reply, [0; 8]);
+                let given = server.reported;
+                let refusal = end_refusal(server.recovering, given);
+                if refusal != 0 {
+                    to = write_reply(out, to, line, Reply::Refused(refusal), [0; 8]);
+                    continue;
+                }
+                server.recovering = false;
+                let none = [false; 8];
+                server.reported = none;
+                to = write_reply(out, to, line, Reply::Done, [0; 8]);
             }
         }
     }

@@ -9,4 +9,6 @@ mod step;
 pub use outcome::Outcome;
 pub use server::Served;
 pub use server::Server;
+pub use server::end_refusal;
+pub use server::report_refusal;
 pub use service::Service;

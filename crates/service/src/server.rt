@@ -108,7 +108,7 @@ impl Server {
     }
 }
 
-fn report_refusal(recovering: bool, reported: [bool; 8], client: usize) -> u8
+pub fn report_refusal(recovering: bool, reported: [bool; 8], client: usize) -> u8
     ensures { λ r. ⌜ r ≡ firstOf (reportTests recovering reported client) ⌝ }
 {
     if 8 <= client {
@@ -133,7 +133,7 @@ fn count_missing(reported: [bool; 8]) -> usize
     count
 }
 
-fn end_refusal(recovering: bool, reported: [bool; 8]) -> u8
+pub fn end_refusal(recovering: bool, reported: [bool; 8]) -> u8
     ensures { λ r. ⌜ r ≡ firstOf (endTests recovering reported) ⌝ }
 {
     if !recovering {

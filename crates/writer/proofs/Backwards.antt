@@ -32,7 +32,7 @@ module _ (d : List ℕ) (at n : ℕ) (d′ : List ℕ) (i rest : ℕ) (fits : at
   kept = ap length (so-far .bytes) ∙ length-written d i (so-far .tail) (omega (arith, lengths, so-far .place))
 
   -- one digit more
-  pub goes-on : 10 ≤ rest → Partly d at n (set d′ (i - 1) (48 + rest % 10)) (i - 1) (rest / 10)
+  goes-on : 10 ≤ rest → Partly d at n (set d′ (i - 1) (48 + rest % 10)) (i - 1) (rest / 10)
   goes-on large =
       let b = 48 + rest % 10 in
       let t = so-far .tail in
@@ -60,3 +60,38 @@ module _ (d : List ℕ) (at n : ℕ) (d′ : List ℕ) (i rest : ℕ) (fits : at
         next = refl;
         fits = fits;
       }
+
+module _ (d : List ℕ) (at n : ℕ) (d′ : List ℕ) (i rest : ℕ) (fits : at + length (decimal n) ≤ length d) (so-far : Partly d at n d′ i rest) where
+  -- there are three digits at least
+  pub further-two : 100 ≤ rest → at + 2 < i
+  further-two large =
+      omega (
+        arith,
+        so-far .place,
+        length-large rest (omega arith),
+        length-large (rest / 10) (omega arith),
+        decimal-some (rest / 10 / 10),
+      )
+
+  -- two digits more
+  pub goes-on-two : 100 ≤ rest
+      → Partly d at n (set (set d′ (i - 2 + 1) (48 + rest % 100 % 10)) (i - 2) (48 + rest % 100 / 10)) (i - 2) (rest / 100)
+  goes-on-two large =
+      let p = goes-on d at n d′ i rest fits so-far (omega arith) in
+      let far = further-two large in
+      let next : i - 2 + 1 ≡ i - 1 = omega arith in
+      let here : i - 2 ≡ i - 1 - 1 = omega arith in
+      let last : rest % 100 % 10 ≡ rest % 10 = omega arith in
+      let first : rest % 100 / 10 ≡ rest / 10 % 10 = omega arith in
+      let left : rest / 100 ≡ rest / 10 / 10 = omega arith in
+      rw (next, here, last, first, left) (goes-on d at n _ (i - 1) (rest / 10) fits p (omega arith))
+
+  -- the first two digits
+  pub ends-two : 10 ≤ rest
+      → rest < 100
+      → Wrote d at (decimal n) (set (set d′ (at + 1) (48 + rest % 10)) at (48 + rest / 10)) (at + length (decimal n))
+  ends-two large small =
+      let p = goes-on d at n d′ i rest fits so-far large in
+      let low : rest / 10 < 10 = omega arith in
+      let next : at + 1 ≡ i - 1 = omega (arith, p .place, ap length (decimal-small (rest / 10) low)) in
+      rw next (ends d at n _ (i - 1) (rest / 10) fits p low)

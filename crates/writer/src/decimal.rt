@@ -116,7 +116,7 @@ fn to_twenty(n: u64) -> usize
     20
 }
 
-// The digits are written from the last to the first.
+// The digits are written from the last to the first, two a turn.
 pub fn put_decimal(out: &mut [u8], at: usize, n: u64) -> usize
     requires { ⌜ at + 20 ≤ length (now out) ⌝ }
     ensures { λ r. ⌜ Wrote (now (out .entry)) at (decimalText n) (now (out .exit)) r ⌝ }
@@ -125,10 +125,17 @@ pub fn put_decimal(out: &mut [u8], at: usize, n: u64) -> usize
     let end = at + digits(n);
     let mut i = end;
     let mut rest = n;
-    while 10 <= rest {
-        i -= 1;
-        out[i] = digit(rest % 10);
-        rest /= 10;
+    while 100 <= rest {
+        i -= 2;
+        let pair = rest % 100;
+        out[i + 1] = digit(pair % 10);
+        out[i] = digit(pair / 10);
+        rest /= 100;
+    }
+    if 10 <= rest {
+        out[at + 1] = digit(rest % 10);
+        out[at] = digit(rest / 10);
+        return end;
     }
     out[at] = digit(rest);
     end

@@ -13,7 +13,15 @@ use Rattle.protocol.specs.declared.reply.Reply.the-variants.{Done, Refused}
 use Rattle.service.specs.declared.server.Server.{Server}
 use Rattle.service.specs.declared.service.Service.{Service}
 use Rattle.service.specs.declared.outcome.Outcome.{Outcome}
+use Rattle.protocol.specs.declared.entry.Entry.{Entry}
+use Rattle.protocol.specs.Entry.{reportedEntry}
+use Rattle.protocol.proofs.Storing.{Stored, stored-none, stored-more, stored-all}
+use Rattle.ends.proofs.Ended.{client-there}
 use Rattle.service.specs.Answer.{noCalls}
+use Rattle.service.specs.Places.{noEntry, entryIn, clientIn}
+use Rattle.service.specs.Next.{reported, ended}
+use Rattle.service.proofs.Serving.{served-refused, served-done}
+use Rattle.service.proofs.Turns.{not-yet, reported-whole}
 use Rattle.service.proofs.Arms.Result.{outcomeOf, open-result, close-result, read-result, write-result, flush-result, answer-result, crash-result, report-result, end-result}
 use Rattle.stepfile.specs.declared.parsed.Parsed.{Parsed}
 use Rattle.stepfile.specs.Played.{outcomeOf as outcomeIn}
@@ -25,6 +33,18 @@ use Rattle.player.proofs.lines.play_lines.Tie as tie
 abbrev serviceOf : Server → List ClientFile → List ℕ → List Bool → List Bool → Service
 serviceOf v cs copies held dirty = record { server = v; clients = cs; copies = copies; held = held; dirty = dirty }
 
+-- the report, once its client's side of f files has entered the table
+abbrev Inv-loop2 : tie.InvT-loop2
+Inv-loop2 first input out server₀ clients copies held dirty number used to next line client refusal f₀ server f =
+    Stored 32 (λ k. k) (λ k. reportedEntry (entryIn server₀ k) client (clientIn clients client k)) (server₀ .files) (server .files) f
+    × (server .blocks ≡ server₀ .blocks)
+    × (server .recovering ≡ server₀ .recovering)
+    × (server .reported ≡ server₀ .reported)
+    × (client < 8)
+
+abbrev μ-loop2 : tie.MeasureT-loop2
+μ-loop2 first input out server₀ clients copies held dirty number used to next line client refusal f₀ server f = 32 - f
+
 abbrev Inv-loop : tie.InvT-loop
 Inv-loop first input out₀ server₀ clients₀ copies₀ held₀ dirty₀ number₀ used₀ to₀ out server clients copies held dirty number used to =
     PlayedTo (serviceOf server₀ clients₀ copies₀ held₀ dirty₀) first input out₀ (serviceOf server clients copies held dirty) number used to out
@@ -33,37 +53,37 @@ abbrev μ-loop : tie.MeasureT-loop
 μ-loop first input out₀ server₀ clients₀ copies₀ held₀ dirty₀ number₀ used₀ to₀ out server clients copies held dirty number used to =
     length input - used
 
-loop-holds : tie.Need-loop-holds Inv-loop μ-loop
+loop-holds : tie.Need-loop-holds Inv-loop2 μ-loop2 Inv-loop μ-loop
 loop-holds c = let a = c .before .before .before .before .before .before .before .args in none-played (a .service) (a .first) (now (a .input)) (now (a .out))
 
-can-tell-requires : tie.Need-can-tell-requires Inv-loop μ-loop
+can-tell-requires : tie.Need-can-tell-requires Inv-loop2 μ-loop2 Inv-loop μ-loop
 can-tell-requires c κs = tt
 
-read-at-requires : tie.Need-read-at-requires Inv-loop μ-loop
+read-at-requires : tie.Need-read-at-requires Inv-loop2 μ-loop2 Inv-loop μ-loop
 read-at-requires c κs = tt
 
-enum-known-parsed : tie.Need-enum-known-parsed Inv-loop μ-loop
+enum-known-parsed : tie.Need-enum-known-parsed Inv-loop2 μ-loop2 Inv-loop μ-loop
 enum-known-parsed c = search needs
 
-enum-told : tie.Need-enum-told Inv-loop μ-loop
+enum-told : tie.Need-enum-told Inv-loop2 μ-loop2 Inv-loop μ-loop
 enum-told c = search needs
 
-add-number : tie.Need-add-number Inv-loop μ-loop
+add-number : tie.Need-add-number Inv-loop2 μ-loop2 Inv-loop μ-loop
 add-number c =
     let told = c .before .before .before .before .before in
     let l = told .before .loop in
     omega (arith, has-number (l .to) (length (l .out)) (l .number) (sym (told .can-tell .ensures) ∙ c .before .before .before .before .if1 .taken))
 
-enum-known-parsed-2 : tie.Need-enum-known-parsed-2 Inv-loop μ-loop
+enum-known-parsed-2 : tie.Need-enum-known-parsed-2 Inv-loop2 μ-loop2 Inv-loop μ-loop
 enum-known-parsed-2 c = search needs
 
-enum-told-2 : tie.Need-enum-told-2 Inv-loop μ-loop
+enum-told-2 : tie.Need-enum-told-2 Inv-loop2 μ-loop2 Inv-loop μ-loop
 enum-told-2 c = search needs
 
-write-reply-requires : tie.Need-write-reply-requires Inv-loop μ-loop
+write-reply-requires : tie.Need-write-reply-requires Inv-loop2 μ-loop2 Inv-loop μ-loop
 write-reply-requires c κs = tt
 
-loop-less : tie.Need-loop-less Inv-loop μ-loop
+loop-less : tie.Need-loop-less Inv-loop2 μ-loop2 Inv-loop μ-loop
 loop-less c =
     let reading = c .before .before .before .before .before .before .before .before .before in
     let parsed = c .before .before .before .before .before .before .before .parsed .given in
@@ -75,7 +95,7 @@ loop-less c =
     (l .inv)
     (sym (reading .read-at .ensures) ∙ parsed .1)
 
-loop-again : tie.Need-loop-again Inv-loop μ-loop
+loop-again : tie.Need-loop-again Inv-loop2 μ-loop2 Inv-loop μ-loop
 loop-again c =
     let reading = c .before .before .before .before .before .before .before .before .before in
     let parsed = c .before .before .before .before .before .before .before .parsed .given in
@@ -92,52 +112,52 @@ loop-again c =
     (c .before .before .write-reply .ensures .0)
     (c .before .before .write-reply .ensures .1)
 
-enum-known-step : tie.Need-enum-known-step Inv-loop μ-loop
+enum-known-step : tie.Need-enum-known-step Inv-loop2 μ-loop2 Inv-loop μ-loop
 enum-known-step c = search needs
 
-mul-at : tie.Need-mul-at Inv-loop μ-loop
+mul-at : tie.Need-mul-at Inv-loop2 μ-loop2 Inv-loop μ-loop
 mul-at c = search needs
 
-add-at : tie.Need-add-at Inv-loop μ-loop
+add-at : tie.Need-add-at Inv-loop2 μ-loop2 Inv-loop μ-loop
 add-at c = search needs
 
-mul-entry : tie.Need-mul-entry Inv-loop μ-loop
+mul-entry : tie.Need-mul-entry Inv-loop2 μ-loop2 Inv-loop μ-loop
 mul-entry c = search needs
 
-element-copy-out-entry : tie.Need-element-copy-out-entry Inv-loop μ-loop
+element-copy-out-entry : tie.Need-element-copy-out-entry Inv-loop2 μ-loop2 Inv-loop μ-loop
 element-copy-out-entry c = search needs
 
-mul-own : tie.Need-mul-own Inv-loop μ-loop
+mul-own : tie.Need-mul-own Inv-loop2 μ-loop2 Inv-loop μ-loop
 mul-own c = search needs
 
-array-copy-out-own : tie.Need-array-copy-out-own Inv-loop μ-loop
+array-copy-out-own : tie.Need-array-copy-out-own Inv-loop2 μ-loop2 Inv-loop μ-loop
 array-copy-out-own c = search needs
 
-open-ends-requires : tie.Need-open-ends-requires Inv-loop μ-loop
+open-ends-requires : tie.Need-open-ends-requires Inv-loop2 μ-loop2 Inv-loop μ-loop
 open-ends-requires c κs = tt
 
-mul-entry-after : tie.Need-mul-entry-after Inv-loop μ-loop
+mul-entry-after : tie.Need-mul-entry-after Inv-loop2 μ-loop2 Inv-loop μ-loop
 mul-entry-after c = search needs
 
-element-set-from-entry-after : tie.Need-element-set-from-entry-after Inv-loop μ-loop
+element-set-from-entry-after : tie.Need-element-set-from-entry-after Inv-loop2 μ-loop2 Inv-loop μ-loop
 element-set-from-entry-after c = search needs
 
-mul-clients : tie.Need-mul-clients Inv-loop μ-loop
+mul-clients : tie.Need-mul-clients Inv-loop2 μ-loop2 Inv-loop μ-loop
 mul-clients c = search needs
 
-array-set-from-clients : tie.Need-array-set-from-clients Inv-loop μ-loop
+array-set-from-clients : tie.Need-array-set-from-clients Inv-loop2 μ-loop2 Inv-loop μ-loop
 array-set-from-clients c = search needs
 
-mul-drop-file-unless : tie.Need-mul-drop-file-unless Inv-loop μ-loop
+mul-drop-file-unless : tie.Need-mul-drop-file-unless Inv-loop2 μ-loop2 Inv-loop μ-loop
 mul-drop-file-unless c = search needs
 
-drop-file-unless-requires : tie.Need-drop-file-unless-requires Inv-loop μ-loop
+drop-file-unless-requires : tie.Need-drop-file-unless-requires Inv-loop2 μ-loop2 Inv-loop μ-loop
 drop-file-unless-requires c κs = search needs
 
-write-reply-requires-2 : tie.Need-write-reply-requires-2 Inv-loop μ-loop
+write-reply-requires-2 : tie.Need-write-reply-requires-2 Inv-loop2 μ-loop2 Inv-loop μ-loop
 write-reply-requires-2 c κs = tt
 
-loop-less-2 : tie.Need-loop-less-2 Inv-loop μ-loop
+loop-less-2 : tie.Need-loop-less-2 Inv-loop2 μ-loop2 Inv-loop μ-loop
 loop-less-2 c =
     let reading = c .before .before .before .before .before .before .before .before .before .before .before .before .before .before .before .before .before .before .before .before .before .before .before in
     let parsed = c .before .before .before .before .before .before .before .before .before .before .before .before .before .before .before .before .before .before .before .before .before .parsed .given in
@@ -149,7 +169,7 @@ loop-less-2 c =
     (l .inv)
     (sym (reading .read-at .ensures) ∙ parsed .1)
 
-loop-again-2 : tie.Need-loop-again-2 Inv-loop μ-loop
+loop-again-2 : tie.Need-loop-again-2 Inv-loop2 μ-loop2 Inv-loop μ-loop
 loop-again-2 c =
     let reading = c .before .before .before .before .before .before .before .before .before .before .before .before .before .before .before .before .before .before .before .before .before .before .before in
     let parsed = c .before .before .before .before .before .before .before .before .before .before .before .before .before .before .before .before .before .before .before .before .before .parsed .given in
@@ -175,46 +195,46 @@ loop-again-2 c =
     (c .before .before .write-reply2 .ensures .0)
     (c .before .before .write-reply2 .ensures .1)
 
-enum-known-step-2 : tie.Need-enum-known-step-2 Inv-loop μ-loop
+enum-known-step-2 : tie.Need-enum-known-step-2 Inv-loop2 μ-loop2 Inv-loop μ-loop
 enum-known-step-2 c = search needs
 
-mul-at-2 : tie.Need-mul-at-2 Inv-loop μ-loop
+mul-at-2 : tie.Need-mul-at-2 Inv-loop2 μ-loop2 Inv-loop μ-loop
 mul-at-2 c = search needs
 
-add-at-2 : tie.Need-add-at-2 Inv-loop μ-loop
+add-at-2 : tie.Need-add-at-2 Inv-loop2 μ-loop2 Inv-loop μ-loop
 add-at-2 c = search needs
 
-mul-entry-2 : tie.Need-mul-entry-2 Inv-loop μ-loop
+mul-entry-2 : tie.Need-mul-entry-2 Inv-loop2 μ-loop2 Inv-loop μ-loop
 mul-entry-2 c = search needs
 
-element-copy-out-entry-2 : tie.Need-element-copy-out-entry-2 Inv-loop μ-loop
+element-copy-out-entry-2 : tie.Need-element-copy-out-entry-2 Inv-loop2 μ-loop2 Inv-loop μ-loop
 element-copy-out-entry-2 c = search needs
 
-mul-own-2 : tie.Need-mul-own-2 Inv-loop μ-loop
+mul-own-2 : tie.Need-mul-own-2 Inv-loop2 μ-loop2 Inv-loop μ-loop
 mul-own-2 c = search needs
 
-array-copy-out-own-2 : tie.Need-array-copy-out-own-2 Inv-loop μ-loop
+array-copy-out-own-2 : tie.Need-array-copy-out-own-2 Inv-loop2 μ-loop2 Inv-loop μ-loop
 array-copy-out-own-2 c = search needs
 
-close-ends-requires : tie.Need-close-ends-requires Inv-loop μ-loop
+close-ends-requires : tie.Need-close-ends-requires Inv-loop2 μ-loop2 Inv-loop μ-loop
 close-ends-requires c κs = tt
 
-mul-entry-after-2 : tie.Need-mul-entry-after-2 Inv-loop μ-loop
+mul-entry-after-2 : tie.Need-mul-entry-after-2 Inv-loop2 μ-loop2 Inv-loop μ-loop
 mul-entry-after-2 c = search needs
 
-element-set-from-entry-after-2 : tie.Need-element-set-from-entry-after-2 Inv-loop μ-loop
+element-set-from-entry-after-2 : tie.Need-element-set-from-entry-after-2 Inv-loop2 μ-loop2 Inv-loop μ-loop
 element-set-from-entry-after-2 c = search needs
 
-mul-clients-2 : tie.Need-mul-clients-2 Inv-loop μ-loop
+mul-clients-2 : tie.Need-mul-clients-2 Inv-loop2 μ-loop2 Inv-loop μ-loop
 mul-clients-2 c = search needs
 
-array-set-from-clients-2 : tie.Need-array-set-from-clients-2 Inv-loop μ-loop
+array-set-from-clients-2 : tie.Need-array-set-from-clients-2 Inv-loop2 μ-loop2 Inv-loop μ-loop
 array-set-from-clients-2 c = search needs
 
-write-reply-requires-3 : tie.Need-write-reply-requires-3 Inv-loop μ-loop
+write-reply-requires-3 : tie.Need-write-reply-requires-3 Inv-loop2 μ-loop2 Inv-loop μ-loop
 write-reply-requires-3 c κs = tt
 
-loop-less-3 : tie.Need-loop-less-3 Inv-loop μ-loop
+loop-less-3 : tie.Need-loop-less-3 Inv-loop2 μ-loop2 Inv-loop μ-loop
 loop-less-3 c =
     let reading = c .before .before .before .before .before .before .before .before .before .before .before .before .before .before .before .before .before .before in
     let parsed = c .before .before .before .before .before .before .before .before .before .before .before .before .before .before .before .before .parsed .given in
@@ -226,7 +246,7 @@ loop-less-3 c =
     (l .inv)
     (sym (reading .read-at .ensures) ∙ parsed .1)
 
-loop-again-3 : tie.Need-loop-again-3 Inv-loop μ-loop
+loop-again-3 : tie.Need-loop-again-3 Inv-loop2 μ-loop2 Inv-loop μ-loop
 loop-again-3 c =
     let reading = c .before .before .before .before .before .before .before .before .before .before .before .before .before .before .before .before .before .before in
     let parsed = c .before .before .before .before .before .before .before .before .before .before .before .before .before .before .before .before .parsed .given in
@@ -248,31 +268,31 @@ loop-again-3 c =
     (c .before .before .write-reply3 .ensures .0)
     (c .before .before .write-reply3 .ensures .1)
 
-enum-known-step-3 : tie.Need-enum-known-step-3 Inv-loop μ-loop
+enum-known-step-3 : tie.Need-enum-known-step-3 Inv-loop2 μ-loop2 Inv-loop μ-loop
 enum-known-step-3 c = search needs
 
-mul-own-3 : tie.Need-mul-own-3 Inv-loop μ-loop
+mul-own-3 : tie.Need-mul-own-3 Inv-loop2 μ-loop2 Inv-loop μ-loop
 mul-own-3 c = search needs
 
-add-own : tie.Need-add-own Inv-loop μ-loop
+add-own : tie.Need-add-own Inv-loop2 μ-loop2 Inv-loop μ-loop
 add-own c = search needs
 
-mul-own-4 : tie.Need-mul-own-4 Inv-loop μ-loop
+mul-own-4 : tie.Need-mul-own-4 Inv-loop2 μ-loop2 Inv-loop μ-loop
 mul-own-4 c = search needs
 
-array-copy-out-own-3 : tie.Need-array-copy-out-own-3 Inv-loop μ-loop
+array-copy-out-own-3 : tie.Need-array-copy-out-own-3 Inv-loop2 μ-loop2 Inv-loop μ-loop
 array-copy-out-own-3 c = search needs
 
-element-copy-out-reported : tie.Need-element-copy-out-reported Inv-loop μ-loop
+element-copy-out-reported : tie.Need-element-copy-out-reported Inv-loop2 μ-loop2 Inv-loop μ-loop
 element-copy-out-reported c = search needs
 
-read-block-requires : tie.Need-read-block-requires Inv-loop μ-loop
+read-block-requires : tie.Need-read-block-requires Inv-loop2 μ-loop2 Inv-loop μ-loop
 read-block-requires c κs = tt
 
-write-reply-requires-4 : tie.Need-write-reply-requires-4 Inv-loop μ-loop
+write-reply-requires-4 : tie.Need-write-reply-requires-4 Inv-loop2 μ-loop2 Inv-loop μ-loop
 write-reply-requires-4 c κs = tt
 
-loop-less-4 : tie.Need-loop-less-4 Inv-loop μ-loop
+loop-less-4 : tie.Need-loop-less-4 Inv-loop2 μ-loop2 Inv-loop μ-loop
 loop-less-4 c =
     let reading = c .before .before .before .before .before .before .before .before .before .before .before .before .before .before .before .before .before .before .before .before in
     let parsed = c .before .before .before .before .before .before .before .before .before .before .before .before .before .before .before .before .before .before .parsed .given in
@@ -284,7 +304,7 @@ loop-less-4 c =
     (l .inv)
     (sym (reading .read-at .ensures) ∙ parsed .1)
 
-loop-again-4 : tie.Need-loop-again-4 Inv-loop μ-loop
+loop-again-4 : tie.Need-loop-again-4 Inv-loop2 μ-loop2 Inv-loop μ-loop
 loop-again-4 c =
     let reading = c .before .before .before .before .before .before .before .before .before .before .before .before .before .before .before .before .before .before .before .before in
     let parsed = c .before .before .before .before .before .before .before .before .before .before .before .before .before .before .before .before .before .before .parsed .given in
@@ -306,31 +326,31 @@ loop-again-4 c =
     (c .before .before .write-reply4 .ensures .0)
     (c .before .before .write-reply4 .ensures .1)
 
-enum-known-step-4 : tie.Need-enum-known-step-4 Inv-loop μ-loop
+enum-known-step-4 : tie.Need-enum-known-step-4 Inv-loop2 μ-loop2 Inv-loop μ-loop
 enum-known-step-4 c = search needs
 
-mul-own-5 : tie.Need-mul-own-5 Inv-loop μ-loop
+mul-own-5 : tie.Need-mul-own-5 Inv-loop2 μ-loop2 Inv-loop μ-loop
 mul-own-5 c = search needs
 
-add-own-2 : tie.Need-add-own-2 Inv-loop μ-loop
+add-own-2 : tie.Need-add-own-2 Inv-loop2 μ-loop2 Inv-loop μ-loop
 add-own-2 c = search needs
 
-mul-own-6 : tie.Need-mul-own-6 Inv-loop μ-loop
+mul-own-6 : tie.Need-mul-own-6 Inv-loop2 μ-loop2 Inv-loop μ-loop
 mul-own-6 c = search needs
 
-array-copy-out-own-4 : tie.Need-array-copy-out-own-4 Inv-loop μ-loop
+array-copy-out-own-4 : tie.Need-array-copy-out-own-4 Inv-loop2 μ-loop2 Inv-loop μ-loop
 array-copy-out-own-4 c = search needs
 
-element-copy-out-reported-2 : tie.Need-element-copy-out-reported-2 Inv-loop μ-loop
+element-copy-out-reported-2 : tie.Need-element-copy-out-reported-2 Inv-loop2 μ-loop2 Inv-loop μ-loop
 element-copy-out-reported-2 c = search needs
 
-write-block-requires : tie.Need-write-block-requires Inv-loop μ-loop
+write-block-requires : tie.Need-write-block-requires Inv-loop2 μ-loop2 Inv-loop μ-loop
 write-block-requires c κs = tt
 
-write-reply-requires-5 : tie.Need-write-reply-requires-5 Inv-loop μ-loop
+write-reply-requires-5 : tie.Need-write-reply-requires-5 Inv-loop2 μ-loop2 Inv-loop μ-loop
 write-reply-requires-5 c κs = tt
 
-loop-less-5 : tie.Need-loop-less-5 Inv-loop μ-loop
+loop-less-5 : tie.Need-loop-less-5 Inv-loop2 μ-loop2 Inv-loop μ-loop
 loop-less-5 c =
     let reading = c .before .before .before .before .before .before .before .before .before .before .before .before .before .before .before .before .before .before .before .before in
     let parsed = c .before .before .before .before .before .before .before .before .before .before .before .before .before .before .before .before .before .before .parsed .given in
@@ -342,7 +362,7 @@ loop-less-5 c =
     (l .inv)
     (sym (reading .read-at .ensures) ∙ parsed .1)
 
-loop-again-5 : tie.Need-loop-again-5 Inv-loop μ-loop
+loop-again-5 : tie.Need-loop-again-5 Inv-loop2 μ-loop2 Inv-loop μ-loop
 loop-again-5 c =
     let reading = c .before .before .before .before .before .before .before .before .before .before .before .before .before .before .before .before .before .before .before .before in
     let parsed = c .before .before .before .before .before .before .before .before .before .before .before .before .before .before .before .before .before .before .parsed .given in
@@ -365,16 +385,16 @@ loop-again-5 c =
     (c .before .before .write-reply5 .ensures .0)
     (c .before .before .write-reply5 .ensures .1)
 
-enum-known-step-5 : tie.Need-enum-known-step-5 Inv-loop μ-loop
+enum-known-step-5 : tie.Need-enum-known-step-5 Inv-loop2 μ-loop2 Inv-loop μ-loop
 enum-known-step-5 c = search needs
 
-flush-block-requires : tie.Need-flush-block-requires Inv-loop μ-loop
+flush-block-requires : tie.Need-flush-block-requires Inv-loop2 μ-loop2 Inv-loop μ-loop
 flush-block-requires c κs = tt
 
-write-reply-requires-6 : tie.Need-write-reply-requires-6 Inv-loop μ-loop
+write-reply-requires-6 : tie.Need-write-reply-requires-6 Inv-loop2 μ-loop2 Inv-loop μ-loop
 write-reply-requires-6 c κs = tt
 
-loop-less-6 : tie.Need-loop-less-6 Inv-loop μ-loop
+loop-less-6 : tie.Need-loop-less-6 Inv-loop2 μ-loop2 Inv-loop μ-loop
 loop-less-6 c =
     let reading = c .before .before .before .before .before .before .before .before .before .before .before .before .before .before .before .before .before in
     let parsed = c .before .before .before .before .before .before .before .before .before .before .before .before .before .before .before .parsed .given in
@@ -386,7 +406,7 @@ loop-less-6 c =
     (l .inv)
     (sym (reading .read-at .ensures) ∙ parsed .1)
 
-loop-again-6 : tie.Need-loop-again-6 Inv-loop μ-loop
+loop-again-6 : tie.Need-loop-again-6 Inv-loop2 μ-loop2 Inv-loop μ-loop
 loop-again-6 c =
     let reading = c .before .before .before .before .before .before .before .before .before .before .before .before .before .before .before .before .before in
     let parsed = c .before .before .before .before .before .before .before .before .before .before .before .before .before .before .before .parsed .given in
@@ -408,85 +428,85 @@ loop-again-6 c =
     (c .before .before .write-reply6 .ensures .0)
     (c .before .before .write-reply6 .ensures .1)
 
-enum-known-step-6 : tie.Need-enum-known-step-6 Inv-loop μ-loop
+enum-known-step-6 : tie.Need-enum-known-step-6 Inv-loop2 μ-loop2 Inv-loop μ-loop
 enum-known-step-6 c = search needs
 
-mul-at-3 : tie.Need-mul-at-3 Inv-loop μ-loop
+mul-at-3 : tie.Need-mul-at-3 Inv-loop2 μ-loop2 Inv-loop μ-loop
 mul-at-3 c = search needs
 
-add-at-3 : tie.Need-add-at-3 Inv-loop μ-loop
+add-at-3 : tie.Need-add-at-3 Inv-loop2 μ-loop2 Inv-loop μ-loop
 add-at-3 c = search needs
 
-mul-entry-3 : tie.Need-mul-entry-3 Inv-loop μ-loop
+mul-entry-3 : tie.Need-mul-entry-3 Inv-loop2 μ-loop2 Inv-loop μ-loop
 mul-entry-3 c = search needs
 
-element-copy-out-entry-3 : tie.Need-element-copy-out-entry-3 Inv-loop μ-loop
+element-copy-out-entry-3 : tie.Need-element-copy-out-entry-3 Inv-loop2 μ-loop2 Inv-loop μ-loop
 element-copy-out-entry-3 c = search needs
 
-mul-own-7 : tie.Need-mul-own-7 Inv-loop μ-loop
+mul-own-7 : tie.Need-mul-own-7 Inv-loop2 μ-loop2 Inv-loop μ-loop
 mul-own-7 c = search needs
 
-array-copy-out-own-5 : tie.Need-array-copy-out-own-5 Inv-loop μ-loop
+array-copy-out-own-5 : tie.Need-array-copy-out-own-5 Inv-loop2 μ-loop2 Inv-loop μ-loop
 array-copy-out-own-5 c = search needs
 
-answer-call-requires : tie.Need-answer-call-requires Inv-loop μ-loop
+answer-call-requires : tie.Need-answer-call-requires Inv-loop2 μ-loop2 Inv-loop μ-loop
 answer-call-requires c κs = tt
 
-mul-clients-3 : tie.Need-mul-clients-3 Inv-loop μ-loop
+mul-clients-3 : tie.Need-mul-clients-3 Inv-loop2 μ-loop2 Inv-loop μ-loop
 mul-clients-3 c = search needs
 
-array-set-from-clients-3 : tie.Need-array-set-from-clients-3 Inv-loop μ-loop
+array-set-from-clients-3 : tie.Need-array-set-from-clients-3 Inv-loop2 μ-loop2 Inv-loop μ-loop
 array-set-from-clients-3 c = search needs
 
-mul-answer-blocks : tie.Need-mul-answer-blocks Inv-loop μ-loop
+mul-answer-blocks : tie.Need-mul-answer-blocks Inv-loop2 μ-loop2 Inv-loop μ-loop
 mul-answer-blocks c = search needs
 
-mul-answer-blocks-2 : tie.Need-mul-answer-blocks-2 Inv-loop μ-loop
+mul-answer-blocks-2 : tie.Need-mul-answer-blocks-2 Inv-loop2 μ-loop2 Inv-loop μ-loop
 mul-answer-blocks-2 c = search needs
 
-answer-blocks-requires : tie.Need-answer-blocks-requires Inv-loop μ-loop
+answer-blocks-requires : tie.Need-answer-blocks-requires Inv-loop2 μ-loop2 Inv-loop μ-loop
 answer-blocks-requires c κs = search needs
 
-cast-waiter : tie.Need-cast-waiter Inv-loop μ-loop
+cast-waiter : tie.Need-cast-waiter Inv-loop2 μ-loop2 Inv-loop μ-loop
 cast-waiter c = search needs
 
-mul-waiter : tie.Need-mul-waiter Inv-loop μ-loop
+mul-waiter : tie.Need-mul-waiter Inv-loop2 μ-loop2 Inv-loop μ-loop
 mul-waiter c = search needs
 
-add-waiter : tie.Need-add-waiter Inv-loop μ-loop
+add-waiter : tie.Need-add-waiter Inv-loop2 μ-loop2 Inv-loop μ-loop
 add-waiter c = search needs
 
-mul-waiting : tie.Need-mul-waiting Inv-loop μ-loop
+mul-waiting : tie.Need-mul-waiting Inv-loop2 μ-loop2 Inv-loop μ-loop
 mul-waiting c = search needs
 
-array-copy-out-waiting : tie.Need-array-copy-out-waiting Inv-loop μ-loop
+array-copy-out-waiting : tie.Need-array-copy-out-waiting Inv-loop2 μ-loop2 Inv-loop μ-loop
 array-copy-out-waiting c = search needs
 
-grant-waiter-requires : tie.Need-grant-waiter-requires Inv-loop μ-loop
+grant-waiter-requires : tie.Need-grant-waiter-requires Inv-loop2 μ-loop2 Inv-loop μ-loop
 grant-waiter-requires c κs = tt
 
-mul-entry-after-3 : tie.Need-mul-entry-after-3 Inv-loop μ-loop
+mul-entry-after-3 : tie.Need-mul-entry-after-3 Inv-loop2 μ-loop2 Inv-loop μ-loop
 mul-entry-after-3 c = search needs
 
-element-set-from-entry-after-3 : tie.Need-element-set-from-entry-after-3 Inv-loop μ-loop
+element-set-from-entry-after-3 : tie.Need-element-set-from-entry-after-3 Inv-loop2 μ-loop2 Inv-loop μ-loop
 element-set-from-entry-after-3 c = search needs
 
-mul-clients-4 : tie.Need-mul-clients-4 Inv-loop μ-loop
+mul-clients-4 : tie.Need-mul-clients-4 Inv-loop2 μ-loop2 Inv-loop μ-loop
 mul-clients-4 c = search needs
 
-array-set-from-clients-4 : tie.Need-array-set-from-clients-4 Inv-loop μ-loop
+array-set-from-clients-4 : tie.Need-array-set-from-clients-4 Inv-loop2 μ-loop2 Inv-loop μ-loop
 array-set-from-clients-4 c = search needs
 
-mul-drop-file-unless-2 : tie.Need-mul-drop-file-unless-2 Inv-loop μ-loop
+mul-drop-file-unless-2 : tie.Need-mul-drop-file-unless-2 Inv-loop2 μ-loop2 Inv-loop μ-loop
 mul-drop-file-unless-2 c = search needs
 
-drop-file-unless-requires-2 : tie.Need-drop-file-unless-requires-2 Inv-loop μ-loop
+drop-file-unless-requires-2 : tie.Need-drop-file-unless-requires-2 Inv-loop2 μ-loop2 Inv-loop μ-loop
 drop-file-unless-requires-2 c κs = search needs
 
-write-reply-requires-7 : tie.Need-write-reply-requires-7 Inv-loop μ-loop
+write-reply-requires-7 : tie.Need-write-reply-requires-7 Inv-loop2 μ-loop2 Inv-loop μ-loop
 write-reply-requires-7 c κs = tt
 
-loop-less-7 : tie.Need-loop-less-7 Inv-loop μ-loop
+loop-less-7 : tie.Need-loop-less-7 Inv-loop2 μ-loop2 Inv-loop μ-loop
 loop-less-7 c =
     let reading = c .before .before .before .before .before .before .before .before .before .before .before .before .before .before .before .before .before .before .before .before .before .before .before .before .before .before .before .before .before .before .before .before in
     let parsed = c .before .before .before .before .before .before .before .before .before .before .before .before .before .before .before .before .before .before .before .before .before .before .before .before .before .before .before .before .before .before .parsed .given in
@@ -502,10 +522,10 @@ loop-less-7 c =
 unmapped : (X Y : Type 0) (to : X → Y) (l : List X) (n : ℕ) → length (map to l) ≡ n → length l ≡ n
 unmapped X Y to l n e = sym (length-map l to) ∙ e
 
-table-whole : (c : tie.Start Inv-loop μ-loop) → length (c .args .service .server .files) ≡ 32
+table-whole : (c : tie.Start Inv-loop2 μ-loop2 Inv-loop μ-loop) → length (c .args .service .server .files) ≡ 32
 table-whole c = search unmapped
 
-loop-again-7 : tie.Need-loop-again-7 Inv-loop μ-loop
+loop-again-7 : tie.Need-loop-again-7 Inv-loop2 μ-loop2 Inv-loop μ-loop
 loop-again-7 c =
     let reading = c .before .before .before .before .before .before .before .before .before .before .before .before .before .before .before .before .before .before .before .before .before .before .before .before .before .before .before .before .before .before .before .before in
     let parsed = c .before .before .before .before .before .before .before .before .before .before .before .before .before .before .before .before .before .before .before .before .before .before .before .before .before .before .before .before .before .before .parsed .given in
@@ -540,16 +560,16 @@ loop-again-7 c =
     (c .before .before .write-reply7 .ensures .0)
     (c .before .before .write-reply7 .ensures .1)
 
-enum-told-3 : tie.Need-enum-told-3 Inv-loop μ-loop
+enum-told-3 : tie.Need-enum-told-3 Inv-loop2 μ-loop2 Inv-loop μ-loop
 enum-told-3 c = search needs
 
-crashed-requires : tie.Need-crashed-requires Inv-loop μ-loop
+crashed-requires : tie.Need-crashed-requires Inv-loop2 μ-loop2 Inv-loop μ-loop
 crashed-requires c κs = tt
 
-write-reply-requires-8 : tie.Need-write-reply-requires-8 Inv-loop μ-loop
+write-reply-requires-8 : tie.Need-write-reply-requires-8 Inv-loop2 μ-loop2 Inv-loop μ-loop
 write-reply-requires-8 c κs = tt
 
-loop-less-8 : tie.Need-loop-less-8 Inv-loop μ-loop
+loop-less-8 : tie.Need-loop-less-8 Inv-loop2 μ-loop2 Inv-loop μ-loop
 loop-less-8 c =
     let reading = c .before .before .before .before .before .before .before .before .before .before .before .before .before in
     let parsed = c .before .before .before .before .before .before .before .before .before .before .before .parsed .given in
@@ -561,7 +581,7 @@ loop-less-8 c =
     (l .inv)
     (sym (reading .read-at .ensures) ∙ parsed .1)
 
-loop-again-8 : tie.Need-loop-again-8 Inv-loop μ-loop
+loop-again-8 : tie.Need-loop-again-8 Inv-loop2 μ-loop2 Inv-loop μ-loop
 loop-again-8 c =
     let reading = c .before .before .before .before .before .before .before .before .before .before .before .before .before in
     let parsed = c .before .before .before .before .before .before .before .before .before .before .before .parsed .given in
@@ -580,17 +600,155 @@ loop-again-8 c =
     (c .before .before .write-reply8 .ensures .0)
     (c .before .before .write-reply8 .ensures .1)
 
-enum-known-step-7 : tie.Need-enum-known-step-7 Inv-loop μ-loop
+enum-known-step-7 : tie.Need-enum-known-step-7 Inv-loop2 μ-loop2 Inv-loop μ-loop
 enum-known-step-7 c = search needs
 
-report-requires : tie.Need-report-requires Inv-loop μ-loop
-report-requires c κs = tt
+report-refusal-requires : tie.Need-report-refusal-requires Inv-loop2 μ-loop2 Inv-loop μ-loop
+report-refusal-requires c κs = tt
 
-write-reply-requires-9 : tie.Need-write-reply-requires-9 Inv-loop μ-loop
+write-reply-requires-9 : tie.Need-write-reply-requires-9 Inv-loop2 μ-loop2 Inv-loop μ-loop
 write-reply-requires-9 c κs = tt
 
-loop-less-9 : tie.Need-loop-less-9 Inv-loop μ-loop
+loop-less-9 : tie.Need-loop-less-9 Inv-loop2 μ-loop2 Inv-loop μ-loop
 loop-less-9 c =
+    let reading = c .before .before .before .before .before .before .before .before .before .before .before .before .before .before .before .before in
+    let parsed = c .before .before .before .before .before .before .before .before .before .before .before .before .before .before .parsed .given in
+    let turn = reading .before .before .before in
+    let l = turn .loop in
+    let start = turn .before .before .before .before .before .before .before .before .args in
+    let t = serviceOf (l .server) (l .clients) (l .copies) (l .held) (l .dirty) in
+    fewer-left (start .service) (start .first) (now (start .input)) (now (start .out)) t (l .number) (l .used) (l .to) (l .out) (parsed .0 .0) (parsed .0 .1 .0)
+    (l .inv)
+    (sym (reading .read-at .ensures) ∙ parsed .1)
+
+loop-again-9 : tie.Need-loop-again-9 Inv-loop2 μ-loop2 Inv-loop μ-loop
+loop-again-9 c =
+    let reading = c .before .before .before .before .before .before .before .before .before .before .before .before .before .before .before .before in
+    let parsed = c .before .before .before .before .before .before .before .before .before .before .before .before .before .before .parsed .given in
+    let turn = reading .before .before .before in
+    let l = turn .loop in
+    let start = turn .before .before .before .before .before .before .before .before .args in
+    let t = serviceOf (l .server) (l .clients) (l .copies) (l .held) (l .dirty) in
+    let step-read = c .before .before .before .before .before .before .before .before .before .before .before .parsed2 .given in
+    let refusal = c .before .before .before .before .before .report-refusal in
+    let known = c .before .before .before .before .before .before .before .before .step7 .given in
+    line-played (start .service) (start .first) (now (start .input)) (now (start .out)) t (l .number) (l .used) (l .to) (l .out) (parsed .0 .0) (parsed .0 .1 .0)
+    _ _ _
+    (l .inv)
+    (sym (reading .read-at .ensures) ∙ parsed .1)
+    (has-room (l .to) (length (l .out)) (l .number) (sym (reading .before .before .can-tell .ensures) ∙ reading .before .if1 .taken))
+    (report-result t (step-read .0 .0) (record { server = l .server; reply = Refused (refusal .result) }) (known .0 .0)
+    (known .1)
+    (served-refused _ _ _ (reported (l .server) (l .clients) (known .0 .0)) (refusal .ensures) (c .before .before .before .before .if2 .taken)) ∙ sym (ap (outcomeIn t) (step-read .1)))
+    (c .before .before .write-reply9 .ensures .0)
+    (c .before .before .write-reply9 .ensures .1)
+
+loop2-holds : tie.Need-loop2-holds Inv-loop2 μ-loop2 Inv-loop μ-loop
+loop2-holds c = (stored-none, refl, refl, refl, client-there _ _ _ (c .before .report-refusal .ensures) (c .if2 .left))
+
+mul-own-8 : tie.Need-mul-own-8 Inv-loop2 μ-loop2 Inv-loop μ-loop
+mul-own-8 c = search needs
+
+add-own-3 : tie.Need-add-own-3 Inv-loop2 μ-loop2 Inv-loop μ-loop
+add-own-3 c = search needs
+
+mul-own-9 : tie.Need-mul-own-9 Inv-loop2 μ-loop2 Inv-loop μ-loop
+mul-own-9 c = search needs
+
+array-copy-out-own-6 : tie.Need-array-copy-out-own-6 Inv-loop2 μ-loop2 Inv-loop μ-loop
+array-copy-out-own-6 c = search needs
+
+mul-entry-4 : tie.Need-mul-entry-4 Inv-loop2 μ-loop2 Inv-loop μ-loop
+mul-entry-4 c = search needs
+
+element-copy-out-entry-4 : tie.Need-element-copy-out-entry-4 Inv-loop2 μ-loop2 Inv-loop μ-loop
+element-copy-out-entry-4 c = search needs
+
+reported-entry-requires : tie.Need-reported-entry-requires Inv-loop2 μ-loop2 Inv-loop μ-loop
+reported-entry-requires c κs = search needs
+
+mul-after : tie.Need-mul-after Inv-loop2 μ-loop2 Inv-loop μ-loop
+mul-after c = search needs
+
+element-set-from-after : tie.Need-element-set-from-after Inv-loop2 μ-loop2 Inv-loop μ-loop
+element-set-from-after c = search needs
+
+add-f : tie.Need-add-f Inv-loop2 μ-loop2 Inv-loop μ-loop
+add-f c = search needs
+
+loop2-less : tie.Need-loop2-less Inv-loop2 μ-loop2 Inv-loop μ-loop
+loop2-less c = search needs
+
+loop2-again : tie.Need-loop2-again Inv-loop2 μ-loop2 Inv-loop μ-loop
+loop2-again c =
+    let at = c .before .before .before .before in
+    let before = at .before .before .before .before .before .before .before .before .before .before .before .before .before .before .before .before .loop in
+    let client = at .before .before .before .before .before .step7 .given .0 .0 in
+    let value : ℕ → Entry = λ k. reportedEntry (entryIn (before .server) k) client (clientIn (before .clients) client k) in
+    let done = at .loop2 .inv .0 in
+    let same = not-yet 32 value (before .server .files) (at .loop2 .server .files) (at .loop2 .f) noEntry done in (
+      stored-more done (c .before .before .before .loop2-test .taken)
+          (c .reported-entry .ensures ∙ ap (λ (e : Entry). reportedEntry e client (clientIn (before .clients) client (at .loop2 .f))) same),
+      at .loop2 .inv .1,
+      at .loop2 .inv .2,
+      at .loop2 .inv .3,
+      at .loop2 .inv .4,
+    )
+
+element-write-server : tie.Need-element-write-server Inv-loop2 μ-loop2 Inv-loop μ-loop
+element-write-server c = search needs
+
+write-reply-requires-10 : tie.Need-write-reply-requires-10 Inv-loop2 μ-loop2 Inv-loop μ-loop
+write-reply-requires-10 c κs = tt
+
+loop-less-10 : tie.Need-loop-less-10 Inv-loop2 μ-loop2 Inv-loop μ-loop
+loop-less-10 c =
+    let reading = c .before .before .before .before .before .before .before .before .before .before .before .before .before .before .before .before .before .before in
+    let parsed = c .before .before .before .before .before .before .before .before .before .before .before .before .before .before .before .before .parsed .given in
+    let turn = reading .before .before .before in
+    let l = turn .loop in
+    let start = turn .before .before .before .before .before .before .before .before .args in
+    let t = serviceOf (l .server) (l .clients) (l .copies) (l .held) (l .dirty) in
+    fewer-left (start .service) (start .first) (now (start .input)) (now (start .out)) t (l .number) (l .used) (l .to) (l .out) (parsed .0 .0) (parsed .0 .1 .0)
+    (l .inv)
+    (sym (reading .read-at .ensures) ∙ parsed .1)
+
+loop-again-10 : tie.Need-loop-again-10 Inv-loop2 μ-loop2 Inv-loop μ-loop
+loop-again-10 c =
+    let reading = c .before .before .before .before .before .before .before .before .before .before .before .before .before .before .before .before .before .before in
+    let parsed = c .before .before .before .before .before .before .before .before .before .before .before .before .before .before .before .before .parsed .given in
+    let turn = reading .before .before .before in
+    let l = turn .loop in
+    let start = turn .before .before .before .before .before .before .before .before .args in
+    let t = serviceOf (l .server) (l .clients) (l .copies) (l .held) (l .dirty) in
+    let step-read = c .before .before .before .before .before .before .before .before .before .before .before .before .before .parsed2 .given in
+    let stored = c .before .before .before .before in
+    let refusal = c .before .before .before .before .before .before .before .report-refusal in
+    let known = c .before .before .before .before .before .before .before .before .before .before .step7 .given in
+    let inner = stored .before .loop2 .inv in
+    line-played (start .service) (start .first) (now (start .input)) (now (start .out)) t (l .number) (l .used) (l .to) (l .out) (parsed .0 .0) (parsed .0 .1 .0)
+    _ _ _
+    (l .inv)
+    (sym (reading .read-at .ensures) ∙ parsed .1)
+    (has-room (l .to) (length (l .out)) (l .number) (sym (reading .before .before .can-tell .ensures) ∙ reading .before .if1 .taken))
+    (report-result t (step-read .0 .0) _ (known .0 .0)
+    (known .1)
+    (served-done _ _ (l .server) (reported (l .server) (l .clients) (known .0 .0)) _ (refusal .ensures) (c .before .before .before .before .before .before .if2 .left)
+    (reported-whole (l .server) (l .clients) (known .0 .0) _ _ _ _ (stored-all (inner .0) (stored .loop2-test .left)) (inner .1) (inner .2) (inner .3))) ∙ sym (ap (outcomeIn t) (step-read .1)))
+    (c .before .before .write-reply10 .ensures .0)
+    (c .before .before .write-reply10 .ensures .1)
+
+enum-told-4 : tie.Need-enum-told-4 Inv-loop2 μ-loop2 Inv-loop μ-loop
+enum-told-4 c = search needs
+
+end-refusal-requires : tie.Need-end-refusal-requires Inv-loop2 μ-loop2 Inv-loop μ-loop
+end-refusal-requires c κs = tt
+
+write-reply-requires-11 : tie.Need-write-reply-requires-11 Inv-loop2 μ-loop2 Inv-loop μ-loop
+write-reply-requires-11 c κs = tt
+
+loop-less-11 : tie.Need-loop-less-11 Inv-loop2 μ-loop2 Inv-loop μ-loop
+loop-less-11 c =
     let reading = c .before .before .before .before .before .before .before .before .before .before .before .before .before .before .before in
     let parsed = c .before .before .before .before .before .before .before .before .before .before .before .before .before .parsed .given in
     let turn = reading .before .before .before in
@@ -601,8 +759,8 @@ loop-less-9 c =
     (l .inv)
     (sym (reading .read-at .ensures) ∙ parsed .1)
 
-loop-again-9 : tie.Need-loop-again-9 Inv-loop μ-loop
-loop-again-9 c =
+loop-again-11 : tie.Need-loop-again-11 Inv-loop2 μ-loop2 Inv-loop μ-loop
+loop-again-11 c =
     let reading = c .before .before .before .before .before .before .before .before .before .before .before .before .before .before .before in
     let parsed = c .before .before .before .before .before .before .before .before .before .before .before .before .before .parsed .given in
     let turn = reading .before .before .before in
@@ -610,30 +768,24 @@ loop-again-9 c =
     let start = turn .before .before .before .before .before .before .before .before .args in
     let t = serviceOf (l .server) (l .clients) (l .copies) (l .held) (l .dirty) in
     let step-read = c .before .before .before .before .before .before .before .before .before .before .parsed2 .given in
-    let served = c .before .before .before .before .before .report in
-    let known = c .before .before .before .before .before .before .before .step7 .given in
+    let refusal = c .before .before .before .before .before .end-refusal in
     line-played (start .service) (start .first) (now (start .input)) (now (start .out)) t (l .number) (l .used) (l .to) (l .out) (parsed .0 .0) (parsed .0 .1 .0)
     _ _ _
     (l .inv)
     (sym (reading .read-at .ensures) ∙ parsed .1)
     (has-room (l .to) (length (l .out)) (l .number) (sym (reading .before .before .can-tell .ensures) ∙ reading .before .if1 .taken))
-    (report-result t (step-read .0 .0) (served .result) (known .0 .0) (known .1) (served .ensures) ∙ sym (ap (outcomeIn t) (step-read .1)))
-    (c .before .before .write-reply9 .ensures .0)
-    (c .before .before .write-reply9 .ensures .1)
+    (end-result t (step-read .0 .0) (record { server = l .server; reply = Refused (refusal .result) }) (c .before .before .before .before .before .before .before .enum-told4 .given .1)
+    (served-refused _ _ _ (ended (l .server)) (refusal .ensures) (c .before .before .before .before .if3 .taken)) ∙ sym (ap (outcomeIn t) (step-read .1)))
+    (c .before .before .write-reply11 .ensures .0)
+    (c .before .before .write-reply11 .ensures .1)
 
-enum-told-4 : tie.Need-enum-told-4 Inv-loop μ-loop
-enum-told-4 c = search needs
+write-reply-requires-12 : tie.Need-write-reply-requires-12 Inv-loop2 μ-loop2 Inv-loop μ-loop
+write-reply-requires-12 c κs = tt
 
-end-requires : tie.Need-end-requires Inv-loop μ-loop
-end-requires c κs = tt
-
-write-reply-requires-10 : tie.Need-write-reply-requires-10 Inv-loop μ-loop
-write-reply-requires-10 c κs = tt
-
-loop-less-10 : tie.Need-loop-less-10 Inv-loop μ-loop
-loop-less-10 c =
-    let reading = c .before .before .before .before .before .before .before .before .before .before .before .before .before .before in
-    let parsed = c .before .before .before .before .before .before .before .before .before .before .before .before .parsed .given in
+loop-less-12 : tie.Need-loop-less-12 Inv-loop2 μ-loop2 Inv-loop μ-loop
+loop-less-12 c =
+    let reading = c .before .before .before .before .before .before .before .before .before .before .before .before .before .before .before in
+    let parsed = c .before .before .before .before .before .before .before .before .before .before .before .before .before .parsed .given in
     let turn = reading .before .before .before in
     let l = turn .loop in
     let start = turn .before .before .before .before .before .before .before .before .args in
@@ -642,26 +794,27 @@ loop-less-10 c =
     (l .inv)
     (sym (reading .read-at .ensures) ∙ parsed .1)
 
-loop-again-10 : tie.Need-loop-again-10 Inv-loop μ-loop
-loop-again-10 c =
-    let reading = c .before .before .before .before .before .before .before .before .before .before .before .before .before .before in
-    let parsed = c .before .before .before .before .before .before .before .before .before .before .before .before .parsed .given in
+loop-again-12 : tie.Need-loop-again-12 Inv-loop2 μ-loop2 Inv-loop μ-loop
+loop-again-12 c =
+    let reading = c .before .before .before .before .before .before .before .before .before .before .before .before .before .before .before in
+    let parsed = c .before .before .before .before .before .before .before .before .before .before .before .before .before .parsed .given in
     let turn = reading .before .before .before in
     let l = turn .loop in
     let start = turn .before .before .before .before .before .before .before .before .args in
     let t = serviceOf (l .server) (l .clients) (l .copies) (l .held) (l .dirty) in
-    let step-read = c .before .before .before .before .before .before .before .before .before .parsed2 .given in
-    let served = c .before .before .before .before .before .end in
+    let step-read = c .before .before .before .before .before .before .before .before .before .before .parsed2 .given in
+    let refusal = c .before .before .before .before .before .end-refusal in
     line-played (start .service) (start .first) (now (start .input)) (now (start .out)) t (l .number) (l .used) (l .to) (l .out) (parsed .0 .0) (parsed .0 .1 .0)
     _ _ _
     (l .inv)
     (sym (reading .read-at .ensures) ∙ parsed .1)
     (has-room (l .to) (length (l .out)) (l .number) (sym (reading .before .before .can-tell .ensures) ∙ reading .before .if1 .taken))
-    (end-result t (step-read .0 .0) (served .result) (c .before .before .before .before .before .before .enum-told4 .given .1) (served .ensures) ∙ sym (ap (outcomeIn t) (step-read .1)))
-    (c .before .before .write-reply10 .ensures .0)
-    (c .before .before .write-reply10 .ensures .1)
+    (end-result t (step-read .0 .0) _ (c .before .before .before .before .before .before .before .enum-told4 .given .1)
+    (served-done _ _ (l .server) (ended (l .server)) _ (refusal .ensures) (c .before .before .before .before .if3 .left) refl) ∙ sym (ap (outcomeIn t) (step-read .1)))
+    (c .before .before .write-reply12 .ensures .0)
+    (c .before .before .write-reply12 .ensures .1)
 
-same-length : tie.Need-same-length Inv-loop μ-loop
+same-length : tie.Need-same-length Inv-loop2 μ-loop2 Inv-loop μ-loop
 same-length c =
     let turn = c .before .before in
     let l = turn .loop in
@@ -669,7 +822,7 @@ same-length c =
     let t = serviceOf (l .server) (l .clients) (l .copies) (l .held) (l .dirty) in
     still-long (start .service) (start .first) (now (start .input)) (now (start .out)) t (l .number) (l .used) (l .to) (l .out) (l .inv)
 
-returns : tie.Need-returns Inv-loop μ-loop
+returns : tie.Need-returns Inv-loop2 μ-loop2 Inv-loop μ-loop
 returns c =
     let turn = c .before .before in
     let l = turn .loop in
@@ -680,7 +833,7 @@ returns c =
     (l .inv)
     (sym (c .before .can-tell .ensures) ∙ c .if1 .left)
 
-same-length-2 : tie.Need-same-length-2 Inv-loop μ-loop
+same-length-2 : tie.Need-same-length-2 Inv-loop2 μ-loop2 Inv-loop μ-loop
 same-length-2 c =
     let turn = c .before .before .before .before .before in
     let l = turn .loop in
@@ -688,7 +841,7 @@ same-length-2 c =
     let t = serviceOf (l .server) (l .clients) (l .copies) (l .held) (l .dirty) in
     still-long (start .service) (start .first) (now (start .input)) (now (start .out)) t (l .number) (l .used) (l .to) (l .out) (l .inv)
 
-returns-2 : tie.Need-returns-2 Inv-loop μ-loop
+returns-2 : tie.Need-returns-2 Inv-loop2 μ-loop2 Inv-loop μ-loop
 returns-2 c =
     let turn = c .before .before .before .before .before in
     let l = turn .loop in
@@ -703,6 +856,8 @@ pub play-lines-spec : {M : Type 1} → statement M
 play-lines-spec =
     tie.close
     (tie.spec
+    Inv-loop2
+    μ-loop2
     Inv-loop
     μ-loop
     loop-holds
@@ -807,15 +962,35 @@ play-lines-spec =
     loop-less-8
     loop-again-8
     enum-known-step-7
-    report-requires
+    report-refusal-requires
     write-reply-requires-9
     loop-less-9
     loop-again-9
-    enum-told-4
-    end-requires
+    loop2-holds
+    mul-own-8
+    add-own-3
+    mul-own-9
+    array-copy-out-own-6
+    mul-entry-4
+    element-copy-out-entry-4
+    reported-entry-requires
+    mul-after
+    element-set-from-after
+    add-f
+    loop2-less
+    loop2-again
+    element-write-server
     write-reply-requires-10
     loop-less-10
     loop-again-10
+    enum-told-4
+    end-refusal-requires
+    write-reply-requires-11
+    loop-less-11
+    loop-again-11
+    write-reply-requires-12
+    loop-less-12
+    loop-again-12
     same-length
     returns
     same-length-2

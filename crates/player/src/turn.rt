@@ -1,0 +1,97 @@
+// A turn of the player: a buffer of input is played, and what is left of it stands at its start for the next.
+ghost use mathlib.Core.Path.{_≡_};
+ghost use mathlib.Core.Bool.{cond};
+ghost use Prim.Native.Nat.{_+_, _≤_};
+ghost use lib.Dec.{ltb};
+ghost use lib.ListN.{length, drop};
+ghost use lib.Seq.{paste};
+ghost use Rattle.player.specs.Turn.{Turned, shorter, endedCount, endedBuffer};
+use crate::lines::can_tell;
+use crate::lines::play_lines;
+use service::Service;
+
+// What a turn leaves.
+pub struct Turn {
+    pub service: Service,
+    // The number of the next line.
+    pub number: u64,
+    // The bytes that stand at the start of the buffer for the next turn, and those of the output that were written.
+    pub rest: usize,
+    pub written: usize,
+    // Whole lines may be left, since the output had no room for them or there are no numbers left.
+    pub paused: bool,
+}
+
+// Plays the first bytes of the buffer, as many as are filled, and moves what is left of them to its start.
+pub fn play_turn(
+    service: Service,
+    number: u64,
+    buffer: &mut [u8],
+    filled: usize,
+    out: &mut [u8],
+) -> Turn
+    ensures { λ r. ⌜ Turned service number (now (buffer .entry)) filled (now (out .entry)) r (now (buffer .exit)) (now (out .exit)) ⌝ }
+{
+    let n = least(filled, buffer.len());
+    let progress = play_lines(service, number, &buffer[..n], out);
+    let can = can_tell(out.len(), progress.written, progress.number);
+    let used = progress.used;
+    let rest = kept_of(can, n - used);
+    move_down(buffer, used, rest);
+    let after = progress.service;
+    Turn {
+        service: after,
+        number: progress.number,
+        rest,
+        written: progress.written,
+        paused: !can,
+    }
+}
+
+fn least(a: usize, b: usize) -> usize
+    ensures { λ r. ⌜ r ≡ cond (ltb a b) a b ⌝ }
+    ensures { λ r. ⌜ r ≤ b ⌝ }
+{
+    if a < b { a } else { b }
+}
+
+// A line of this length or more is no step, so that no more of it need be kept.
+const NO_STEP: usize = 87;
+
+// How many bytes of a rest are kept: all of them, unless it is known to be the start of one line.
+fn kept_of(is_one_line: bool, left: usize) -> usize
+    ensures { λ r. ⌜ r ≡ cond «is_one_line» (shorter left) left ⌝ }
+{
+    if is_one_line {
+        return least(left, NO_STEP);
+    }
+    left
+}
+
+// Moves so many bytes from the place to the start of the buffer.
+fn move_down(buffer: &mut [u8], from: usize, count: usize)
+    requires { ⌜ from + count ≤ length (now buffer) ⌝ }
+    ensures { λ _. ⌜ now (buffer .exit) ≡ paste (now (buffer .entry)) 0 (drop from (now (buffer .entry))) count ⌝ }
+{
+    let mut i = 0;
+    while i < count {
+        buffer[i] = buffer[from + i];
+        i += 1;
+    }
+}
+
+// Puts an LF after the rest at the end of the input, if there is a rest and room after it, and answers how many bytes
+// there are to play.
+pub fn end_line(buffer: &mut [u8], rest: usize) -> usize
+    ensures { λ r. ⌜ now (buffer .exit) ≡ endedBuffer (now (buffer .entry)) rest ⌝ }
+    ensures { λ r. ⌜ r ≡ endedCount (now (buffer .entry)) rest ⌝ }
+{
+    if rest == 0 {
+        return rest;
+    }
+    if buffer.len() <= rest {
+        return rest;
+    }
+    buffer[rest] = b'\n';
+    rest + 1
+}
