@@ -1,6 +1,5 @@
 -- Reads, writes and flushes of one block: the answer, and what is left of the arrays. The numbers may be any; the
--- places are wrapped
--- into the arrays, and where that matters the step is refused.
+-- places are wrapped into the arrays, and where that matters the step is refused.
 use Prim.Native.Nat.{ℕ, _%_}
 use mathlib.Core.Bool.{Bool, true, false, cond, not, _&&_}
 use mathlib.Core.List.{List}

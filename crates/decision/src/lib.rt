@@ -1,6 +1,5 @@
 // The decisions over the records of one file: its state, the callbacks that an open causes, and the permission that a
-// grant
-// gives, as Table 4-1 of the 1989 paper has them.
+// grant gives, as Table 4-1 of the 1989 paper has them.
 mod callback;
 mod permission;
 mod state;

@@ -117,8 +117,7 @@ pub fn close_ends(
 }
 
 // What an answer leaves of the entry and of the client's side of the file, before the waiting open is granted; the
-// kind
-// is that of the callback that is answered, 0 where the step is refused.
+// kind is that of the callback that is answered, 0 where the step is refused.
 pub struct CallAnswer {
     pub entry: Entry,
     pub own: ClientFile,

@@ -18,7 +18,6 @@ use protocol::Reply;
 use protocol::Step;
 use reader::read_at;
 use service::Service;
-use service::end_refusal;
 use service::report_refusal;
 use stepfile::Parsed;
 use stepfile::Read;
@@ -214,16 +213,11 @@ pub fn play_lines(service: Service, first: u64, input: &[u8], out: &mut [u8]) ->
                 to = write_reply(out, to, line, Reply::Done, [0; 8]);
             }
             Step::End => {
-                let given = server.reported;
-                let refusal = end_refusal(server.recovering, given);
-                if refusal != 0 {
-                    to = write_reply(out, to, line, Reply::Refused(refusal), [0; 8]);
-                    continue;
-                }
-                server.recovering = false;
-                let none = [false; 8];
-                server.reported = none;
-                to = write_reply(out, to, line, Reply::Done, [0; 8]);
+                let served = server.end();
+                let server_after = served.server;
+                let reply = served.reply;
+                server = server_after;
+                to = write_reply(out, to, line, reply, [0; 8]);
             }
         }
     }

@@ -14,8 +14,7 @@ use Rattle.records.specs.Record.{isOpen, keepsPermission}
 use Rattle.protocol.specs.State.{stateOf}
 
 -- The table of document 01, "Opening": what a client other than the opener is called for, from its record and whether
--- it is the
--- last writer.
+-- it is the last writer.
 abbrev pub callbackKind : FileState → Mode → ClientRecord → Bool → ℕ
 callbackKind Closed m r isLast = 0
 callbackKind ClosedDirty Read r isLast = cond isLast 1 0
@@ -30,8 +29,7 @@ callbackKind OneWriter m r isLast = cond (isOpen r) 3 0
 callbackKind WriteShared m r isLast = cond (isOpen r && r .caching) 2 0
 
 -- The callback that client i is due when the opener opens in the mode: none to the opener, and none where the opener
--- keeps its
--- permission.
+-- keeps its permission.
 abbrev pub callbackDue : ℕ → (ℕ → ClientRecord) → ℕ → ℕ → Mode → ℕ → ℕ
 callbackDue n r last opener mode i =
     cond (keepsPermission mode (r opener) || eqb i opener) 0 (callbackKind (stateOf n r last) mode (r i) (eqb i last))

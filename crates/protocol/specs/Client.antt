@@ -1,6 +1,5 @@
 -- A client's side of one file: its own record, its last-writer flag (document 01: mark) and the version of its copy
--- (label), and how a
--- grant, a close and an answer change them and the copies of its blocks.
+-- (label), and how a grant, a close and an answer change them and the copies of its blocks.
 use Prim.Native.Nat.{ℕ, _+_}
 use mathlib.Core.Bool.{Bool, true, false, cond, not, _&&_, _||_}
 use mathlib.Core.List.{List}
@@ -31,8 +30,7 @@ abbrev pub keepsBlocks : Mode → Grant → ClientFile → Bool
 keepsBlocks mode g own = g .caching && keepsCopy mode (own .cached) (g .latest)
 
 -- "If that was the last writer count and the station may cache, it becomes .. marked. A final close takes its
--- permission away; its
--- copy stays."
+-- permission away; its copy stays."
 abbrev pub closedClient : Mode → ClientFile → ClientFile
 closedClient mode own =
     record {
@@ -59,8 +57,7 @@ abbrev pub writeNeedsServer : ClientFile → Bool
 writeNeedsServer own = not (ltb 0 (own .opens .writers) && own .opens .caching)
 
 -- "A dropped block is not held, not dirty and zero": the values, or the flags, of one file's blocks from `base` on,
--- with none in
--- each place, unless they are kept.
+-- with none in each place, unless they are kept.
 abbrev pub kept {ℓ} : {A : Type ℓ} → Bool → A → ℕ → List A → List A
 kept keep none base l = cond keep l (stored blocks (λ b. base + b) (λ b. none) l)
 

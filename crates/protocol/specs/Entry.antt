@@ -1,6 +1,5 @@
 -- The server's side of one file: the entry of the state table, and how an open, a grant, a close, an answer, a crash
--- and a report
--- change it. n is the number of clients.
+-- and a report change it. n is the number of clients.
 use Prim.Native.Nat.{ℕ}
 use mathlib.Core.Bool.{Bool, cond}
 use mathlib.Core.List.{List}
@@ -70,8 +69,7 @@ grantOf n e opener mode =
     }
 
 -- "Grant: the count of that mode rises by 1. For write, the version rises by 1 and the last writer becomes none." A
--- read open leaves
--- both as they are stored. After a grant no open waits.
+-- read open leaves both as they are stored. After a grant no open waits.
 abbrev pub grantedEntry : ℕ → Entry → ℕ → Mode → Grant → Entry
 grantedEntry n e opener mode g =
     record {

@@ -9,8 +9,8 @@ use Rattle.records.specs.Record.{isWrite, keepsPermission}
 use Rattle.protocol.specs.State.{tally, others}
 
 -- "Save where permission is kept as above, the opener may cache unless some other station is open with writers, or
--- this is a write
--- open with some other station open, or some station open before the grant, the opener included, may not cache."
+-- this is a write open with some other station open, or some station open before the grant, the opener included, may
+-- not cache."
 unfoldable pub permissionAtGrant : ℕ → (ℕ → ClientRecord) → ℕ → Mode → Bool
 permissionAtGrant n r opener mode =
     cond (keepsPermission mode (r opener)) (r opener .caching)

@@ -1,6 +1,5 @@
 -- The state of a file: "Names, first that fits". The number of clients n and a function r from client to record are
--- all that it looks
--- at, with the last writer, which is a client only below n.
+-- all that it looks at, with the last writer, which is a client only below n.
 use Prim.Native.Nat.{ℕ}
 use mathlib.Core.Bool.{Bool, cond, not, _&&_}
 use mathlib.Core.List.{List}

@@ -6,8 +6,7 @@ use Rattle.records.specs.declared.version.Version.{Version}
 use Rattle.protocol.specs.declared.entry.Entry.{Entry}
 
 -- "The table is, for each file, the server's eight station records, its version and its last writer. A waiting open
--- and its calls are
--- no part of it."
+-- and its calls are no part of it."
 pub record Row : Type 0 where
   pub records : List ClientRecord
   pub version : Version

@@ -1,6 +1,5 @@
 -- "A version of 32 bits (1 at the start)"; 0 labels no copy. "Version numbers are never compared with counts or block
--- values":
--- these functions alone make, read and compare one.
+-- values": these functions alone make, read and compare one.
 use Prim.Native.Nat.{ℕ, _+_, _-_}
 use mathlib.Core.Bool.{Bool, cond}
 use lib.Dec.{eqb}

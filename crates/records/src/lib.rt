@@ -1,6 +1,5 @@
 // Versions and client records: the values that both ends of the protocol keep for a file, and what their own
-// functions do
-// with them.
+// functions do with them.
 mod record;
 mod version;
 

@@ -1,6 +1,5 @@
 // The version of a file, and of a client's copy of it: 32 bits, 1 at the start, 0 for no copy. The field is private,
-// so
-// that no count and no block value can stand for a version.
+// so that no count and no block value can stand for a version.
 ghost use mathlib.Core.Path.{_≡_};
 ghost use mathlib.Core.Bool.{cond};
 ghost use Rattle.records.specs.Version.{versionOf, numberOf, asRead, nextVersion, previousVersion};

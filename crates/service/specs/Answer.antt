@@ -17,8 +17,7 @@ abbrev pub noCalls : List ℕ
 noCalls = replicate clients 0
 
 -- "G latest previous permission (0 or 1); or W ..; or V value; .. or A, followed, if an open was granted, by its
--- station and its G
--- fields; else K"
+-- station and its G fields; else K"
 abbrev pub replyOf : Service → Step → Reply
 replyOf s (Open m i f) = cond (callsNobody s i f m) (Granted (grantFor s i f m)) Waiting
 replyOf s (Close m i f) = Done

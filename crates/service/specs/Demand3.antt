@@ -1,6 +1,5 @@
 -- Demand 3, over whole lists of steps: every accepted read gives the latest accepted write, and every accepted end of
--- recovery gives
--- back the table that was held just before the crash that began the recovery.
+-- recovery gives back the table that was held just before the crash that began the recovery.
 use Prim.Native.Nat.{ℕ, _<_}
 use mathlib.Core.Path.{_≡_}
 use mathlib.Core.Bool.{Bool, true, false, cond, _&&_}
@@ -36,8 +35,7 @@ abbrev pub written : Memory → ℕ → ℕ → ℕ → Memory
 written m f b v f′ b′ = cond (eqb f′ f && eqb b′ b) v (m f′ b′)
 
 -- "An accepted write sets the number of its file and block to its value, whichever station writes. Every other step,
--- and every refused
--- one, leaves the book as it is."
+-- and every refused one, leaves the book as it is."
 abbrev pub fed : Memory → Step → Bool → Memory
 fed m (Open mode i f) refusal = m
 fed m (Close mode i f) refusal = m
@@ -57,8 +55,7 @@ abbrev pub NoOpenWaits : Service → Type 0
 NoOpenWaits s = (f : ℕ) → f < files → waits clients (entryAt s f) ≡ false
 
 -- "A recovery begins with a crash that comes while none is under way, and lasts, through any further crashes, to the
--- next accepted
--- end": none is under way, or one with the table just before the crash that began it.
+-- next accepted end": none is under way, or one with the table just before the crash that began it.
 pub data Recovery : Type 0 where
   none : Recovery
   since : List Row → Recovery

@@ -1,6 +1,5 @@
 -- The fresh service: "counts and labels 0, versions 1, server blocks and copies zero, none held or dirty; no
--- permission, mark, last
--- writer, wait, call or report; not recovering".
+-- permission, mark, last writer, wait, call or report; not recovering".
 use mathlib.Core.Bool.{false}
 use lib.ListN.{replicate}
 use Rattle.protocol.specs.Sizes.{clients}

@@ -1,6 +1,5 @@
 -- A report and an end of recovery, as the server does them: refused or done. Read to follow the proof of the
--- service's step, whose
--- contract does not mention them.
+-- service's step, whose contract does not mention them.
 use Prim.Native.Nat.{ℕ}
 use mathlib.Core.Bool.{cond}
 use mathlib.Core.List.{List}

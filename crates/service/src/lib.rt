@@ -1,6 +1,5 @@
 // The two ends together: the server with its state table and blocks, the clients with their copies, and the steps
-// that
-// the service takes.
+// that the service takes.
 mod outcome;
 mod server;
 mod service;
@@ -9,6 +8,5 @@ mod step;
 pub use outcome::Outcome;
 pub use server::Served;
 pub use server::Server;
-pub use server::end_refusal;
 pub use server::report_refusal;
 pub use service::Service;

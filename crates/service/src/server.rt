@@ -133,7 +133,7 @@ fn count_missing(reported: [bool; 8]) -> usize
     count
 }
 
-pub fn end_refusal(recovering: bool, reported: [bool; 8]) -> u8
+fn end_refusal(recovering: bool, reported: [bool; 8]) -> u8
     ensures { λ r. ⌜ r ≡ firstOf (endTests recovering reported) ⌝ }
 {
     if !recovering {

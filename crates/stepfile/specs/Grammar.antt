@@ -1,6 +1,5 @@
 -- The grammar of a line of the step file, read from left to right: each definition gives what it finds at the front
--- of a list of bytes,
--- and the bytes that follow it.
+-- of a list of bytes, and the bytes that follow it.
 use Prim.Native.Nat.{ℕ, _+_, _-_, _*_, _^_}
 use mathlib.Core.Bool.{Bool, true, false, cond, _&&_}
 use mathlib.Core.List.{List, [], _∷_}
@@ -62,8 +61,7 @@ abbrev pub four : (ℕ → ℕ → ℕ → ℕ → Step) → Shape
 four f = taking (λ a. three (f a))
 
 -- "OR, OW, CR, CW (open, close; read, write) and AN (reply) with station, file; RD and FL with station, file, block;
--- WR with station,
--- file, block, value; XX crash; RP station; EN end."
+-- WR with station, file, block, value; XX crash; RP station; EN end."
 abbrev pub words : List (List ℕ × Shape)
 words =
     (bytes "OR", two (Open ForRead))

@@ -1,7 +1,6 @@
 -- The line that a reply is told in: "line number from 1, then G latest previous permission (0 or 1); or W and each
--- call as
--- station:kind; or V value; or N refusal; or A, followed, if an open was granted, by its station and its G fields;
--- else K".
+-- call as station:kind; or V value; or N refusal; or A, followed, if an open was granted, by its station and its G
+-- fields; else K".
 use Prim.Native.Nat.{ℕ, zero, suc}
 use mathlib.Core.Bool.{cond}
 use mathlib.Core.List.{List, [], _∷_, _++_}

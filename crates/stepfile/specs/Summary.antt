@@ -1,6 +1,5 @@
 -- The summary: "Then "files" and how many files are not CLOSED or not at version 1, and for each, ascending: file,
--- state code, version,
--- last writer or "-"."
+-- state code, version, last writer or "-"."
 use Prim.Native.Nat.{ℕ, zero, suc}
 use mathlib.Core.Bool.{Bool, cond, not, _&&_}
 use mathlib.Core.List.{List, [], _++_}

@@ -18,8 +18,7 @@ use service::Server;
 pub const SUMMARY_ROOM: usize = 4096;
 
 // Writes the summary, and answers the place past it. Where the buffer has less than SUMMARY_ROOM bytes from the place
-// on,
-// writes nothing and answers the place.
+// on, writes nothing and answers the place.
 pub fn write_summary(out: &mut [u8], at: usize, server: Server) -> usize
     ensures { λ r. ⌜ Placed summaryRoom (now (out .entry)) at (summaryText (server .files)) (now (out .exit)) r ⌝ }
     ensures { λ r. ⌜ r ≤ at + summaryRoom ⌝ }

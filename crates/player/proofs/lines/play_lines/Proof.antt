@@ -1,6 +1,6 @@
 -- `play_lines` meets its contract: each arm puts together what its parts give, which crate service's `Arms.Result` shows to be the
 -- outcome that the definition of a step gives, and tells it; `Playing` adds it to what was told before. Assumes nothing.
-use Prim.Native.Nat.{ℕ, _-_, _<_}
+use Prim.Native.Nat.{ℕ, _+_, _-_, _<_, _≤_}
 use mathlib.Core.Path.{_≡_, refl, sym, ap, _∙_}
 use mathlib.Core.Bool.{Bool}
 use mathlib.Core.List.{List, map}
@@ -9,7 +9,7 @@ use lib.ListN.{length, length-map}
 use denote.Ref.{now}
 use borrow.Author.Needs.{needs}
 use Rattle.protocol.specs.declared.client.ClientFile.{ClientFile}
-use Rattle.protocol.specs.declared.reply.Reply.the-variants.{Done, Refused}
+use Rattle.protocol.specs.declared.reply.Reply.the-variants.{Refused}
 use Rattle.service.specs.declared.server.Server.{Server}
 use Rattle.service.specs.declared.service.Service.{Service}
 use Rattle.service.specs.declared.outcome.Outcome.{Outcome}
@@ -19,12 +19,16 @@ use Rattle.protocol.proofs.Storing.{Stored, stored-none, stored-more, stored-al
 use Rattle.ends.proofs.Ended.{client-there}
 use Rattle.service.specs.Answer.{noCalls}
 use Rattle.service.specs.Places.{noEntry, entryIn, clientIn}
-use Rattle.service.specs.Next.{reported, ended}
+use Rattle.service.specs.Next.{reported}
 use Rattle.service.proofs.Serving.{served-refused, served-done}
 use Rattle.service.proofs.Turns.{not-yet, reported-whole}
-use Rattle.service.proofs.Arms.Result.{outcomeOf, open-result, close-result, read-result, write-result, flush-result, answer-result, crash-result, report-result, end-result}
+use Rattle.service.proofs.Arms.Result.{open-result, close-result, read-result, write-result, flush-result, answer-result, crash-result, report-result, end-result}
 use Rattle.stepfile.specs.declared.parsed.Parsed.{Parsed}
+use Rattle.stepfile.specs.declared.parsed.Read.the-variants.{Line}
+use Rattle.stepfile.specs.Input.{readAt}
+use Rattle.stepfile.specs.Line.{lineText}
 use Rattle.stepfile.specs.Played.{outcomeOf as outcomeIn}
+use Rattle.writer.specs.Buffer.{Placed, lineRoom}
 use Rattle.player.specs.Progress.{PlayedTo}
 use Rattle.player.proofs.Playing.{has-room, has-number, none-played, line-played, same-rows, fewer-left, same-length as still-long, played-all, played-whole}
 use Rattle.player.proofs.lines.play_lines.Statement.{statement}
@@ -52,6 +56,61 @@ Inv-loop first input out₀ server₀ clients₀ copies₀ held₀ dirty₀ numb
 abbrev μ-loop : tie.MeasureT-loop
 μ-loop first input out₀ server₀ clients₀ copies₀ held₀ dirty₀ number₀ used₀ to₀ out server clients copies held dirty number used to =
     length input - used
+
+-- A line: what a turn of the loop knows once it has read one.
+abbrev Known : Type 0
+Known = tie.After-known-told Inv-loop2 μ-loop2 Inv-loop μ-loop
+
+module _ (d : Known) where
+  -- the turn, the loop's values in it, and the arguments of the function
+  abbrev reading : tie.After-read-at Inv-loop2 μ-loop2 Inv-loop μ-loop
+  reading = d .before .before .before
+
+  abbrev at : tie.At-loop Inv-loop2 μ-loop2 Inv-loop μ-loop
+  at = reading .before .before .before
+
+  abbrev start : tie.Start Inv-loop2 μ-loop2 Inv-loop μ-loop
+  start = at .before .before .before .before .before .before .before .before
+
+  -- the service as the line finds it
+  abbrev finds : Service
+  finds = serviceOf (at .loop .server) (at .loop .clients) (at .loop .copies) (at .loop .held) (at .loop .dirty)
+
+  -- what the line gives, and the place past it
+  abbrev gives : Parsed
+  gives = d .before .parsed .given .0 .0
+
+  abbrev next : ℕ
+  next = d .before .parsed .given .0 .1 .0
+
+  is-read : readAt (now (start .args .input)) (at .loop .used) ≡ Line gives next
+  is-read = sym (reading .read-at .ensures) ∙ d .before .parsed .given .1
+
+  -- the line is told by its outcome
+  tells :
+      (o : Outcome) (to : ℕ) (out : List ℕ)
+      → o ≡ outcomeIn finds gives
+      → Placed lineRoom (at .loop .out) (at .loop .to) (lineText (at .loop .number) (o .reply) (o .calls)) out to
+      → to ≤ at .loop .to + lineRoom
+      → PlayedTo (start .args .service) (start .args .first) (now (start .args .input)) (now (start .args .out))
+      (o .service) (at .loop .number + 1) next to out
+  tells o to out is placed most =
+      let a = start .args in
+      let l = at .loop in
+      line-played (a .service) (a .first) (now (a .input)) (now (a .out)) finds (l .number) (l .used) (l .to) (l .out) gives next o to out
+      (l .inv)
+      is-read
+      (has-room (l .to) (length (l .out)) (l .number) (sym (reading .before .before .can-tell .ensures) ∙ reading .before .if1 .taken))
+      is
+      placed
+      most
+
+  -- and fewer bytes are left
+  fewer : length (now (start .args .input)) - next < length (now (start .args .input)) - at .loop .used
+  fewer =
+      let a = start .args in
+      let l = at .loop in
+      fewer-left (a .service) (a .first) (now (a .input)) (now (a .out)) finds (l .number) (l .used) (l .to) (l .out) gives next (l .inv) is-read
 
 loop-holds : tie.Need-loop-holds Inv-loop2 μ-loop2 Inv-loop μ-loop
 loop-holds c = let a = c .before .before .before .before .before .before .before .args in none-played (a .service) (a .first) (now (a .input)) (now (a .out))
@@ -84,30 +143,13 @@ write-reply-requires : tie.Need-write-reply-requires Inv-loop2 μ-loop2 Inv-loop
 write-reply-requires c κs = tt
 
 loop-less : tie.Need-loop-less Inv-loop2 μ-loop2 Inv-loop μ-loop
-loop-less c =
-    let reading = c .before .before .before .before .before .before .before .before .before in
-    let parsed = c .before .before .before .before .before .before .before .parsed .given in
-    let turn = reading .before .before .before in
-    let l = turn .loop in
-    let start = turn .before .before .before .before .before .before .before .before .args in
-    let t = serviceOf (l .server) (l .clients) (l .copies) (l .held) (l .dirty) in
-    fewer-left (start .service) (start .first) (now (start .input)) (now (start .out)) t (l .number) (l .used) (l .to) (l .out) (parsed .0 .0) (parsed .0 .1 .0)
-    (l .inv)
-    (sym (reading .read-at .ensures) ∙ parsed .1)
+loop-less c = fewer (c .before .before .before .before .before .before)
 
 loop-again : tie.Need-loop-again Inv-loop2 μ-loop2 Inv-loop μ-loop
 loop-again c =
-    let reading = c .before .before .before .before .before .before .before .before .before in
-    let parsed = c .before .before .before .before .before .before .before .parsed .given in
-    let turn = reading .before .before .before in
-    let l = turn .loop in
-    let start = turn .before .before .before .before .before .before .before .before .args in
-    let t = serviceOf (l .server) (l .clients) (l .copies) (l .held) (l .dirty) in
-    line-played (start .service) (start .first) (now (start .input)) (now (start .out)) t (l .number) (l .used) (l .to) (l .out) (parsed .0 .0) (parsed .0 .1 .0)
-    (outcomeOf (l .server) (l .clients) (l .copies) (l .held) (l .dirty) (Refused 1) noCalls) _ _
-    (l .inv)
-    (sym (reading .read-at .ensures) ∙ parsed .1)
-    (has-room (l .to) (length (l .out)) (l .number) (sym (reading .before .before .can-tell .ensures) ∙ reading .before .if1 .taken))
+    let d = c .before .before .before .before .before .before in
+    let t = finds d in
+    tells d (record { service = t; reply = Refused 1; calls = noCalls }) _ _
     (ap (outcomeIn t) (sym (c .before .before .before .before .enum-told2 .given .1)))
     (c .before .before .write-reply .ensures .0)
     (c .before .before .write-reply .ensures .1)
@@ -158,34 +200,17 @@ write-reply-requires-2 : tie.Need-write-reply-requires-2 Inv-loop2 μ-loop2 Inv-
 write-reply-requires-2 c κs = tt
 
 loop-less-2 : tie.Need-loop-less-2 Inv-loop2 μ-loop2 Inv-loop μ-loop
-loop-less-2 c =
-    let reading = c .before .before .before .before .before .before .before .before .before .before .before .before .before .before .before .before .before .before .before .before .before .before .before in
-    let parsed = c .before .before .before .before .before .before .before .before .before .before .before .before .before .before .before .before .before .before .before .before .before .parsed .given in
-    let turn = reading .before .before .before in
-    let l = turn .loop in
-    let start = turn .before .before .before .before .before .before .before .before .args in
-    let t = serviceOf (l .server) (l .clients) (l .copies) (l .held) (l .dirty) in
-    fewer-left (start .service) (start .first) (now (start .input)) (now (start .out)) t (l .number) (l .used) (l .to) (l .out) (parsed .0 .0) (parsed .0 .1 .0)
-    (l .inv)
-    (sym (reading .read-at .ensures) ∙ parsed .1)
+loop-less-2 c = fewer (c .before .before .before .before .before .before .before .before .before .before .before .before .before .before .before .before .before .before .before .before)
 
 loop-again-2 : tie.Need-loop-again-2 Inv-loop2 μ-loop2 Inv-loop μ-loop
 loop-again-2 c =
-    let reading = c .before .before .before .before .before .before .before .before .before .before .before .before .before .before .before .before .before .before .before .before .before .before .before in
-    let parsed = c .before .before .before .before .before .before .before .before .before .before .before .before .before .before .before .before .before .before .before .before .before .parsed .given in
-    let turn = reading .before .before .before in
-    let l = turn .loop in
-    let start = turn .before .before .before .before .before .before .before .before .args in
-    let t = serviceOf (l .server) (l .clients) (l .copies) (l .held) (l .dirty) in
+    let d = c .before .before .before .before .before .before .before .before .before .before .before .before .before .before .before .before .before .before .before .before in
+    let t = finds d in
     let step-read = c .before .before .before .before .before .before .before .before .before .before .before .before .before .before .before .before .before .before .parsed2 .given in
     let dropped = c .before .before .before .before .drop-file-unless in
     let opened = c .before .before .before .before .before .before .before .before .before .before .before .open-ends in
     let known = c .before .before .before .before .before .before .before .before .before .before .before .before .before .before .before .step .given in
-    line-played (start .service) (start .first) (now (start .input)) (now (start .out)) t (l .number) (l .used) (l .to) (l .out) (parsed .0 .0) (parsed .0 .1 .0)
-    _ _ _
-    (l .inv)
-    (sym (reading .read-at .ensures) ∙ parsed .1)
-    (has-room (l .to) (length (l .out)) (l .number) (sym (reading .before .before .can-tell .ensures) ∙ reading .before .if1 .taken))
+    tells d _ _ _
     (open-result t (step-read .0 .0) (known .0 .0) (known .0 .1 .0) (known .0 .1 .1 .0) (opened .result) _ _ _
     (known .1)
     (opened .ensures)
@@ -235,33 +260,16 @@ write-reply-requires-3 : tie.Need-write-reply-requires-3 Inv-loop2 μ-loop2 Inv-
 write-reply-requires-3 c κs = tt
 
 loop-less-3 : tie.Need-loop-less-3 Inv-loop2 μ-loop2 Inv-loop μ-loop
-loop-less-3 c =
-    let reading = c .before .before .before .before .before .before .before .before .before .before .before .before .before .before .before .before .before .before in
-    let parsed = c .before .before .before .before .before .before .before .before .before .before .before .before .before .before .before .before .parsed .given in
-    let turn = reading .before .before .before in
-    let l = turn .loop in
-    let start = turn .before .before .before .before .before .before .before .before .args in
-    let t = serviceOf (l .server) (l .clients) (l .copies) (l .held) (l .dirty) in
-    fewer-left (start .service) (start .first) (now (start .input)) (now (start .out)) t (l .number) (l .used) (l .to) (l .out) (parsed .0 .0) (parsed .0 .1 .0)
-    (l .inv)
-    (sym (reading .read-at .ensures) ∙ parsed .1)
+loop-less-3 c = fewer (c .before .before .before .before .before .before .before .before .before .before .before .before .before .before .before)
 
 loop-again-3 : tie.Need-loop-again-3 Inv-loop2 μ-loop2 Inv-loop μ-loop
 loop-again-3 c =
-    let reading = c .before .before .before .before .before .before .before .before .before .before .before .before .before .before .before .before .before .before in
-    let parsed = c .before .before .before .before .before .before .before .before .before .before .before .before .before .before .before .before .parsed .given in
-    let turn = reading .before .before .before in
-    let l = turn .loop in
-    let start = turn .before .before .before .before .before .before .before .before .args in
-    let t = serviceOf (l .server) (l .clients) (l .copies) (l .held) (l .dirty) in
+    let d = c .before .before .before .before .before .before .before .before .before .before .before .before .before .before .before in
+    let t = finds d in
     let step-read = c .before .before .before .before .before .before .before .before .before .before .before .before .before .parsed2 .given in
     let closed = c .before .before .before .before .before .before .close-ends in
     let known = c .before .before .before .before .before .before .before .before .before .before .step2 .given in
-    line-played (start .service) (start .first) (now (start .input)) (now (start .out)) t (l .number) (l .used) (l .to) (l .out) (parsed .0 .0) (parsed .0 .1 .0)
-    _ _ _
-    (l .inv)
-    (sym (reading .read-at .ensures) ∙ parsed .1)
-    (has-room (l .to) (length (l .out)) (l .number) (sym (reading .before .before .can-tell .ensures) ∙ reading .before .if1 .taken))
+    tells d _ _ _
     (close-result t (step-read .0 .0) (known .0 .0) (known .0 .1 .0) (known .0 .1 .1 .0) (closed .result)
     (known .1)
     (closed .ensures) ∙ sym (ap (outcomeIn t) (step-read .1)))
@@ -293,33 +301,16 @@ write-reply-requires-4 : tie.Need-write-reply-requires-4 Inv-loop2 μ-loop2 Inv-
 write-reply-requires-4 c κs = tt
 
 loop-less-4 : tie.Need-loop-less-4 Inv-loop2 μ-loop2 Inv-loop μ-loop
-loop-less-4 c =
-    let reading = c .before .before .before .before .before .before .before .before .before .before .before .before .before .before .before .before .before .before .before .before in
-    let parsed = c .before .before .before .before .before .before .before .before .before .before .before .before .before .before .before .before .before .before .parsed .given in
-    let turn = reading .before .before .before in
-    let l = turn .loop in
-    let start = turn .before .before .before .before .before .before .before .before .args in
-    let t = serviceOf (l .server) (l .clients) (l .copies) (l .held) (l .dirty) in
-    fewer-left (start .service) (start .first) (now (start .input)) (now (start .out)) t (l .number) (l .used) (l .to) (l .out) (parsed .0 .0) (parsed .0 .1 .0)
-    (l .inv)
-    (sym (reading .read-at .ensures) ∙ parsed .1)
+loop-less-4 c = fewer (c .before .before .before .before .before .before .before .before .before .before .before .before .before .before .before .before .before)
 
 loop-again-4 : tie.Need-loop-again-4 Inv-loop2 μ-loop2 Inv-loop μ-loop
 loop-again-4 c =
-    let reading = c .before .before .before .before .before .before .before .before .before .before .before .before .before .before .before .before .before .before .before .before in
-    let parsed = c .before .before .before .before .before .before .before .before .before .before .before .before .before .before .before .before .before .before .parsed .given in
-    let turn = reading .before .before .before in
-    let l = turn .loop in
-    let start = turn .before .before .before .before .before .before .before .before .args in
-    let t = serviceOf (l .server) (l .clients) (l .copies) (l .held) (l .dirty) in
+    let d = c .before .before .before .before .before .before .before .before .before .before .before .before .before .before .before .before .before in
+    let t = finds d in
     let step-read = c .before .before .before .before .before .before .before .before .before .before .before .before .before .before .before .parsed2 .given in
     let part = c .before .before .before .before .read-block in
     let known = c .before .before .before .before .before .before .before .before .before .before .before .before .step3 .given in
-    line-played (start .service) (start .first) (now (start .input)) (now (start .out)) t (l .number) (l .used) (l .to) (l .out) (parsed .0 .0) (parsed .0 .1 .0)
-    _ _ _
-    (l .inv)
-    (sym (reading .read-at .ensures) ∙ parsed .1)
-    (has-room (l .to) (length (l .out)) (l .number) (sym (reading .before .before .can-tell .ensures) ∙ reading .before .if1 .taken))
+    tells d _ _ _
     (read-result t (step-read .0 .0) (known .0 .0) (known .0 .1 .0) (known .0 .1 .1 .0) (part .result) _ _
     (known .1)
     (part .ensures) ∙ sym (ap (outcomeIn t) (step-read .1)))
@@ -351,33 +342,16 @@ write-reply-requires-5 : tie.Need-write-reply-requires-5 Inv-loop2 μ-loop2 Inv-
 write-reply-requires-5 c κs = tt
 
 loop-less-5 : tie.Need-loop-less-5 Inv-loop2 μ-loop2 Inv-loop μ-loop
-loop-less-5 c =
-    let reading = c .before .before .before .before .before .before .before .before .before .before .before .before .before .before .before .before .before .before .before .before in
-    let parsed = c .before .before .before .before .before .before .before .before .before .before .before .before .before .before .before .before .before .before .parsed .given in
-    let turn = reading .before .before .before in
-    let l = turn .loop in
-    let start = turn .before .before .before .before .before .before .before .before .args in
-    let t = serviceOf (l .server) (l .clients) (l .copies) (l .held) (l .dirty) in
-    fewer-left (start .service) (start .first) (now (start .input)) (now (start .out)) t (l .number) (l .used) (l .to) (l .out) (parsed .0 .0) (parsed .0 .1 .0)
-    (l .inv)
-    (sym (reading .read-at .ensures) ∙ parsed .1)
+loop-less-5 c = fewer (c .before .before .before .before .before .before .before .before .before .before .before .before .before .before .before .before .before)
 
 loop-again-5 : tie.Need-loop-again-5 Inv-loop2 μ-loop2 Inv-loop μ-loop
 loop-again-5 c =
-    let reading = c .before .before .before .before .before .before .before .before .before .before .before .before .before .before .before .before .before .before .before .before in
-    let parsed = c .before .before .before .before .before .before .before .before .before .before .before .before .before .before .before .before .before .before .parsed .given in
-    let turn = reading .before .before .before in
-    let l = turn .loop in
-    let start = turn .before .before .before .before .before .before .before .before .args in
-    let t = serviceOf (l .server) (l .clients) (l .copies) (l .held) (l .dirty) in
+    let d = c .before .before .before .before .before .before .before .before .before .before .before .before .before .before .before .before .before in
+    let t = finds d in
     let step-read = c .before .before .before .before .before .before .before .before .before .before .before .before .before .before .before .parsed2 .given in
     let part = c .before .before .before .before .write-block in
     let known = c .before .before .before .before .before .before .before .before .before .before .before .before .step4 .given in
-    line-played (start .service) (start .first) (now (start .input)) (now (start .out)) t (l .number) (l .used) (l .to) (l .out) (parsed .0 .0) (parsed .0 .1 .0)
-    _ _ _
-    (l .inv)
-    (sym (reading .read-at .ensures) ∙ parsed .1)
-    (has-room (l .to) (length (l .out)) (l .number) (sym (reading .before .before .can-tell .ensures) ∙ reading .before .if1 .taken))
+    tells d _ _ _
     (write-result t (step-read .0 .0) (known .0 .0) (known .0 .1 .0) (known .0 .1 .1 .0) (part .result) (known .0 .1 .1 .1 .0)
     _ _ _ _
     (known .1)
@@ -395,33 +369,16 @@ write-reply-requires-6 : tie.Need-write-reply-requires-6 Inv-loop2 μ-loop2 Inv-
 write-reply-requires-6 c κs = tt
 
 loop-less-6 : tie.Need-loop-less-6 Inv-loop2 μ-loop2 Inv-loop μ-loop
-loop-less-6 c =
-    let reading = c .before .before .before .before .before .before .before .before .before .before .before .before .before .before .before .before .before in
-    let parsed = c .before .before .before .before .before .before .before .before .before .before .before .before .before .before .before .parsed .given in
-    let turn = reading .before .before .before in
-    let l = turn .loop in
-    let start = turn .before .before .before .before .before .before .before .before .args in
-    let t = serviceOf (l .server) (l .clients) (l .copies) (l .held) (l .dirty) in
-    fewer-left (start .service) (start .first) (now (start .input)) (now (start .out)) t (l .number) (l .used) (l .to) (l .out) (parsed .0 .0) (parsed .0 .1 .0)
-    (l .inv)
-    (sym (reading .read-at .ensures) ∙ parsed .1)
+loop-less-6 c = fewer (c .before .before .before .before .before .before .before .before .before .before .before .before .before .before)
 
 loop-again-6 : tie.Need-loop-again-6 Inv-loop2 μ-loop2 Inv-loop μ-loop
 loop-again-6 c =
-    let reading = c .before .before .before .before .before .before .before .before .before .before .before .before .before .before .before .before .before in
-    let parsed = c .before .before .before .before .before .before .before .before .before .before .before .before .before .before .before .parsed .given in
-    let turn = reading .before .before .before in
-    let l = turn .loop in
-    let start = turn .before .before .before .before .before .before .before .before .args in
-    let t = serviceOf (l .server) (l .clients) (l .copies) (l .held) (l .dirty) in
+    let d = c .before .before .before .before .before .before .before .before .before .before .before .before .before .before in
+    let t = finds d in
     let step-read = c .before .before .before .before .before .before .before .before .before .before .before .before .parsed2 .given in
     let part = c .before .before .before .before .flush-block in
     let known = c .before .before .before .before .before .before .before .before .before .step5 .given in
-    line-played (start .service) (start .first) (now (start .input)) (now (start .out)) t (l .number) (l .used) (l .to) (l .out) (parsed .0 .0) (parsed .0 .1 .0)
-    _ _ _
-    (l .inv)
-    (sym (reading .read-at .ensures) ∙ parsed .1)
-    (has-room (l .to) (length (l .out)) (l .number) (sym (reading .before .before .can-tell .ensures) ∙ reading .before .if1 .taken))
+    tells d _ _ _
     (flush-result t (step-read .0 .0) (known .0 .0) (known .0 .1 .0) (known .0 .1 .1 .0) (part .result) _ _
     (known .1)
     (part .ensures) ∙ sym (ap (outcomeIn t) (step-read .1)))
@@ -507,16 +464,7 @@ write-reply-requires-7 : tie.Need-write-reply-requires-7 Inv-loop2 μ-loop2 Inv-
 write-reply-requires-7 c κs = tt
 
 loop-less-7 : tie.Need-loop-less-7 Inv-loop2 μ-loop2 Inv-loop μ-loop
-loop-less-7 c =
-    let reading = c .before .before .before .before .before .before .before .before .before .before .before .before .before .before .before .before .before .before .before .before .before .before .before .before .before .before .before .before .before .before .before .before in
-    let parsed = c .before .before .before .before .before .before .before .before .before .before .before .before .before .before .before .before .before .before .before .before .before .before .before .before .before .before .before .before .before .before .parsed .given in
-    let turn = reading .before .before .before in
-    let l = turn .loop in
-    let start = turn .before .before .before .before .before .before .before .before .args in
-    let t = serviceOf (l .server) (l .clients) (l .copies) (l .held) (l .dirty) in
-    fewer-left (start .service) (start .first) (now (start .input)) (now (start .out)) t (l .number) (l .used) (l .to) (l .out) (parsed .0 .0) (parsed .0 .1 .0)
-    (l .inv)
-    (sym (reading .read-at .ensures) ∙ parsed .1)
+loop-less-7 c = fewer (c .before .before .before .before .before .before .before .before .before .before .before .before .before .before .before .before .before .before .before .before .before .before .before .before .before .before .before .before .before)
 
 -- an array of structs has its length, which what owns it tells of another form of its elements
 unmapped : (X Y : Type 0) (to : X → Y) (l : List X) (n : ℕ) → length (map to l) ≡ n → length l ≡ n
@@ -527,26 +475,20 @@ table-whole c = search unmapped
 
 loop-again-7 : tie.Need-loop-again-7 Inv-loop2 μ-loop2 Inv-loop μ-loop
 loop-again-7 c =
-    let reading = c .before .before .before .before .before .before .before .before .before .before .before .before .before .before .before .before .before .before .before .before .before .before .before .before .before .before .before .before .before .before .before .before in
-    let parsed = c .before .before .before .before .before .before .before .before .before .before .before .before .before .before .before .before .before .before .before .before .before .before .before .before .before .before .before .before .before .before .parsed .given in
-    let turn = reading .before .before .before in
-    let l = turn .loop in
-    let start = turn .before .before .before .before .before .before .before .before .args in
-    let t = serviceOf (l .server) (l .clients) (l .copies) (l .held) (l .dirty) in
+    let d = c .before .before .before .before .before .before .before .before .before .before .before .before .before .before .before .before .before .before .before .before .before .before .before .before .before .before .before .before .before in
+    let t = finds d in
     let step-read = c .before .before .before .before .before .before .before .before .before .before .before .before .before .before .before .before .before .before .before .before .before .before .before .before .before .before .before .parsed2 .given in
     let dropped = c .before .before .before .before .drop-file-unless2 in
     let granted = c .before .before .before .before .before .before .before .before .before .before .grant-waiter in
     let settled = c .before .before .before .before .before .before .before .before .before .before .before .before .before .before .answer-blocks in
     let answered = c .before .before .before .before .before .before .before .before .before .before .before .before .before .before .before .before .before .before .before .before .answer-call in
     let known = c .before .before .before .before .before .before .before .before .before .before .before .before .before .before .before .before .before .before .before .before .before .before .before .before .step6 .given in
-    line-played (start .service) (start .first) (now (start .input)) (now (start .out)) t (l .number) (l .used) (l .to) (l .out) (parsed .0 .0) (parsed .0 .1 .0)
-    _ _ _
-    (l .inv)
-    (sym (reading .read-at .ensures) ∙ parsed .1)
-    (has-room (l .to) (length (l .out)) (l .number) (sym (reading .before .before .can-tell .ensures) ∙ reading .before .if1 .taken))
+    let a = start d .args in
+    let l = at d .loop in
+    tells d _ _ _
     (answer-result t (step-read .0 .0) (known .0 .0) (known .0 .1 .0) (answered .result) (granted .result)
     _ _ _ _ _ _ _
-    (same-rows (start .service) (start .first) (now (start .input)) (now (start .out)) t (l .number) (l .used) (l .to) (l .out) (l .inv) ∙ table-whole (turn .before .before .before .before .before .before .before .before))
+    (same-rows (a .service) (a .first) (now (a .input)) (now (a .out)) t (l .number) (l .used) (l .to) (l .out) (l .inv) ∙ table-whole (start d))
     (known .1)
     (answered .ensures)
     (settled .ensures .0)
@@ -570,32 +512,15 @@ write-reply-requires-8 : tie.Need-write-reply-requires-8 Inv-loop2 μ-loop2 Inv-
 write-reply-requires-8 c κs = tt
 
 loop-less-8 : tie.Need-loop-less-8 Inv-loop2 μ-loop2 Inv-loop μ-loop
-loop-less-8 c =
-    let reading = c .before .before .before .before .before .before .before .before .before .before .before .before .before in
-    let parsed = c .before .before .before .before .before .before .before .before .before .before .before .parsed .given in
-    let turn = reading .before .before .before in
-    let l = turn .loop in
-    let start = turn .before .before .before .before .before .before .before .before .args in
-    let t = serviceOf (l .server) (l .clients) (l .copies) (l .held) (l .dirty) in
-    fewer-left (start .service) (start .first) (now (start .input)) (now (start .out)) t (l .number) (l .used) (l .to) (l .out) (parsed .0 .0) (parsed .0 .1 .0)
-    (l .inv)
-    (sym (reading .read-at .ensures) ∙ parsed .1)
+loop-less-8 c = fewer (c .before .before .before .before .before .before .before .before .before .before)
 
 loop-again-8 : tie.Need-loop-again-8 Inv-loop2 μ-loop2 Inv-loop μ-loop
 loop-again-8 c =
-    let reading = c .before .before .before .before .before .before .before .before .before .before .before .before .before in
-    let parsed = c .before .before .before .before .before .before .before .before .before .before .before .parsed .given in
-    let turn = reading .before .before .before in
-    let l = turn .loop in
-    let start = turn .before .before .before .before .before .before .before .before .args in
-    let t = serviceOf (l .server) (l .clients) (l .copies) (l .held) (l .dirty) in
+    let d = c .before .before .before .before .before .before .before .before .before .before in
+    let t = finds d in
     let step-read = c .before .before .before .before .before .before .before .before .parsed2 .given in
     let crash = c .before .before .before .before .crashed in
-    line-played (start .service) (start .first) (now (start .input)) (now (start .out)) t (l .number) (l .used) (l .to) (l .out) (parsed .0 .0) (parsed .0 .1 .0)
-    _ _ _
-    (l .inv)
-    (sym (reading .read-at .ensures) ∙ parsed .1)
-    (has-room (l .to) (length (l .out)) (l .number) (sym (reading .before .before .can-tell .ensures) ∙ reading .before .if1 .taken))
+    tells d _ _ _
     (crash-result t (step-read .0 .0) (crash .result) (c .before .before .before .before .before .enum-told3 .given .1) (crash .ensures) ∙ sym (ap (outcomeIn t) (step-read .1)))
     (c .before .before .write-reply8 .ensures .0)
     (c .before .before .write-reply8 .ensures .1)
@@ -610,36 +535,19 @@ write-reply-requires-9 : tie.Need-write-reply-requires-9 Inv-loop2 μ-loop2 Inv-
 write-reply-requires-9 c κs = tt
 
 loop-less-9 : tie.Need-loop-less-9 Inv-loop2 μ-loop2 Inv-loop μ-loop
-loop-less-9 c =
-    let reading = c .before .before .before .before .before .before .before .before .before .before .before .before .before .before .before .before in
-    let parsed = c .before .before .before .before .before .before .before .before .before .before .before .before .before .before .parsed .given in
-    let turn = reading .before .before .before in
-    let l = turn .loop in
-    let start = turn .before .before .before .before .before .before .before .before .args in
-    let t = serviceOf (l .server) (l .clients) (l .copies) (l .held) (l .dirty) in
-    fewer-left (start .service) (start .first) (now (start .input)) (now (start .out)) t (l .number) (l .used) (l .to) (l .out) (parsed .0 .0) (parsed .0 .1 .0)
-    (l .inv)
-    (sym (reading .read-at .ensures) ∙ parsed .1)
+loop-less-9 c = fewer (c .before .before .before .before .before .before .before .before .before .before .before .before .before)
 
 loop-again-9 : tie.Need-loop-again-9 Inv-loop2 μ-loop2 Inv-loop μ-loop
 loop-again-9 c =
-    let reading = c .before .before .before .before .before .before .before .before .before .before .before .before .before .before .before .before in
-    let parsed = c .before .before .before .before .before .before .before .before .before .before .before .before .before .before .parsed .given in
-    let turn = reading .before .before .before in
-    let l = turn .loop in
-    let start = turn .before .before .before .before .before .before .before .before .args in
-    let t = serviceOf (l .server) (l .clients) (l .copies) (l .held) (l .dirty) in
+    let d = c .before .before .before .before .before .before .before .before .before .before .before .before .before in
+    let t = finds d in
     let step-read = c .before .before .before .before .before .before .before .before .before .before .before .parsed2 .given in
     let refusal = c .before .before .before .before .before .report-refusal in
     let known = c .before .before .before .before .before .before .before .before .step7 .given in
-    line-played (start .service) (start .first) (now (start .input)) (now (start .out)) t (l .number) (l .used) (l .to) (l .out) (parsed .0 .0) (parsed .0 .1 .0)
-    _ _ _
-    (l .inv)
-    (sym (reading .read-at .ensures) ∙ parsed .1)
-    (has-room (l .to) (length (l .out)) (l .number) (sym (reading .before .before .can-tell .ensures) ∙ reading .before .if1 .taken))
-    (report-result t (step-read .0 .0) (record { server = l .server; reply = Refused (refusal .result) }) (known .0 .0)
+    tells d _ _ _
+    (report-result t (step-read .0 .0) (record { server = t .server; reply = Refused (refusal .result) }) (known .0 .0)
     (known .1)
-    (served-refused _ _ _ (reported (l .server) (l .clients) (known .0 .0)) (refusal .ensures) (c .before .before .before .before .if2 .taken)) ∙ sym (ap (outcomeIn t) (step-read .1)))
+    (served-refused _ _ _ (reported (t .server) (t .clients) (known .0 .0)) (refusal .ensures) (c .before .before .before .before .if2 .taken)) ∙ sym (ap (outcomeIn t) (step-read .1)))
     (c .before .before .write-reply9 .ensures .0)
     (c .before .before .write-reply9 .ensures .1)
 
@@ -702,117 +610,47 @@ write-reply-requires-10 : tie.Need-write-reply-requires-10 Inv-loop2 μ-loop2 In
 write-reply-requires-10 c κs = tt
 
 loop-less-10 : tie.Need-loop-less-10 Inv-loop2 μ-loop2 Inv-loop μ-loop
-loop-less-10 c =
-    let reading = c .before .before .before .before .before .before .before .before .before .before .before .before .before .before .before .before .before .before in
-    let parsed = c .before .before .before .before .before .before .before .before .before .before .before .before .before .before .before .before .parsed .given in
-    let turn = reading .before .before .before in
-    let l = turn .loop in
-    let start = turn .before .before .before .before .before .before .before .before .args in
-    let t = serviceOf (l .server) (l .clients) (l .copies) (l .held) (l .dirty) in
-    fewer-left (start .service) (start .first) (now (start .input)) (now (start .out)) t (l .number) (l .used) (l .to) (l .out) (parsed .0 .0) (parsed .0 .1 .0)
-    (l .inv)
-    (sym (reading .read-at .ensures) ∙ parsed .1)
+loop-less-10 c = fewer (c .before .before .before .before .before .before .before .before .before .before .before .before .before .before .before)
 
 loop-again-10 : tie.Need-loop-again-10 Inv-loop2 μ-loop2 Inv-loop μ-loop
 loop-again-10 c =
-    let reading = c .before .before .before .before .before .before .before .before .before .before .before .before .before .before .before .before .before .before in
-    let parsed = c .before .before .before .before .before .before .before .before .before .before .before .before .before .before .before .before .parsed .given in
-    let turn = reading .before .before .before in
-    let l = turn .loop in
-    let start = turn .before .before .before .before .before .before .before .before .args in
-    let t = serviceOf (l .server) (l .clients) (l .copies) (l .held) (l .dirty) in
+    let d = c .before .before .before .before .before .before .before .before .before .before .before .before .before .before .before in
+    let t = finds d in
     let step-read = c .before .before .before .before .before .before .before .before .before .before .before .before .before .parsed2 .given in
     let stored = c .before .before .before .before in
     let refusal = c .before .before .before .before .before .before .before .report-refusal in
     let known = c .before .before .before .before .before .before .before .before .before .before .step7 .given in
     let inner = stored .before .loop2 .inv in
-    line-played (start .service) (start .first) (now (start .input)) (now (start .out)) t (l .number) (l .used) (l .to) (l .out) (parsed .0 .0) (parsed .0 .1 .0)
-    _ _ _
-    (l .inv)
-    (sym (reading .read-at .ensures) ∙ parsed .1)
-    (has-room (l .to) (length (l .out)) (l .number) (sym (reading .before .before .can-tell .ensures) ∙ reading .before .if1 .taken))
+    tells d _ _ _
     (report-result t (step-read .0 .0) _ (known .0 .0)
     (known .1)
-    (served-done _ _ (l .server) (reported (l .server) (l .clients) (known .0 .0)) _ (refusal .ensures) (c .before .before .before .before .before .before .if2 .left)
-    (reported-whole (l .server) (l .clients) (known .0 .0) _ _ _ _ (stored-all (inner .0) (stored .loop2-test .left)) (inner .1) (inner .2) (inner .3))) ∙ sym (ap (outcomeIn t) (step-read .1)))
+    (served-done _ _ (t .server) (reported (t .server) (t .clients) (known .0 .0)) _ (refusal .ensures) (c .before .before .before .before .before .before .if2 .left)
+    (reported-whole (t .server) (t .clients) (known .0 .0) _ _ _ _ (stored-all (inner .0) (stored .loop2-test .left)) (inner .1) (inner .2) (inner .3))) ∙ sym (ap (outcomeIn t) (step-read .1)))
     (c .before .before .write-reply10 .ensures .0)
     (c .before .before .write-reply10 .ensures .1)
 
 enum-told-4 : tie.Need-enum-told-4 Inv-loop2 μ-loop2 Inv-loop μ-loop
 enum-told-4 c = search needs
 
-end-refusal-requires : tie.Need-end-refusal-requires Inv-loop2 μ-loop2 Inv-loop μ-loop
-end-refusal-requires c κs = tt
+end-requires : tie.Need-end-requires Inv-loop2 μ-loop2 Inv-loop μ-loop
+end-requires c κs = tt
 
 write-reply-requires-11 : tie.Need-write-reply-requires-11 Inv-loop2 μ-loop2 Inv-loop μ-loop
 write-reply-requires-11 c κs = tt
 
 loop-less-11 : tie.Need-loop-less-11 Inv-loop2 μ-loop2 Inv-loop μ-loop
-loop-less-11 c =
-    let reading = c .before .before .before .before .before .before .before .before .before .before .before .before .before .before .before in
-    let parsed = c .before .before .before .before .before .before .before .before .before .before .before .before .before .parsed .given in
-    let turn = reading .before .before .before in
-    let l = turn .loop in
-    let start = turn .before .before .before .before .before .before .before .before .args in
-    let t = serviceOf (l .server) (l .clients) (l .copies) (l .held) (l .dirty) in
-    fewer-left (start .service) (start .first) (now (start .input)) (now (start .out)) t (l .number) (l .used) (l .to) (l .out) (parsed .0 .0) (parsed .0 .1 .0)
-    (l .inv)
-    (sym (reading .read-at .ensures) ∙ parsed .1)
+loop-less-11 c = fewer (c .before .before .before .before .before .before .before .before .before .before .before)
 
 loop-again-11 : tie.Need-loop-again-11 Inv-loop2 μ-loop2 Inv-loop μ-loop
 loop-again-11 c =
-    let reading = c .before .before .before .before .before .before .before .before .before .before .before .before .before .before .before in
-    let parsed = c .before .before .before .before .before .before .before .before .before .before .before .before .before .parsed .given in
-    let turn = reading .before .before .before in
-    let l = turn .loop in
-    let start = turn .before .before .before .before .before .before .before .before .args in
-    let t = serviceOf (l .server) (l .clients) (l .copies) (l .held) (l .dirty) in
-    let step-read = c .before .before .before .before .before .before .before .before .before .before .parsed2 .given in
-    let refusal = c .before .before .before .before .before .end-refusal in
-    line-played (start .service) (start .first) (now (start .input)) (now (start .out)) t (l .number) (l .used) (l .to) (l .out) (parsed .0 .0) (parsed .0 .1 .0)
-    _ _ _
-    (l .inv)
-    (sym (reading .read-at .ensures) ∙ parsed .1)
-    (has-room (l .to) (length (l .out)) (l .number) (sym (reading .before .before .can-tell .ensures) ∙ reading .before .if1 .taken))
-    (end-result t (step-read .0 .0) (record { server = l .server; reply = Refused (refusal .result) }) (c .before .before .before .before .before .before .before .enum-told4 .given .1)
-    (served-refused _ _ _ (ended (l .server)) (refusal .ensures) (c .before .before .before .before .if3 .taken)) ∙ sym (ap (outcomeIn t) (step-read .1)))
+    let d = c .before .before .before .before .before .before .before .before .before .before .before in
+    let t = finds d in
+    let step-read = c .before .before .before .before .before .before .before .before .before .parsed2 .given in
+    let served = c .before .before .before .before .before .end in
+    tells d _ _ _
+    (end-result t (step-read .0 .0) (served .result) (c .before .before .before .before .before .before .enum-told4 .given .1) (served .ensures) ∙ sym (ap (outcomeIn t) (step-read .1)))
     (c .before .before .write-reply11 .ensures .0)
     (c .before .before .write-reply11 .ensures .1)
-
-write-reply-requires-12 : tie.Need-write-reply-requires-12 Inv-loop2 μ-loop2 Inv-loop μ-loop
-write-reply-requires-12 c κs = tt
-
-loop-less-12 : tie.Need-loop-less-12 Inv-loop2 μ-loop2 Inv-loop μ-loop
-loop-less-12 c =
-    let reading = c .before .before .before .before .before .before .before .before .before .before .before .before .before .before .before in
-    let parsed = c .before .before .before .before .before .before .before .before .before .before .before .before .before .parsed .given in
-    let turn = reading .before .before .before in
-    let l = turn .loop in
-    let start = turn .before .before .before .before .before .before .before .before .args in
-    let t = serviceOf (l .server) (l .clients) (l .copies) (l .held) (l .dirty) in
-    fewer-left (start .service) (start .first) (now (start .input)) (now (start .out)) t (l .number) (l .used) (l .to) (l .out) (parsed .0 .0) (parsed .0 .1 .0)
-    (l .inv)
-    (sym (reading .read-at .ensures) ∙ parsed .1)
-
-loop-again-12 : tie.Need-loop-again-12 Inv-loop2 μ-loop2 Inv-loop μ-loop
-loop-again-12 c =
-    let reading = c .before .before .before .before .before .before .before .before .before .before .before .before .before .before .before in
-    let parsed = c .before .before .before .before .before .before .before .before .before .before .before .before .before .parsed .given in
-    let turn = reading .before .before .before in
-    let l = turn .loop in
-    let start = turn .before .before .before .before .before .before .before .before .args in
-    let t = serviceOf (l .server) (l .clients) (l .copies) (l .held) (l .dirty) in
-    let step-read = c .before .before .before .before .before .before .before .before .before .before .parsed2 .given in
-    let refusal = c .before .before .before .before .before .end-refusal in
-    line-played (start .service) (start .first) (now (start .input)) (now (start .out)) t (l .number) (l .used) (l .to) (l .out) (parsed .0 .0) (parsed .0 .1 .0)
-    _ _ _
-    (l .inv)
-    (sym (reading .read-at .ensures) ∙ parsed .1)
-    (has-room (l .to) (length (l .out)) (l .number) (sym (reading .before .before .can-tell .ensures) ∙ reading .before .if1 .taken))
-    (end-result t (step-read .0 .0) _ (c .before .before .before .before .before .before .before .enum-told4 .given .1)
-    (served-done _ _ (l .server) (ended (l .server)) _ (refusal .ensures) (c .before .before .before .before .if3 .left) refl) ∙ sym (ap (outcomeIn t) (step-read .1)))
-    (c .before .before .write-reply12 .ensures .0)
-    (c .before .before .write-reply12 .ensures .1)
 
 same-length : tie.Need-same-length Inv-loop2 μ-loop2 Inv-loop μ-loop
 same-length c =
@@ -984,13 +822,10 @@ play-lines-spec =
     loop-less-10
     loop-again-10
     enum-told-4
-    end-refusal-requires
+    end-requires
     write-reply-requires-11
     loop-less-11
     loop-again-11
-    write-reply-requires-12
-    loop-less-12
-    loop-again-12
     same-length
     returns
     same-length-2
