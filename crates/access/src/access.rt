@@ -24,7 +24,7 @@ fn place_of(file: usize, block: usize) -> usize
 }
 
 // The answer, unless the step is refused.
-fn unless_refused(refusal: u8, reply: Reply) -> Reply
+pub fn unless_refused(refusal: u8, reply: Reply) -> Reply
     ensures { λ r. ⌜ r ≡ unlessRefused refusal reply ⌝ }
 {
     if refusal == 0 {

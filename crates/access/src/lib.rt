@@ -6,6 +6,7 @@ mod refusal;
 
 pub use access::flush_block;
 pub use access::read_block;
+pub use access::unless_refused;
 pub use access::write_block;
 pub use blocks::answer_blocks;
 pub use blocks::drop_file_unless;

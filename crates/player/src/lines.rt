@@ -9,6 +9,7 @@ use access::answer_blocks;
 use access::drop_file_unless;
 use access::flush_block;
 use access::read_block;
+use access::unless_refused;
 use access::write_block;
 use ends::answer_call;
 use ends::close_ends;
@@ -18,7 +19,9 @@ use protocol::Reply;
 use protocol::Step;
 use reader::read_at;
 use service::Service;
+use service::end_refusal;
 use service::report_refusal;
+use service::reports_after_end;
 use stepfile::Parsed;
 use stepfile::Read;
 use table::reported_entry;
@@ -213,11 +216,13 @@ pub fn play_lines(service: Service, first: u64, input: &[u8], out: &mut [u8]) ->
                 to = write_reply(out, to, line, Reply::Done, [0; 8]);
             }
             Step::End => {
-                let served = server.end();
-                let server_after = served.server;
-                let reply = served.reply;
-                server = server_after;
-                to = write_reply(out, to, line, reply, [0; 8]);
+                let given = server.reported;
+                let refusal = end_refusal(server.recovering, given);
+                let recovering = server.recovering & (refusal != 0);
+                server.recovering = recovering;
+                let reports = reports_after_end(refusal, given);
+                server.reported = reports;
+                to = write_reply(out, to, line, unless_refused(refusal, Reply::Done), [0; 8]);
             }
         }
     }

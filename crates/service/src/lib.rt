@@ -8,5 +8,7 @@ mod step;
 pub use outcome::Outcome;
 pub use server::Served;
 pub use server::Server;
+pub use server::end_refusal;
 pub use server::report_refusal;
+pub use server::reports_after_end;
 pub use service::Service;

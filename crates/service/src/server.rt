@@ -5,7 +5,7 @@ ghost use Rattle.protocol.specs.Sizes.{clients};
 ghost use Rattle.protocol.specs.Lists.{firstOf};
 ghost use Rattle.service.specs.Refusal.{missing, reportTests, endTests};
 ghost use Rattle.service.specs.Next.{crashed as crashedServer, reported as reportedServer, ended as endedServer};
-ghost use Rattle.service.specs.Served.{reportServed, endServed};
+ghost use Rattle.service.specs.Served.{reportServed, endServed, reportsAfterEnd};
 use decision::one_if;
 use protocol::ClientFile;
 use protocol::Entry;
@@ -133,11 +133,18 @@ fn count_missing(reported: [bool; 8]) -> usize
     count
 }
 
-fn end_refusal(recovering: bool, reported: [bool; 8]) -> u8
+pub fn end_refusal(recovering: bool, reported: [bool; 8]) -> u8
     ensures { λ r. ⌜ r ≡ firstOf (endTests recovering reported) ⌝ }
 {
     if !recovering {
         return 6;
     }
     if 0 < count_missing(reported) { 8 } else { 0 }
+}
+
+// The reports after an end of recovery: none, unless it is refused.
+pub fn reports_after_end(refusal: u8, reported: [bool; 8]) -> [bool; 8]
+    ensures { λ r. ⌜ r ≡ reportsAfterEnd refusal reported ⌝ }
+{
+    if refusal == 0 { [false; 8] } else { reported }
 }

@@ -1,14 +1,14 @@
 -- What the service's step puts together, kind by kind, is the outcome that the definition of a step gives. Assumes nothing.
 use Prim.Native.Nat.{ℕ, _*_, _%_}
 use mathlib.Core.Path.{_≡_, refl, sym, ap, _∙_}
-use mathlib.Core.Bool.{Bool, true, false, not}
+use mathlib.Core.Bool.{Bool, true, false, cond, not, _&&_, and-true, and-false}
 use mathlib.Core.List.{List}
 use lib.Dec.{eqb}
-use lib.ListN.{length, set}
+use lib.ListN.{length, set, replicate}
 use Rattle.records.specs.declared.record.Mode.{Mode}
 use Rattle.protocol.specs.declared.client.ClientFile.{ClientFile}
 use Rattle.protocol.specs.declared.reply.Reply.{Reply}
-use Rattle.protocol.specs.declared.reply.Reply.the-variants.{Done}
+use Rattle.protocol.specs.declared.reply.Reply.the-variants.{Refused, Done}
 use Rattle.protocol.specs.declared.step.Step.{Step}
 use Rattle.protocol.specs.declared.step.Step.the-variants.{Open, Close, Read, Write, Flush, Answer, Crash, Report, End}
 use Rattle.protocol.specs.Sizes.{clients, files, blocks, slot}
@@ -17,16 +17,18 @@ use Rattle.protocol.specs.Client.{kept, sent}
 use Rattle.ends.specs.declared.ends.Ends.{Ends}
 use Rattle.ends.specs.declared.ends.CallAnswer.{CallAnswer}
 use Rattle.ends.specs.Ends.{grantWaiter}
+use Rattle.protocol.specs.Lists.{firstOf}
 use Rattle.access.specs.Access as parts
+use Rattle.access.specs.Access.{unlessRefused}
 use Rattle.service.specs.declared.server.Server.{Server}
 use Rattle.service.specs.declared.server.Served.{Served}
 use Rattle.service.specs.declared.service.Service.{Service}
 use Rattle.service.specs.declared.outcome.Outcome.{Outcome}
 use Rattle.service.specs.Places.{entryAt, clientIn, clientAt, reportedAt, withEntry}
-use Rattle.service.specs.Refusal.{refusalOf}
+use Rattle.service.specs.Refusal.{endTests, refusalOf}
 use Rattle.service.specs.Next.{crashed, reported, ended}
 use Rattle.service.specs.Answer.{noCalls}
-use Rattle.service.specs.Served.{served, reportServed, endServed}
+use Rattle.service.specs.Served.{served, reportServed, endServed, reportsAfterEnd}
 use Rattle.service.specs.Step.{stepOf}
 use Rattle.service.proofs.Arms.{by-test, picks, passes, withEnds, withPair, step-refused, accepted, step-accepted}
 use Rattle.service.proofs.Arms.OpenClose.{openAt, closeAt, open-arm, close-arm}
@@ -191,3 +193,46 @@ module _ (s : Service) (x : Step) (r : Served) where
   pub end-result : x ≡ End → r ≡ endServed (s .server) → servedOutcome s x r ≡ stepOf s x
   end-result q e =
       ap (servedOutcome s x) e ∙ sym (ap (stepOf s) q ∙ served-result s End (ended (s .server)) refl)
+
+-- an end that the server takes where it stands
+module _ (s : Service) (x : Step) where
+  abbrev endedIf : ℕ → Bool → Served
+  endedIf k accepted =
+      record {
+        server =
+            record {
+              files = s .server .files;
+              blocks = s .server .blocks;
+              recovering = s .server .recovering && not accepted;
+              reported = cond accepted (replicate clients false) (s .server .reported);
+            };
+        reply = cond accepted Done (Refused k);
+      }
+
+  ended-if : (k : ℕ) (accepted : Bool) → eqb k 0 ≡ accepted → endedIf k accepted ≡ served k (s .server) (ended (s .server))
+  ended-if k true e = rw (and-false (s .server .recovering)) (sym (picks (eqb k 0) _ _ e))
+  ended-if k false e = rw (and-true (s .server .recovering)) (sym (passes (eqb k 0) _ _ e))
+
+  pub end-parts :
+      (k : ℕ) (going : Bool) (reports : List Bool) (reply : Reply)
+      → x ≡ End
+      → k ≡ firstOf (endTests (s .server .recovering) (s .server .reported))
+      → going ≡ (s .server .recovering && not (eqb k 0))
+      → reports ≡ reportsAfterEnd k (s .server .reported)
+      → reply ≡ unlessRefused k Done
+      → outcomeOf
+      (record { files = s .server .files; blocks = s .server .blocks; recovering = going; reported = reports })
+      (s .clients)
+      (s .copies)
+      (s .held)
+      (s .dirty)
+      reply
+      noCalls
+      ≡ stepOf s x
+  end-parts k going reports reply q e g r p =
+      let same : record {
+        server = record { files = s .server .files; blocks = s .server .blocks; recovering = going; reported = reports };
+        reply = reply;
+      } ≡ endedIf k (eqb k 0) = rw (g, r, p) in
+      end-result s x _ q
+      (same ∙ ended-if k (eqb k 0) refl ∙ ap (λ (n : ℕ). served n (s .server) (ended (s .server))) e)

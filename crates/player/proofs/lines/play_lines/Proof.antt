@@ -22,7 +22,7 @@ use Rattle.service.specs.Places.{noEntry, entryIn, clientIn}
 use Rattle.service.specs.Next.{reported}
 use Rattle.service.proofs.Serving.{served-refused, served-done}
 use Rattle.service.proofs.Turns.{not-yet, reported-whole}
-use Rattle.service.proofs.Arms.Result.{open-result, close-result, read-result, write-result, flush-result, answer-result, crash-result, report-result, end-result}
+use Rattle.service.proofs.Arms.Result.{open-result, close-result, read-result, write-result, flush-result, answer-result, crash-result, report-result, end-parts}
 use Rattle.stepfile.specs.declared.parsed.Parsed.{Parsed}
 use Rattle.stepfile.specs.declared.parsed.Read.the-variants.{Line}
 use Rattle.stepfile.specs.Input.{readAt}
@@ -632,23 +632,34 @@ loop-again-10 c =
 enum-told-4 : tie.Need-enum-told-4 Inv-loop2 μ-loop2 Inv-loop μ-loop
 enum-told-4 c = search needs
 
-end-requires : tie.Need-end-requires Inv-loop2 μ-loop2 Inv-loop μ-loop
-end-requires c κs = tt
+end-refusal-requires : tie.Need-end-refusal-requires Inv-loop2 μ-loop2 Inv-loop μ-loop
+end-refusal-requires c κs = tt
+
+reports-after-end-requires : tie.Need-reports-after-end-requires Inv-loop2 μ-loop2 Inv-loop μ-loop
+reports-after-end-requires c κs = tt
+
+unless-refused-requires : tie.Need-unless-refused-requires Inv-loop2 μ-loop2 Inv-loop μ-loop
+unless-refused-requires c κs = tt
 
 write-reply-requires-11 : tie.Need-write-reply-requires-11 Inv-loop2 μ-loop2 Inv-loop μ-loop
 write-reply-requires-11 c κs = tt
 
 loop-less-11 : tie.Need-loop-less-11 Inv-loop2 μ-loop2 Inv-loop μ-loop
-loop-less-11 c = fewer (c .before .before .before .before .before .before .before .before .before .before .before)
+loop-less-11 c = fewer (c .before .before .before .before .before .before .before .before .before .before .before .before .before)
 
 loop-again-11 : tie.Need-loop-again-11 Inv-loop2 μ-loop2 Inv-loop μ-loop
 loop-again-11 c =
-    let d = c .before .before .before .before .before .before .before .before .before .before .before in
+    let d = c .before .before .before .before .before .before .before .before .before .before .before .before .before in
     let t = finds d in
-    let step-read = c .before .before .before .before .before .before .before .before .before .parsed2 .given in
-    let served = c .before .before .before .before .before .end in
+    let step-read = c .before .before .before .before .before .before .before .before .before .before .before .parsed2 .given in
+    let refusal = c .before .before .before .before .before .before .end-refusal in
     tells d _ _ _
-    (end-result t (step-read .0 .0) (served .result) (c .before .before .before .before .before .before .enum-told4 .given .1) (served .ensures) ∙ sym (ap (outcomeIn t) (step-read .1)))
+    (end-parts t (step-read .0 .0) (refusal .result) _ _ _
+    (c .before .before .before .before .before .before .before .before .enum-told4 .given .1)
+    (refusal .ensures)
+    refl
+    (c .before .before .before .before .before .reports-after-end .ensures)
+    (c .before .before .before .unless-refused .ensures) ∙ sym (ap (outcomeIn t) (step-read .1)))
     (c .before .before .write-reply11 .ensures .0)
     (c .before .before .write-reply11 .ensures .1)
 
@@ -822,7 +833,9 @@ play-lines-spec =
     loop-less-10
     loop-again-10
     enum-told-4
-    end-requires
+    end-refusal-requires
+    reports-after-end-requires
+    unless-refused-requires
     write-reply-requires-11
     loop-less-11
     loop-again-11
