@@ -1,3 +1,4 @@
--- What playing a buffer leaves, and what a turn leaves for the next.
+-- What playing a buffer leaves, what a turn leaves for the next, and a run of turns.
 pub mod Progress
 pub mod Turn
+pub mod Run
