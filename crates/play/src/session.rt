@@ -18,7 +18,7 @@ struct Session {
     rest: usize,
     // Whole lines may be among them.
     paused: bool,
-    // The input has been read to its end.
+    // The input has been read and played to its end.
     ended: bool,
     // A read or a write has failed, and was told of.
     failed: bool,
@@ -44,7 +44,7 @@ pub fn play(fd: i32, name: &[u8]) {
     let mut out = io::large_buffer();
     let mut session = fresh();
     let mut turns = u64::MAX;
-    while (turns > 0) & !session.failed & (session.paused | !session.ended) {
+    while (turns > 0) & !session.failed & !session.ended {
         session = play_some(fd, name, session, &mut buffer, &mut out);
         turns -= 1;
     }
@@ -57,19 +57,20 @@ pub fn play(fd: i32, name: &[u8]) {
     tell(&out, written);
 }
 
-// A read, unless whole lines are left; a turn; and what it told.
+// A read, unless whole lines are left; a turn; and what it told. The turn at the end of the input has one line at most,
+// and room for it.
 fn play_some(fd: i32, name: &[u8], session: Session, buffer: &mut [u8], out: &mut [u8]) -> Session
     requires { ⌜ session .rest ≤ length (now buffer) ⌝ }
     ensures { λ r. ⌜ r .rest ≤ length (now (buffer .entry)) ⌝ }
 {
     let service = session.service;
     let rest = session.rest;
-    let got = read_unless(session.paused | session.ended, fd, buffer, rest);
+    let got = read_unless(session.paused, fd, buffer, rest);
     if got < 0 {
         os::fail(name);
         return failed(session);
     }
-    let ended = session.ended | (!session.paused & (got == 0));
+    let ended = !session.paused & (got == 0);
     let filled = filled_of(rest, got, ended, buffer);
     let turn = play_turn(service, session.number, buffer, filled, out);
     let after = turn.service;

@@ -2,7 +2,7 @@
 -- buffer. Assumes nothing.
 use Prim.Native.Nat.{ℕ, _≤_, _<_}
 use mathlib.Core.Path.{_≡_, refl, sym, _∙_}
-use mathlib.Core.Bool.{Bool, true, false, not, _&&_, _||_}
+use mathlib.Core.Bool.{Bool, true, false, not, _&&_}
 use native.Mathlib.Omega.{arith}
 use lib.Dec.{ltb}
 use lib.ListN.{length}
@@ -44,11 +44,11 @@ play-some-requires : tie.Need-play-some-requires Inv-loop μ-loop
 play-some-requires c κs = search needs
 
 -- a turn is left
-some : (c : tie.After-out2 Inv-loop μ-loop) → 0 < c .before .before .before .before .before .before .before .before .before .loop .turns
+some : (c : tie.After-out2 Inv-loop μ-loop) → 0 < c .before .before .before .before .before .before .before .before .loop .turns
 some c =
-    let l = c .before .before .before .before .before .before .before .before .before .loop in
+    let l = c .before .before .before .before .before .before .before .before .loop in
     let running = not (l .session .failed) in
-    let going = l .session .paused || not (l .session .ended) in
+    let going = not (l .session .ended) in
     ltb-true 0 (l .turns) (first-holds (ltb 0 (l .turns)) running (first-holds (ltb 0 (l .turns) && running) going (c .before .before .before .before .before .if1 .taken)))
 
 sub-turns : tie.Need-sub-turns Inv-loop μ-loop
