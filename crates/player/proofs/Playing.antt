@@ -20,7 +20,7 @@ use Rattle.stepfile.specs.Input.{firstLine, lineRead, readAt}
 use Rattle.stepfile.specs.Line.{lineText}
 use Rattle.stepfile.specs.Played.{outcomeOf, saidOf, serviceAfter}
 use Rattle.stepfile.specs.Transcript.{lines, transcript, after}
-use Rattle.stepfile.proofs.Choice.{first-holds, second-holds}
+use Rattle.records.proofs.Choosing.{and-left, and-right}
 use Rattle.stepfile.proofs.FirstLines.{first-line}
 use Rattle.stepfile.proofs.Splitting.{NoLF, ends-none, ends-line, count-more}
 use Rattle.stepfile.proofs.Transcripts.{after-more, transcript-more}
@@ -95,10 +95,10 @@ rows-after s (l ∷ ls) = rows-after (serviceAfter s l) ls ∙ rows-line s (pars
 -- another line can be told: there is room for it, and a number for the next
 module _ (to room number : ℕ) (can : (leb (to + lineRoom) room && ltb number lastNumber) ≡ true) where
   pub has-room : to + lineRoom ≤ room
-  has-room = leb-true (to + lineRoom) room (first-holds (leb (to + lineRoom) room) (ltb number lastNumber) can)
+  has-room = leb-true (to + lineRoom) room (and-left (leb (to + lineRoom) room) (ltb number lastNumber) can)
 
   pub has-number : number < lastNumber
-  has-number = ltb-true number lastNumber (second-holds (leb (to + lineRoom) room) (ltb number lastNumber) can)
+  has-number = ltb-true number lastNumber (and-right (leb (to + lineRoom) room) (ltb number lastNumber) can)
 
 module _ (s : Service) (n : ℕ) (input out : List ℕ) where
   -- before the first line

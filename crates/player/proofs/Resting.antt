@@ -10,7 +10,7 @@ use lib.Seq.{length-take-le}
 use Rattle.service.specs.declared.service.Service.{Service}
 use Rattle.stepfile.specs.Grammar.{Reading, found, nothing, onward}
 use Rattle.stepfile.specs.Input.{firstLine}
-use Rattle.stepfile.proofs.Choice.{when, unless, split}
+use Rattle.records.proofs.Choosing.{when, unless, split}
 use Rattle.stepfile.proofs.Splitting.{NoLF}
 use Rattle.stepfile.proofs.LongLines.{said-of-long, service-after-long}
 use Rattle.player.specs.Progress.{told, afterAll}
@@ -29,13 +29,13 @@ unfolding firstLine
 no-lf [] e = tt
 no-lf (b ∷ d) e =
     split (eqb b 10)
-    (λ lf. absurd (true≢false (ap isFound (sym (when _ _ _ lf) ∙ e))))
-    (λ other. (other, no-lf d (onward-nothing b (firstLine d) (sym (unless _ _ _ other) ∙ e))))
+    (λ lf. absurd (true≢false (ap isFound (sym (when _ _ lf) ∙ e))))
+    (λ other. (other, no-lf d (onward-nothing b (firstLine d) (sym (unless _ _ other) ∙ e))))
 
 pub no-first : (d : List ℕ) → NoLF d → firstLine d ≡ nothing
 unfolding firstLine
 no-first [] h = refl
-no-first (b ∷ d) h = unless _ _ _ (h .0) ∙ ap (λ t. onward t (λ line rest. found (b ∷ line) rest)) (no-first d (h .1))
+no-first (b ∷ d) h = unless _ _ (h .0) ∙ ap (λ t. onward t (λ line rest. found (b ∷ line) rest)) (no-first d (h .1))
 
 pub no-lf-take : (n : ℕ) (d : List ℕ) → NoLF d → NoLF (take n d)
 no-lf-take zero d h = tt

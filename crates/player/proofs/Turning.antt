@@ -14,7 +14,7 @@ use Rattle.stepfile.specs.Grammar.{nothing}
 use Rattle.stepfile.specs.Input.{firstLine}
 use Rattle.stepfile.specs.Played.{saidOf, serviceAfter}
 use Rattle.stepfile.specs.Transcript.{lines}
-use Rattle.stepfile.proofs.Choice.{when, unless, split}
+use Rattle.records.proofs.Choosing.{when, unless, split}
 use Rattle.stepfile.proofs.Transcripts.{after-on, transcript-on}
 use Rattle.writer.specs.Buffer.{lineRoom}
 use Rattle.player.specs.declared.lines.Progress.{Progress}
@@ -28,9 +28,9 @@ use Rattle.player.proofs.Resting.{no-lf, no-first, no-lf-take, told-cut
 take-least : (filled : ℕ) (l : List ℕ) (m : ℕ) → m ≡ cond (ltb filled (length l)) filled (length l) → take m l ≡ take filled l
 take-least filled l m e =
     split (ltb filled (length l))
-    (λ t. ap (λ (k : ℕ). take k l) (e ∙ when _ _ _ t))
+    (λ t. ap (λ (k : ℕ). take k l) (e ∙ when _ _ t))
     (λ t.
-    ap (λ (k : ℕ). take k l) (e ∙ unless _ _ _ t)
+    ap (λ (k : ℕ). take k l) (e ∙ unless _ _ t)
     ∙ take-all (length l) l (omega arith)
     ∙ sym (take-all filled l (ltb-false filled (length l) t)))
 
@@ -49,8 +49,8 @@ module _
   pub at-most : m ≤ length buffer
   at-most =
       split (ltb filled (length buffer))
-      (λ t. omega (arith, counted ∙ when _ _ _ t, ltb-true filled (length buffer) t))
-      (λ t. omega (arith, counted ∙ unless _ _ _ t))
+      (λ t. omega (arith, counted ∙ when _ _ t, ltb-true filled (length buffer) t))
+      (λ t. omega (arith, counted ∙ unless _ _ t))
 
   pub used-most : p .used ≤ m
   used-most = omega (arith, played .part .inside, length-take-le m buffer at-most)
@@ -123,9 +123,9 @@ module _
         split can
         (λ t.
         split (ltb (m - p .used) 87)
-        (λ u. all (kept ∙ when _ _ _ t ∙ when _ _ _ u))
-        (λ u. cut t (ltb-false (m - p .used) 87 u) (kept ∙ when _ _ _ t ∙ unless _ _ _ u)))
-        (λ t. all (kept ∙ unless _ _ _ t))
+        (λ u. all (kept ∙ when _ _ t ∙ when _ _ u))
+        (λ u. cut t (ltb-false (m - p .used) 87 u) (kept ∙ when _ _ t ∙ unless _ _ u)))
+        (λ t. all (kept ∙ unless _ _ t))
 
     pub rest-most : rest ≤ m - p .used
     rest-most = by-rest (rest ≤ m - p .used) (λ e. omega arith) (λ t l e. omega arith)
@@ -170,8 +170,8 @@ module _
       short : can ≡ true → rest ≤ 87
       short t =
           split (ltb (m - p .used) 87)
-          (λ u. omega (arith, kept ∙ when _ _ _ t ∙ when _ _ _ u, ltb-true (m - p .used) 87 u))
-          (λ u. omega (arith, kept ∙ when _ _ _ t ∙ unless _ _ _ u))
+          (λ u. omega (arith, kept ∙ when _ _ t ∙ when _ _ u, ltb-true (m - p .used) 87 u))
+          (λ u. omega (arith, kept ∙ when _ _ t ∙ unless _ _ u))
 
       pub turned :
           Turned s n buffer filled out

@@ -10,7 +10,7 @@ use Rattle.stepfile.specs.declared.parsed.Parsed.the-variants.{Is, NoStep}
 use Rattle.stepfile.specs.declared.parsed.Read.the-variants.{Line, Part}
 use Rattle.stepfile.specs.Grammar.{Reading, found, nothing, onward, step}
 use Rattle.stepfile.specs.Input.{firstLine, lineRead, readAt, noStepAt}
-use Rattle.stepfile.proofs.Choice.{when, unless}
+use Rattle.records.proofs.Choosing.{when, unless}
 use Rattle.stepfile.proofs.Digits.{at-place}
 use Rattle.stepfile.proofs.AsWritten.{never}
 use Rattle.stepfile.proofs.FirstLines.{reads-step, reads-none}
@@ -56,14 +56,14 @@ module _ (s : List ℕ) (at : ℕ) where
       let place : at + 0 + 1 ≡ at + 1 = omega arith in
       sym
       (ap (λ d. lineRead (λ line. NoStep) at (firstLine d)) (at-place s at h)
-      ∙ ap (lineRead (λ line. NoStep) at) (when _ _ _ (eq-eqb _ 10 lf))
+      ∙ ap (lineRead (λ line. NoStep) at) (when _ _ (eq-eqb _ 10 lf))
       ∙ ap (Line NoStep) place)
 
   pub search-other : at < length s → (getD s at 0 ≡ 10 → ⊥) → noStepAt s at ≡ noStepAt s (at + 1)
   unfolding firstLine
   search-other h other =
       ap (λ d. lineRead (λ line. NoStep) at (firstLine d)) (at-place s at h)
-      ∙ ap (lineRead (λ line. NoStep) at) (unless _ _ _ (ne-eqb _ 10 other))
+      ∙ ap (lineRead (λ line. NoStep) at) (unless _ _ (ne-eqb _ 10 other))
       ∙ further (firstLine (drop (at + 1) s))
     where
       further : (t : Reading (List ℕ))

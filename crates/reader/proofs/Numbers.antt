@@ -8,7 +8,7 @@ use lib.Dec.{eqb}
 use lib.ListN.{length, getD, drop, drop-of-length-le}
 use borrow.Author.Tests.{eq-eqb, ne-eqb}
 use Rattle.stepfile.specs.Grammar.{found, nothing, digitsOn, numeral, argument}
-use Rattle.stepfile.proofs.Choice.{when, unless}
+use Rattle.records.proofs.Choosing.{when, unless}
 use Rattle.stepfile.proofs.Digits.{at-place, digit, below-digit, above-digit, other, over, more}
 
 below-zero : (b : ℕ) → b < 48 → eqb b 48 ≡ false
@@ -45,23 +45,23 @@ module _ (s : List ℕ) (i : ℕ) where
 
   pub numeral-zero : i < length s → getD s i 0 ≡ 48 → numeral (drop i s) ≡ found 0 (drop (i + 1) s)
   unfolding numeral
-  numeral-zero h e = rw (at-place s i h) (when _ _ _ (eq-eqb _ 48 e))
+  numeral-zero h e = rw (at-place s i h) (when _ _ (eq-eqb _ 48 e))
 
   pub numeral-below : i < length s → getD s i 0 < 48 → numeral (drop i s) ≡ nothing
   unfolding numeral
-  numeral-below h b = rw (at-place s i h) (unless _ _ _ (below-zero _ b) ∙ unless _ _ _ (below-digit _ b))
+  numeral-below h b = rw (at-place s i h) (unless _ _ (below-zero _ b) ∙ unless _ _ (below-digit _ b))
 
   pub numeral-above : i < length s → 57 < getD s i 0 → numeral (drop i s) ≡ nothing
   unfolding numeral
   numeral-above h b =
       let far : 48 < getD s i 0 = omega arith in
-      rw (at-place s i h) (unless _ _ _ (above-zero _ far) ∙ unless _ _ _ (above-digit _ b))
+      rw (at-place s i h) (unless _ _ (above-zero _ far) ∙ unless _ _ (above-digit _ b))
 
   pub numeral-digit : i < length s → (getD s i 0 ≡ 48 → ⊥) → 48 ≤ getD s i 0 → getD s i 0 ≤ 57
       → numeral (drop i s) ≡ digitsOn (getD s i 0 - 48) (drop (i + 1) s)
   unfolding numeral
   numeral-digit h some low high =
-      rw (at-place s i h) (unless _ _ _ (ne-eqb _ 48 some) ∙ when _ _ _ (digit _ low high))
+      rw (at-place s i h) (unless _ _ (ne-eqb _ 48 some) ∙ when _ _ (digit _ low high))
 
   -- the space before a number
   pub argument-end : length s ≤ i → argument (drop i s) ≡ nothing
@@ -70,11 +70,11 @@ module _ (s : List ℕ) (i : ℕ) where
 
   pub argument-other : i < length s → (getD s i 0 ≡ 32 → ⊥) → argument (drop i s) ≡ nothing
   unfolding argument
-  argument-other h b = rw (at-place s i h) (unless _ _ _ (ne-eqb _ 32 b))
+  argument-other h b = rw (at-place s i h) (unless _ _ (ne-eqb _ 32 b))
 
   pub argument-space : i < length s → getD s i 0 ≡ 32 → argument (drop i s) ≡ numeral (drop (i + 1) s)
   unfolding argument
-  argument-space h e = rw (at-place s i h) (when _ _ _ (eq-eqb _ 32 e))
+  argument-space h e = rw (at-place s i h) (when _ _ (eq-eqb _ 32 e))
 
 -- the code's tests for a number that grows too large: w is the digit d
 pub past-tenth : (v d : ℕ) → 1844674407370955161 < v → 2 ^ 64 ≤ v * 10 + d

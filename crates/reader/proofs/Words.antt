@@ -6,7 +6,7 @@ use native.Mathlib.Nat.{add-assoc}
 use native.Mathlib.Omega.{arith}
 use lib.ListN.{length, getD, drop, length-drop}
 use Rattle.stepfile.specs.Grammar.{nothing, Shape, noWord, words, same, shapeIn, shapeOf, shaped, step}
-use Rattle.stepfile.proofs.Choice.{unless, split}
+use Rattle.records.proofs.Choosing.{unless, split}
 use Rattle.stepfile.proofs.Digits.{at-place}
 use Rattle.stepfile.proofs.AsWritten.{same-true}
 
@@ -46,7 +46,7 @@ unknown [] w a b is h = refl
 unknown (e ∷ es) w a b is h =
     split (same (a ∷ b ∷ []) (e .0))
     (λ named. absurd (h .0 (is ∙ ap wordNumber (same-true (a ∷ b ∷ []) (e .0) named))))
-    (λ other. unless _ _ _ other ∙ unknown es w a b is (h .1))
+    (λ other. unless _ _ other ∙ unknown es w a b is (h .1))
 
 module _ (s : List ℕ) (at w : ℕ) (fits : at + 2 ≤ length s) (is : w ≡ getD s at 0 * 256 + getD s (at + 1) 0) where
   -- it is the word of the letters p and q

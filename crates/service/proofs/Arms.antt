@@ -14,6 +14,8 @@ use lib.Seq.{set-getD}
 use borrow.Author.Tests.{leb-false}
 use Rattle.protocol.specs.declared.reply.Reply.the-variants.{Refused}
 use Rattle.protocol.specs.declared.step.Step.{Step}
+use Rattle.records.proofs.Choosing.{when, unless}
+pub use Rattle.records.proofs.Choosing.{split}
 use Rattle.protocol.specs.Sizes.{clients, files, blocks, slot}
 use Rattle.protocol.specs.Client.{kept}
 use Rattle.ends.specs.declared.ends.Ends.{Ends}
@@ -25,11 +27,6 @@ use Rattle.service.specs.Refusal.{refusalOf}
 use Rattle.service.specs.Next.{nextOf}
 use Rattle.service.specs.Answer.{noCalls, replyOf, callsOf}
 use Rattle.service.specs.Step.{stepOf}
-
--- by cases on a test
-pub by-test {ℓ} : {A : Type ℓ} (b : Bool) → (b ≡ true → A) → (b ≡ false → A) → A
-by-test true yes′ no′ = yes′ refl
-by-test false yes′ no′ = no′ refl
 
 -- the outcome of a refused step
 abbrev pub refusedWith : Service → ℕ → Outcome
@@ -98,10 +95,10 @@ refused-pair s i f k =
 
 -- a test that is known picks its side
 pub picks {ℓ} : {A : Type ℓ} (b : Bool) (x y : A) → b ≡ true → cond b x y ≡ x
-picks b x y e = rw e
+picks b x y e = when x y e
 
 pub passes {ℓ} : {A : Type ℓ} (b : Bool) (x y : A) → b ≡ false → cond b x y ≡ y
-passes b x y e = rw e
+passes b x y e = unless x y e
 
 -- a step that is refused, and one that is not
 pub step-refused : (s : Service) (x : Step) (k : ℕ) → refusalOf s x ≡ k → eqb k 0 ≡ false → stepOf s x ≡ refusedWith s k
@@ -124,8 +121,8 @@ pub in-range :
     → (leb clients i ≡ false → leb files f ≡ false → P i f)
     → P (i % clients) (f % files)
 in-range P i f noClient′ noFile near =
-    by-test (leb clients i) noClient′
-    (λ e. by-test (leb files f) (noFile e)
+    split (leb clients i) noClient′
+    (λ e. split (leb files f) (noFile e)
     (λ e′.
     subst (λ (j : ℕ). P j (f % files)) (sym (mod-eq-of-lt (leb-false clients i e)))
     (subst (P i) (sym (mod-eq-of-lt (leb-false files f e′))) (near e e′))))

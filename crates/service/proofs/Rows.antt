@@ -13,14 +13,14 @@ use Rattle.service.specs.Refusal.{refusalOf}
 use Rattle.service.specs.Next.{callsNobody, callAnswered, lastAnswer, nextOf}
 use Rattle.service.specs.Step.{stepOf}
 use Rattle.service.proofs.Lists.{length-stored}
-use Rattle.service.proofs.Arms.{by-test, step-refused, step-accepted}
+use Rattle.service.proofs.Arms.{split, step-refused, step-accepted}
 
 abbrev rows : Service → ℕ
 rows s = length (s .server .files)
 
 -- one of two services, both with as many rows
 either-rows : (b : Bool) (t u : Service) (n : ℕ) → rows t ≡ n → rows u ≡ n → rows (cond b t u) ≡ n
-either-rows b t u n p q = by-test b (λ e. rw e p) (λ e. rw e q)
+either-rows b t u n p q = split b (λ e. rw e p) (λ e. rw e q)
 
 rows-next : (s : Service) (x : Step) → rows (nextOf s x) ≡ rows s
 rows-next s (Open m i f) = either-rows (callsNobody s i f m) _ _ (rows s) (length-set (s .server .files) f _) (length-set (s .server .files) f _)
@@ -37,6 +37,6 @@ rows-next s End = refl
 
 pub rows-kept : (s : Service) (x : Step) → length (stepOf s x .service .server .files) ≡ length (s .server .files)
 rows-kept s x =
-    by-test (eqb (refusalOf s x) 0)
+    split (eqb (refusalOf s x) 0)
     (λ e. ap (λ (o : Outcome). rows (o .service)) (step-accepted s x e) ∙ rows-next s x)
     (λ e. ap (λ (o : Outcome). rows (o .service)) (step-refused s x (refusalOf s x) refl e))

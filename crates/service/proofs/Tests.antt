@@ -5,19 +5,13 @@ use mathlib.Core.Path.{_≡_, refl, sym, _∙_}
 use mathlib.Core.Bool.{Bool, true, false, cond, not, _&&_, true≢false}
 use lib.Dec.{eqb}
 use borrow.Author.Tests.{eq-eqb}
-
-pub split {ℓ} : {A : Type ℓ} (t : Bool) → (t ≡ true → A) → (t ≡ false → A) → A
-split true p q = p refl
-split false p q = q refl
+pub use Rattle.records.proofs.Choosing.{split, conflict}
 
 -- what holds of both values that a test chooses between
 pub either {ℓ ℓ′} :
     {A : Type ℓ} (P : A → Type ℓ′) (t : Bool) {a b : A} → (t ≡ true → P a) → (t ≡ false → P b) → P (cond t a b)
 either P true p q = p refl
 either P false p q = q refl
-
-pub conflict {ℓ} : {A : Type ℓ} {t : Bool} → t ≡ true → t ≡ false → A
-conflict p q = absurd (true≢false (sym p ∙ q))
 
 pub eqb-same : (k : ℕ) → eqb k k ≡ true
 eqb-same k = eq-eqb k k refl

@@ -13,7 +13,7 @@ use Rattle.stepfile.specs.declared.parsed.Parsed.the-variants.{Is, NoSte
 use Rattle.stepfile.specs.Text.{bytes, decimal, argumentText, valuesText}
 use Rattle.stepfile.specs.Grammar.{Reading, found, nothing, onward, isDigit, digitsOn, numeral, argument, Shape, whole, taking, noWord, one, two, three, four, words, same, shapeIn, shapeOf, shaped, step, ended, parseLine}
 use Rattle.stepfile.specs.StepText.{wordOf, numbersOf, stepText, EachFits}
-use Rattle.stepfile.proofs.Choice.{when, unless, first-holds, second-holds, split}
+use Rattle.records.proofs.Choosing.{when, unless, and-left, and-right, split}
 use Rattle.stepfile.proofs.ReadsBack.{filled}
 use Rattle.stepfile.proofs.Decimals.{decimal-small, decimal-large}
 
@@ -30,10 +30,10 @@ module _ {A : Type 0} {a b : A} {l m : List ℕ} (e : found a l ≡ found b m) w
   same-rest = cc
 
 is-low : (b : ℕ) → isDigit b ≡ true → 48 ≤ b
-is-low b e = leb-true 48 b (first-holds (leb 48 b) (leb b 57) e)
+is-low b e = leb-true 48 b (and-left (leb 48 b) (leb b 57) e)
 
 is-high : (b : ℕ) → isDigit b ≡ true → b ≤ 57
-is-high b e = leb-true b 57 (second-holds (leb 48 b) (leb b 57) e)
+is-high b e = leb-true b 57 (and-right (leb 48 b) (leb b 57) e)
 
 -- a digit more is a decimal text longer by that digit
 longer : (v b : ℕ) → 0 < v → 48 ≤ b → b ≤ 57 → decimal (v * 10 + (b - 48)) ≡ decimal v ++ (b ∷ [])
@@ -57,13 +57,13 @@ digits-as-written (b ∷ l) v n rest some fits e =
     let low = is-low b d in
     let high = is-high b d in
     let w = v * 10 + (b - 48) in
-    let e₁ = sym (when _ _ _ d) ∙ e in
+    let e₁ = sym (when _ _ d) ∙ e in
     split (ltb w (2 ^ 64))
     (λ small.
-    let r = digits-as-written l w n rest (omega arith) (ltb-true w (2 ^ 64) small) (sym (when _ _ _ small) ∙ e₁) in
+    let r = digits-as-written l w n rest (omega arith) (ltb-true w (2 ^ 64) small) (sym (when _ _ small) ∙ e₁) in
     (sym (append-assoc (decimal v) (b ∷ []) l) ∙ ap (λ t. t ++ l) (sym (longer v b some low high)) ∙ r .0, r .1))
-    (λ large. absurd (never _ _ _ (unless _ _ _ large) e₁)))
-    (λ d. let f = sym (unless _ _ _ d) ∙ e in (cc, rw (← same-found f) fits))
+    (λ large. absurd (never _ _ _ (unless _ _ large) e₁)))
+    (λ d. let f = sym (unless _ _ d) ∙ e in (cc, rw (← same-found f) fits))
 
 numeral-as-written : (l : List ℕ) (n : ℕ) (rest : List ℕ) → numeral l ≡ found n rest → AsNumber l n rest
 unfolding numeral AsNumber
@@ -71,12 +71,12 @@ numeral-as-written [] n rest e = absurd (never _ _ _ refl e)
 numeral-as-written (b ∷ l) n rest e =
     split (eqb b 48)
     (λ z.
-    let f = sym (when _ _ _ z) ∙ e in
+    let f = sym (when _ _ z) ∙ e in
     let none : n ≡ 0 = sym (same-found f) in
     let text : decimal 0 ≡ 48 ∷ [] = decimal-small 0 (omega arith) in
     (cc (eqb-true b 48 z, text), omega arith))
     (λ z.
-    let e₁ = sym (unless _ _ _ z) ∙ e in
+    let e₁ = sym (unless _ _ z) ∙ e in
     split (isDigit b)
     (λ d.
     let some : b ≡ 48 → ⊥ = eqb-false b 48 z in
@@ -85,9 +85,9 @@ numeral-as-written (b ∷ l) n rest e =
     let first : decimal (b - 48) ≡ b ∷ [] =
     let back : 48 + (b - 48) ≡ b = omega arith in
     decimal-small (b - 48) (omega arith) ∙ rw back in
-    let r = digits-as-written l (b - 48) n rest (omega arith) (omega arith) (sym (when _ _ _ d) ∙ e₁) in
+    let r = digits-as-written l (b - 48) n rest (omega arith) (omega arith) (sym (when _ _ d) ∙ e₁) in
     (ap (λ t. t ++ l) (sym first) ∙ r .0, r .1))
-    (λ d. absurd (never _ _ _ (unless _ _ _ d) e₁)))
+    (λ d. absurd (never _ _ _ (unless _ _ d) e₁)))
 
 argument-as-written : (l : List ℕ) (n : ℕ) (rest : List ℕ) → argument l ≡ found n rest → (l ≡ argumentText n ++ rest) × (n < 2 ^ 64)
 unfolding argument AsNumber
@@ -95,9 +95,9 @@ argument-as-written [] n rest e = absurd (never _ _ _ refl e)
 argument-as-written (b ∷ l) n rest e =
     split (eqb b 32)
     (λ z.
-    let r = numeral-as-written l n rest (sym (when _ _ _ z) ∙ e) in
+    let r = numeral-as-written l n rest (sym (when _ _ z) ∙ e) in
     (cc (eqb-true b 32 z, r .0), r .1))
-    (λ z. absurd (never _ _ _ (unless _ _ _ z) e))
+    (λ z. absurd (never _ _ _ (unless _ _ z) e))
 
 -- The numbers of a shape: they make the step s, and their text and the rest are what is read.
 record Taken (shape : Shape) (l : List ℕ) (s : Step) (rest : List ℕ) : Type 0 where
@@ -215,8 +215,8 @@ same-true [] [] e = refl
 same-true [] (y ∷ ys) e = absurd (false≢true e)
 same-true (x ∷ xs) [] e = absurd (false≢true e)
 same-true (x ∷ xs) (y ∷ ys) e =
-    let here = eqb-true x y (first-holds (eqb x y) (same xs ys) e) in
-    let there = same-true xs ys (second-holds (eqb x y) (same xs ys) e) in
+    let here = eqb-true x y (and-left (eqb x y) (same xs ys) e) in
+    let there = same-true xs ys (and-right (eqb x y) (same xs ys) e) in
     cc
 
 -- l is the step s as it is written, and the rest after it
@@ -231,7 +231,7 @@ in-table [] all word l s rest e = absurd (never _ _ _ refl e)
 in-table (w ∷ ws) all word l s rest e =
     split (same word (w .0))
     (λ is.
-    let t = shaped-as-written (w .1) l s rest (ap (λ x. shaped x l) (sym (when _ _ _ is)) ∙ e) in
+    let t = shaped-as-written (w .1) l s rest (ap (λ x. shaped x l) (sym (when _ _ is)) ∙ e) in
     let of = all .0 .are (t .numbers) s (t .make) in
     let named : word ≡ wordOf s = same-true word (w .0) is ∙ sym (of .0) in
     record {
@@ -241,7 +241,7 @@ in-table (w ∷ ws) all word l s rest e =
           ∙ ap (λ ns. (wordOf s ++ valuesText ns) ++ rest) (sym (of .1));
       fits = rw (of .1) (t .fits);
     })
-    (λ isnt. in-table ws (all .1) word l s rest (ap (λ x. shaped x l) (sym (unless _ _ _ isnt)) ∙ e))
+    (λ isnt. in-table ws (all .1) word l s rest (ap (λ x. shaped x l) (sym (unless _ _ isnt)) ∙ e))
 
 pub step-as-written : (l : List ℕ) (s : Step) (rest : List ℕ) → step l ≡ found s rest → AsStep l s rest
 unfolding step shapeOf

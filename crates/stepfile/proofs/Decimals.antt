@@ -10,16 +10,16 @@ use lib.Dec.{ltb, lit<}
 use lib.ListN.{length, length-append}
 use borrow.Author.Tests.{lt-ltb, le-ltb, ltb-true, ltb-false}
 use Rattle.stepfile.specs.Text.{digitsOf, decimal}
-use Rattle.stepfile.proofs.Choice.{when, unless, split}
+use Rattle.records.proofs.Choosing.{when, unless, split}
 
 digits-small : (k n : ℕ) → n < 10 → digitsOf k n ≡ (48 + n) ∷ []
 unfolding digitsOf
 digits-small zero n h = refl
-digits-small (suc k) n h = when _ _ _ (lt-ltb n 10 h)
+digits-small (suc k) n h = when _ _ (lt-ltb n 10 h)
 
 digits-large : (k n : ℕ) → 10 ≤ n → digitsOf (suc k) n ≡ digitsOf k (n / 10) ++ ((48 + n % 10) ∷ [])
 unfolding digitsOf
-digits-large k n h = unless _ _ _ (le-ltb n 10 h)
+digits-large k n h = unless _ _ (le-ltb n 10 h)
 
 -- the bound is no part of the answer, where it is large enough
 digits-any : (k m n : ℕ) → n ≤ k → n ≤ m → digitsOf k n ≡ digitsOf m n

@@ -17,7 +17,7 @@ use Rattle.stepfile.specs.Text.{decimal, valuesText}
 use Rattle.stepfile.specs.Grammar.{Reading, found, nothing, onward, step, parseLine}
 use Rattle.stepfile.specs.StepText.{wordOf, numbersOf, stepText}
 use Rattle.stepfile.specs.Input.{firstLine, lineRead, readAt, noStepAt}
-use Rattle.stepfile.proofs.Choice.{when, unless, split}
+use Rattle.records.proofs.Choosing.{when, unless, split}
 use Rattle.stepfile.proofs.Digits.{at-place}
 use Rattle.stepfile.proofs.Decimals.{decimal-small, decimal-large}
 use Rattle.stepfile.proofs.ReadsBack.{step-back, reads-back}
@@ -29,7 +29,7 @@ pub first-found : (l r : List ℕ) → NoLF l → firstLine (l ++ (10 ∷ r)) �
 unfolding firstLine
 first-found [] r none = refl
 first-found (b ∷ l) r none =
-    unless _ _ _ (none .0) ∙ ap (λ t. onward t (λ line rest. found (b ∷ line) rest)) (first-found l r (none .1))
+    unless _ _ (none .0) ∙ ap (λ t. onward t (λ line rest. found (b ∷ line) rest)) (first-found l r (none .1))
 
 pub record FirstLine (d l r : List ℕ) : Type 0 where
   pub text : d ≡ l ++ (10 ∷ r)
@@ -50,11 +50,11 @@ first-line [] l r e = absurd (never _ _ _ refl e)
 first-line (b ∷ d) l r e =
     split (eqb b 10)
     (λ lf.
-    let f = sym (when _ _ _ lf) ∙ e in
+    let f = sym (when _ _ lf) ∙ e in
     let line : [] ≡ l = cc in
     let rest : d ≡ r = cc in
     record { text = cc (eqb-true b 10 lf); none = subst NoLF line tt })
-    (λ lf. first-more b d l r lf (λ x. first-line d x r) (firstLine d) refl (sym (unless _ _ _ lf) ∙ e))
+    (λ lf. first-more b d l r lf (λ x. first-line d x r) (firstLine d) refl (sym (unless _ _ lf) ∙ e))
 
 -- no byte of a step as it is written is LF
 digit-no-lf : (n : ℕ) → eqb (48 + n) 10 ≡ false

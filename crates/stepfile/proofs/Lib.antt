@@ -2,7 +2,6 @@
 -- of splitting an input into lines.
 pub mod Lines
 pub mod WholeCase
-pub mod Choice
 pub mod Digits
 pub mod Decimals
 pub mod ReadsBack

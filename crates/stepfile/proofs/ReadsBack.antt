@@ -13,7 +13,7 @@ use Rattle.stepfile.specs.declared.parsed.Parsed.the-variants.{Is}
 use Rattle.stepfile.specs.Text.{decimal, argumentText, valuesText}
 use Rattle.stepfile.specs.Grammar.{Reading, found, nothing, onward, isDigit, digitsOn, numeral, argument, Shape, whole, taking, noWord, shapeOf, shaped, step, ended, parseLine}
 use Rattle.stepfile.specs.StepText.{wordOf, numbersOf, stepText, EachFits}
-use Rattle.stepfile.proofs.Choice.{when, unless, split}
+use Rattle.records.proofs.Choosing.{when, unless, split}
 use Rattle.stepfile.proofs.Digits.{digit, other, more}
 use Rattle.stepfile.proofs.Decimals.{decimal-small, decimal-large}
 
@@ -33,7 +33,7 @@ unfolding numeral
 first n l some small =
     let back : 48 + n - 48 ≡ n = omega arith in
     let far : eqb (48 + n) 48 ≡ false = ne-eqb (48 + n) 48 (omega arith) in
-    unless _ _ _ far ∙ when _ _ _ (digit (48 + n) (omega arith) (omega arith)) ∙ ap (λ v. digitsOn v l) back
+    unless _ _ far ∙ when _ _ (digit (48 + n) (omega arith) (omega arith)) ∙ ap (λ v. digitsOn v l) back
 
 -- the digits of a number above 0, and what follows them
 pub after-digits : (k n : ℕ) → n ≤ k → 0 < n → n < 2 ^ 64 → (l : List ℕ) → numeral (decimal n ++ l) ≡ digitsOn n l

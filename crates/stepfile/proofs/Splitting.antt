@@ -6,7 +6,7 @@ use mathlib.Core.List.{List, [], _∷_, _++_, append-assoc, append-nil}
 use lib.Dec.{eqb}
 use lib.ListN.{length, length-append}
 use Rattle.stepfile.specs.Transcript.{before, lines, EndsLine}
-use Rattle.stepfile.proofs.Choice.{split}
+use Rattle.records.proofs.Choosing.{split}
 
 -- no byte is LF
 abbrev pub NoLF : List ℕ → Type 0

@@ -9,7 +9,7 @@ use lib.ListN.{length, take, drop, set, length-append, length-take, length-drop,
 use lib.Seq.{length-take-le, set-split, set-append-left, take-set-lt, take-suc-set, take-at, drop-at, drop-drop}
 use borrow.Author.Tests.{le-leb, lt-leb}
 use Rattle.writer.specs.Buffer.{written, Wrote, Placed}
-use Rattle.stepfile.proofs.Choice.{when, unless}
+use Rattle.records.proofs.Choosing.{when, unless}
 
 -- nothing is written
 pub written-none : (d : List ℕ) (at : ℕ) → written d at [] ≡ d
@@ -78,13 +78,13 @@ wrote-as {d} {at} {s} {t} {d′} {at′} e w = subst (λ l. Wrote d at l d′ at
 module _ (room : ℕ) (d : List ℕ) (at : ℕ) (s : List ℕ) (d′ : List ℕ) (at′ : ℕ) where
   pub placed : at + room ≤ length d → Wrote d at s d′ at′ → Placed room d at s d′ at′
   placed h w =
-      record { bytes = w .bytes ∙ sym (when _ _ _ (le-leb _ _ h)); next = w .next ∙ sym (when _ _ _ (le-leb _ _ h)) }
+      record { bytes = w .bytes ∙ sym (when _ _ (le-leb _ _ h)); next = w .next ∙ sym (when _ _ (le-leb _ _ h)) }
 
   pub placed-wrote : at + room ≤ length d → at′ ≤ at + room → Placed room d at s d′ at′ → Wrote d at s d′ at′
   placed-wrote h k p =
-      let next : at′ ≡ at + length s = p .next ∙ when _ _ _ (le-leb _ _ h) in
-      record { bytes = p .bytes ∙ when _ _ _ (le-leb _ _ h); next = next; fits = omega arith }
+      let next : at′ ≡ at + length s = p .next ∙ when _ _ (le-leb _ _ h) in
+      record { bytes = p .bytes ∙ when _ _ (le-leb _ _ h); next = next; fits = omega arith }
 
 pub placed-none : (room : ℕ) (d : List ℕ) (at : ℕ) (s : List ℕ) → length d < at + room → Placed room d at s d at
 placed-none room d at s h =
-    record { bytes = sym (unless _ _ _ (lt-leb _ _ h)); next = sym (unless _ _ _ (lt-leb _ _ h)) }
+    record { bytes = sym (unless _ _ (lt-leb _ _ h)); next = sym (unless _ _ (lt-leb _ _ h)) }

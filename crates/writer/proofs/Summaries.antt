@@ -10,7 +10,7 @@ use borrow.Author.Tests.{eq-eqb, ne-eqb}
 use Rattle.protocol.specs.declared.entry.Entry.{Entry}
 use Rattle.service.specs.Places.{noEntry}
 use Rattle.stepfile.specs.Summary.{codeIn, versionIn, isTold, fieldsText, fileText, filesText}
-use Rattle.stepfile.proofs.Choice.{when, unless}
+use Rattle.records.proofs.Choosing.{when, unless}
 
 -- k and v are the state code and the version of a file
 module _ (e : Entry) (k : ℕ) (code : k ≡ codeIn e) where
@@ -33,7 +33,7 @@ module _ (f : ℕ) (e : Entry) (told : Bool) (is : told ≡ isTold e) where
   file-told t k v code version =
       ap (λ n. fieldsText f n v (e .last)) code
       ∙ ap (λ n. fieldsText f (codeIn e) n (e .last)) version
-      ∙ sym (when (isTold e) _ _ (sym is ∙ t))
+      ∙ sym (when _ _ (sym is ∙ t))
 
   pub file-untold : told ≡ false → [] ≡ fileText f e
-  file-untold t = sym (unless (isTold e) _ _ (sym is ∙ t))
+  file-untold t = sym (unless _ _ (sym is ∙ t))

@@ -23,7 +23,7 @@ use Rattle.service.specs.Refusal.{refusalOf}
 use Rattle.service.specs.Next.{fetches, valueRead}
 use Rattle.service.specs.Answer.{noCalls}
 use Rattle.service.specs.Step.{stepOf}
-use Rattle.service.proofs.Arms.{by-test, refusedWith, step-refused, accepted, step-accepted, in-range}
+use Rattle.service.proofs.Arms.{split, refusedWith, step-refused, accepted, step-accepted, in-range}
 
 -- numbers that name no client, no file or no block are refused first
 in-range-block :
@@ -34,9 +34,9 @@ in-range-block :
     → P i f b
     → P (i % clients) (f % files) (b % blocks)
 in-range-block P i f b noClient noFile noBlock near =
-    by-test (leb blocks b)
+    split (leb blocks b)
     (λ e″.
-    by-test (leb clients i) noClient (λ e. by-test (leb files f) (noFile e) (λ e′. noBlock e e′ e″)))
+    split (leb clients i) noClient (λ e. split (leb files f) (noFile e) (λ e′. noBlock e e′ e″)))
     (λ e″.
     in-range (λ (j g : ℕ). P j g (b % blocks)) i f noClient noFile
     (λ e e′. subst (P i f) (sym (mod-eq-of-lt (leb-false blocks b e″))) near))
@@ -56,7 +56,7 @@ module _
 
   near : stepOf s x ≡ W i f b (K i f b)
   near =
-      by-test (eqb (K i f b) 0)
+      split (eqb (K i f b) 0)
       (λ e. step-accepted s x (ap (λ (k : ℕ). eqb k 0) tests ∙ e) ∙ done e)
       (λ e. step-refused s x (K i f b) tests e ∙ sym (refused i f b (K i f b) e))
 
@@ -150,7 +150,7 @@ module _ (s : Service) (i f b v : ℕ) where
       access s (Write i f b v) i f b writeRefused writeWith (λ j g c e. rw e) (λ j g c e e′. rw (e, e′)) (λ j g c e e′ e″. rw (e, e′, e″))
       refl
       (λ j g c k h. rw h)
-      (λ e. by-test (cached i f) (λ q. rw (e, q)) (λ q. rw (e, q)))
+      (λ e. split (cached i f) (λ q. rw (e, q)) (λ q. rw (e, q)))
       ∙ same-arrays s (sym (r .serverAfter)) (sym (r .copiesAfter)) (sym (r .heldAfter)) (sym (r .dirtyAfter)) (sym (r .answer))
 
 module _ (s : Service) (i f b : ℕ) where

@@ -29,7 +29,7 @@ use Rattle.service.specs.Refusal.{refusalOf}
 use Rattle.service.specs.Next.{callAnswered}
 use Rattle.service.specs.Answer.{noCalls}
 use Rattle.service.specs.Step.{stepOf}
-use Rattle.service.proofs.Arms.{by-test, picks, passes, refusedWith, step-refused, accepted, step-accepted, parts-refused, in-range}
+use Rattle.service.proofs.Arms.{split, picks, passes, refusedWith, step-refused, accepted, step-accepted, parts-refused, in-range}
 
 -- a test that was passed: it failed, and so did those after it
 passed : (b : Bool) (k rest : ℕ) → eqb k 0 ≡ false → eqb (cond b k rest) 0 ≡ true → (b ≡ false) × (eqb rest 0 ≡ true)
@@ -38,7 +38,7 @@ passed false k rest h e = (refl, e)
 
 -- a client that has a callback has it from an open that waits
 called-waits : (e : Entry) (i : ℕ) → eqb (callTo clients e i) 0 ≡ false → waits clients e ≡ true
-called-waits e i h = by-test (waits clients e) (λ q. q) (λ q. absurd (true≢false (rw q at h)))
+called-waits e i h = split (waits clients e) (λ q. q) (λ q. absurd (true≢false (rw q at h)))
 
 -- where the waiting open is not granted, and where it is
 waiter-waits :
@@ -223,7 +223,7 @@ module _ (s : Service) (i f : ℕ) where
         eqb kindAt 0 ≡ false → accepted s (Answer i f) ≡ withAnswerAt s cellBase placeBase i f answeredCall
     near-accepted called =
         ap acceptedWith same-entry
-        ∙ by-test (eqb (callsOut clients entryAfter) 0)
+        ∙ split (eqb (callsOut clients entryAfter) 0)
         (λ e.
         let q : waits clients (entryAt s f) ≡ true = called-waits (entryAt s f) i called in
         last called e q
@@ -237,7 +237,7 @@ module _ (s : Service) (i f : ℕ) where
 
     near : stepOf s (Answer i f) ≡ withAnswerAt s cellBase placeBase i f (answerAt i f)
     near =
-        by-test (eqb (refusalOf s (Answer i f)) 0)
+        split (eqb (refusalOf s (Answer i f)) 0)
         (λ e.
         let past-client = passed (leb clients i) 2 _ refl e in
         let past-file = passed (leb files f) 3 _ refl (past-client .1) in

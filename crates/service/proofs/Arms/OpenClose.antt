@@ -18,7 +18,7 @@ use Rattle.service.specs.Places.{noClient, entryAt, clientAt}
 use Rattle.service.specs.Refusal.{refusalOf}
 use Rattle.service.specs.Next.{callsNobody, grantFor}
 use Rattle.service.specs.Step.{stepOf}
-use Rattle.service.proofs.Arms.{by-test, picks, passes, withEndsAt, withEnds, withPair, refused-pair, step-refused, accepted, step-accepted, parts-refused, in-range}
+use Rattle.service.proofs.Arms.{split, picks, passes, withEndsAt, withEnds, withPair, refused-pair, step-refused, accepted, step-accepted, parts-refused, in-range}
 
 -- ends that are refused with k, where the tests give k
 open-ends-refused :
@@ -56,12 +56,12 @@ module _ (s : Service) (m : Mode) (i f : ℕ) where
   open-accepted :
       accepted s (Open m i f) ≡ withEndsAt (cell i f 0) s i f (cond (callsNobody s i f m) openGranted openWaiting)
   open-accepted =
-      by-test (callsNobody s i f m) (λ e. rw e) (λ e. rw (e, set-getD (s .clients) (slot i f) noClient))
+      split (callsNobody s i f m) (λ e. rw e) (λ e. rw (e, set-getD (s .clients) (slot i f) noClient))
 
   open-near : stepOf s (Open m i f) ≡ withEndsAt (cell i f 0) s i f (openAt i f)
   unfolding openEnds
   open-near =
-      by-test (eqb (refusalOf s (Open m i f)) 0)
+      split (eqb (refusalOf s (Open m i f)) 0)
       (λ e.
       step-accepted s (Open m i f) e
       ∙ open-accepted
@@ -90,7 +90,7 @@ module _ (s : Service) (m : Mode) (i f : ℕ) where
   close-near : stepOf s (Close m i f) ≡ withPair s i f (closeAt i f)
   unfolding closeEnds
   close-near =
-      by-test (eqb (refusalOf s (Close m i f)) 0)
+      split (eqb (refusalOf s (Close m i f)) 0)
       (λ e.
       step-accepted s (Close m i f) e
       ∙ sym

@@ -30,7 +30,7 @@ use Rattle.service.specs.Next.{crashed, reported, ended}
 use Rattle.service.specs.Answer.{noCalls}
 use Rattle.service.specs.Served.{served, reportServed, endServed, reportsAfterEnd}
 use Rattle.service.specs.Step.{stepOf}
-use Rattle.service.proofs.Arms.{by-test, picks, passes, withEnds, withPair, step-refused, accepted, step-accepted}
+use Rattle.service.proofs.Arms.{split, picks, passes, withEnds, withPair, step-refused, accepted, step-accepted}
 use Rattle.service.proofs.Arms.OpenClose.{openAt, closeAt, open-arm, close-arm}
 use Rattle.service.proofs.Arms.Access.{withArrays, read-arm, write-arm, flush-arm}
 use Rattle.service.proofs.Arms.Answer.{answerAt, withGrant, withAnswer, answer-arm}
@@ -179,7 +179,7 @@ module _ (s : Service) (x : Step) where
       → accepted s x ≡ servedOutcome (record { server = after; reply = Done })
       → stepOf s x ≡ servedOutcome (served (refusalOf s x) (s .server) after)
   served-result after done =
-      by-test (eqb (refusalOf s x) 0)
+      split (eqb (refusalOf s x) 0)
       (λ e. step-accepted s x e ∙ done ∙ sym (ap servedOutcome (picks (eqb (refusalOf s x) 0) _ _ e)))
       (λ e. step-refused s x (refusalOf s x) refl e ∙ sym (ap servedOutcome (passes (eqb (refusalOf s x) 0) _ _ e)))
 

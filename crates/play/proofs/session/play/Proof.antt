@@ -2,18 +2,15 @@
 -- buffer. Assumes nothing.
 use Prim.Native.Nat.{ℕ, _≤_, _<_}
 use mathlib.Core.Path.{_≡_, refl, sym, _∙_}
-use mathlib.Core.Bool.{Bool, true, false, not, _&&_}
+use mathlib.Core.Bool.{not, _&&_}
 use native.Mathlib.Omega.{arith}
 use lib.Dec.{ltb}
 use lib.ListN.{length}
 use borrow.Author.Needs.{needs}
 use borrow.Author.Tests.{ltb-true}
+use Rattle.records.proofs.Choosing.{and-left}
 use Rattle.play.proofs.session.play.Statement.{statement}
 use Rattle.play.proofs.session.play.Tie as tie
-
-first-holds : (a b : Bool) → (a && b) ≡ true → a ≡ true
-first-holds true b e = refl
-first-holds false b e = e
 
 abbrev Inv-loop : tie.InvT-loop
 Inv-loop fd name buffer₀ out₀ session₀ turns₀ buffer out session turns =
@@ -49,7 +46,7 @@ some c =
     let l = c .before .before .before .before .before .before .before .before .loop in
     let running = not (l .session .failed) in
     let going = not (l .session .ended) in
-    ltb-true 0 (l .turns) (first-holds (ltb 0 (l .turns)) running (first-holds (ltb 0 (l .turns) && running) going (c .before .before .before .before .before .if1 .taken)))
+    ltb-true 0 (l .turns) (and-left (ltb 0 (l .turns)) running (and-left (ltb 0 (l .turns) && running) going (c .before .before .before .before .before .if1 .taken)))
 
 sub-turns : tie.Need-sub-turns Inv-loop μ-loop
 sub-turns c = omega (arith, some c)

@@ -4,17 +4,10 @@ use mathlib.Core.Path.{_≡_, refl, sym, ap, _∙_}
 use mathlib.Core.Bool.{Bool, true, false, not, _&&_, _||_, true≢false}
 use lib.Dec.{eqb}
 use borrow.Author.Tests.{eqb-true}
+use Rattle.records.proofs.Choosing.{and-left, and-right}
 use Rattle.records.specs.declared.record.ClientRecord.{ClientRecord}
 use Rattle.table.proofs.entry.same_record.Statement.{statement}
 use Rattle.table.proofs.entry.same_record.Tie as tie
-
-first : (a b : Bool) → (a && b) ≡ true → a ≡ true
-first true b e = refl
-first false b e = e
-
-second : (a b : Bool) → (a && b) ≡ true → b ≡ true
-second true b e = e
-second false b e = absurd (true≢false (sym e))
 
 -- two flags that are both set or both not
 alike : (a b : Bool) → ((a && b) || not (a || b)) ≡ true → a ≡ b
@@ -28,10 +21,10 @@ same :
     → (eqb (a .readers) (b .readers) && (eqb (a .writers) (b .writers) && ((a .caching && b .caching) || not (a .caching || b .caching)))) ≡ true
     → a ≡ b
 same a b e =
-    let both = second (eqb (a .readers) (b .readers)) _ e in
-    let readers : a .readers ≡ b .readers = eqb-true _ _ (first _ (eqb (a .writers) (b .writers) && _) e) in
-    let writers : a .writers ≡ b .writers = eqb-true _ _ (first (eqb (a .writers) (b .writers)) _ both) in
-    let caching : a .caching ≡ b .caching = alike (a .caching) (b .caching) (second (eqb (a .writers) (b .writers)) _ both) in
+    let both = and-right (eqb (a .readers) (b .readers)) _ e in
+    let readers : a .readers ≡ b .readers = eqb-true _ _ (and-left _ (eqb (a .writers) (b .writers) && _) e) in
+    let writers : a .writers ≡ b .writers = eqb-true _ _ (and-left (eqb (a .writers) (b .writers)) _ both) in
+    let caching : a .caching ≡ b .caching = alike (a .caching) (b .caching) (and-right (eqb (a .writers) (b .writers)) _ both) in
     ap (λ (n : ℕ). record { readers = n; writers = a .writers; caching = a .caching }) readers
     ∙ ap (λ (n : ℕ). record { readers = b .readers; writers = n; caching = a .caching }) writers
     ∙ ap (λ (t : Bool). record { readers = b .readers; writers = b .writers; caching = t }) caching
