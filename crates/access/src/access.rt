@@ -111,11 +111,11 @@ pub fn write_block(
     let place = place_of(file, block);
     let opens = own.opens;
     let refusal = write_refusal(recovering, reported, own, client, file, block);
-    let cached = (refusal == 0) & opens.caching;
+    let caches = (refusal == 0) & opens.caching;
     store_block_if((refusal == 0) & !opens.caching, blocks, place, value);
-    store_copy_if(cached, copies, cell, value);
-    store_flag_if(cached, held, cell, true);
-    store_flag_if(cached, dirty, cell, true);
+    store_copy_if(caches, copies, cell, value);
+    store_flag_if(caches, held, cell, true);
+    store_flag_if(caches, dirty, cell, true);
     unless_refused(refusal, Reply::Done)
 }
 

@@ -1,13 +1,12 @@
 // The blocks of one file: dropped from a client's copies, and sent to the server.
 ghost use mathlib.Core.Path.{_≡_};
-ghost use mathlib.Core.Bool.{false, cond};
-ghost use mathlib.Core.Bool.{not};
+ghost use mathlib.Core.Bool.{false, cond, not};
 ghost use Prim.Native.Nat.{_+_, _≤_};
-ghost use lib.Dec.{eqb};
 ghost use Rattle.protocol.specs.Sizes.{blocks as blockCount};
-ghost use Rattle.protocol.specs.Callback.{writesBack};
+ghost use Rattle.protocol.specs.Callback.{writesBack, asksNothing};
 ghost use Rattle.protocol.specs.Callback.{invalidates as drops};
 ghost use Rattle.protocol.specs.Client.{kept, sent};
+use protocol::asks_nothing;
 use protocol::invalidates;
 use protocol::writes_back;
 
@@ -43,11 +42,11 @@ pub fn answer_blocks(
     ensures { λ _. ⌜ now (blocks .exit) ≡ sent (writesBack kind) (now (dirty .entry)) (now (copies .entry)) base to (now (blocks .entry)) ⌝ }
     ensures { λ _. ⌜ now (copies .exit) ≡ kept (not (drops kind)) 0 base (now (copies .entry)) ⌝ }
     ensures { λ _. ⌜ now (held .exit) ≡ kept (not (drops kind)) false base (now (held .entry)) ⌝ }
-    ensures { λ _. ⌜ now (dirty .exit) ≡ kept (eqb kind 0) false base (now (dirty .entry)) ⌝ }
+    ensures { λ _. ⌜ now (dirty .exit) ≡ kept (asksNothing kind) false base (now (dirty .entry)) ⌝ }
 {
     send_if(writes_back(kind), dirty, copies, base, to, blocks);
     drop_copies_unless(!invalidates(kind), copies, held, base);
-    clean_unless(kind == 0, dirty, base);
+    clean_unless(asks_nothing(kind), dirty, base);
 }
 
 // Drops the copies, unless they are kept.

@@ -1,5 +1,5 @@
 // The steps on a block, and what opens and answers do to the blocks of a file: small functions on lent arrays. The
-// service's step and the player's loop are made of them and of the functions of crate ends.
+// service's step and the player's loop are made of them and of the functions of crate opening.
 mod access;
 mod blocks;
 mod refusal;

@@ -1,5 +1,5 @@
-// The decisions over the records of one file: its state, the callbacks that an open causes, and the permission that a
-// grant gives, as Table 4-1 of the 1989 paper has them.
+// The records of one file: one of them read or changed, and the decisions over all: the state, the callbacks that an
+// open causes, and the permission that a grant gives, as Table 4-1 of the 1989 paper has them.
 mod callback;
 mod permission;
 mod state;
@@ -13,3 +13,4 @@ pub use state::has;
 pub use state::one_if;
 pub use state::record_of;
 pub use state::state_of;
+pub use state::with_record;

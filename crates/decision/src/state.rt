@@ -1,7 +1,7 @@
 // The state of a file, named from the records of its clients.
 ghost use mathlib.Core.Path.{_≡_};
-ghost use mathlib.Core.Bool.{cond, not, _&&_};
-ghost use lib.Dec.{eqb};
+ghost use mathlib.Core.Bool.{cond};
+ghost use lib.ListN.{set};
 ghost use Rattle.protocol.specs.Sizes.{clients};
 ghost use Rattle.protocol.specs.State.{recordIn, has, tally, others, stateOf};
 use protocol::FileState;
@@ -31,6 +31,20 @@ pub fn record_of(records: [ClientRecord; 8], client: usize) -> ClientRecord
             caching: false,
         }
     }
+}
+
+// The records with this one for the client; a client that is not there changes none.
+pub fn with_record(
+    mut records: [ClientRecord; 8],
+    client: usize,
+    own: ClientRecord,
+) -> [ClientRecord; 8]
+    ensures { λ r. ⌜ r ≡ set records client own ⌝ }
+{
+    if client < 8 {
+        records[client] = own;
+    }
+    records
 }
 
 pub fn one_if(holds: bool) -> usize

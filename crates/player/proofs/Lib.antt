@@ -1,6 +1,5 @@
--- The laws behind the loop over a buffer and the turn, and the theorem of the whole run.
-pub mod Playing
-pub mod Resting
+-- The laws behind the turn and the session, and the theorem of the whole run.
 pub mod Turning
-pub mod Ending
+pub mod Completing
+pub mod Legs
 pub mod Run

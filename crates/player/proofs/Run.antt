@@ -1,75 +1,60 @@
--- The whole run: from the fresh service on, turns that leave no rest tell, with the summary, exactly the played file. Assumes nothing.
+-- The whole run: from a fresh session on, what the program writes until the session is done is the played file of what it read, however the
+-- input was cut into pieces, and whether its last line has its LF or not. Assumes nothing.
 use Prim.Native.Nat.{ℕ}
 use mathlib.Core.Path.{_≡_, refl, sym, ap, _∙_}
-use mathlib.Core.List.{List, [], _∷_, _++_, append-assoc, append-nil}
-use lib.ListN.{take}
-use Rattle.service.specs.declared.service.Service.{Service}
-use Rattle.service.specs.Fresh.{fresh}
-use Rattle.stepfile.specs.Played.{saidOf, serviceAfter, played}
-use Rattle.stepfile.specs.Summary.{summaryText}
-use Rattle.stepfile.specs.Transcript.{lines, transcript, after, EndsLine}
-use Rattle.stepfile.proofs.Splitting.{NoLF, lines-ended}
-use Rattle.player.specs.declared.turn.Turn.{Turn}
-use Rattle.player.specs.Progress.{told, afterAll}
-use Rattle.player.specs.Turn.{Turned}
-use Rattle.player.specs.Run.{Leg, Leaves, Follows, input, output, lastRest, lastService}
+use mathlib.Core.Bool.{true, false}
+use mathlib.Core.List.{List, [], _∷_, _++_, append-nil}
+use lib.ListN.{length, take}
+use Rattle.records.proofs.Choosing.{when, unless, split, conflict}
+use Rattle.stepfile.specs.Played.{played}
+use Rattle.player.specs.declared.session.Session.{Session}
+use Rattle.player.specs.declared.session.Advance.{Advance}
+use Rattle.player.specs.Session.{freshSession, isLastTurn, readsNothing, summaryOf}
+use Rattle.player.specs.Run.{Leg, turned, left, wrote, Follows, input, output, lastSession}
+use Rattle.player.proofs.Legs.{playedFrom, or-left, over-wants-none, Sound, fresh-sound, is-done, wrote-summary, last-played, wrote-first, same-played, still-sound, still-going, now-over}
 
--- a turn of the code is a turn of a run
-pub leaves :
-    (s : Service) (n : ℕ) (buffer : List ℕ) (filled : ℕ) (out : List ℕ) (t : Turn) (buffer′ out′ piece : List ℕ)
-    → Turned s n buffer filled out t buffer′ out′
-    → Leaves s n (take filled buffer)
-    (record {
-      piece = piece;
-      said = take (t .written) out′;
-      rest = take (t .rest) buffer′;
-      service = t .service;
-      number = t .number;
-    })
-leaves s n buffer filled out t buffer′ out′ piece w = record { telling = w .telling; after = w .service }
+-- a session whose input is over stays so, and reads nothing more
+over-kept : (σ : Session) (g : Leg) → σ .over ≡ true → turned σ g .session .over ≡ true
+over-kept σ g e =
+    split (isLastTurn σ)
+    (λ last. ap (λ (x : Advance). x .session .over) (when _ _ last) ∙ e)
+    (λ other. ap (λ (x : Advance). x .session .over) (unless _ _ other) ∙ or-left (σ .over) (readsNothing (σ .paused) (length (g .piece))) e)
 
--- nothing is told of nothing
-told-none : (s : Service) (n : ℕ) → told s n [] ≡ []
-unfolding lines transcript
-told-none s n = refl
+over-input : (σ : Session) (buffer : List ℕ) (gs : List Leg) → σ .over ≡ true → Follows σ buffer gs → input gs ≡ []
+over-input σ buffer [] e w = refl
+over-input σ buffer (g ∷ gs) e w =
+    ap (λ (l : List ℕ). l ++ input gs) (w .0 .reading (over-wants-none (σ .paused) (σ .over) e))
+    ∙ over-input (turned σ g .session) (left σ g) gs (over-kept σ g e) (w .1)
 
-after-none : (s : Service) → afterAll s [] ≡ s
-unfolding lines after
-after-none s = refl
+-- nothing follows a session that is done
+done-last : (σ : Session) (buffer : List ℕ) (gs : List Leg) → σ .done ≡ true → Follows σ buffer gs → gs ≡ []
+done-last σ buffer [] e w = refl
+done-last σ buffer (g ∷ gs) e w = conflict e (w .0 .going)
 
-run-tells : (s : Service) (n : ℕ) (rest : List ℕ) (gs : List Leg) → Follows s n rest gs → lastRest rest gs ≡ [] → told s n (rest ++ input gs) ≡ output gs
-run-tells s n rest [] w none = ap (told s n) (append-nil rest ∙ none) ∙ told-none s n
-run-tells s n rest (g ∷ gs) w none =
-    ap (told s n) (sym (append-assoc rest (g .piece) (input gs)))
-    ∙ w .0 .telling (input gs)
-    ∙ ap (λ (l : List ℕ). g .said ++ l) (run-tells (g .service) (g .number) (g .rest) gs (w .1) none)
+-- from any sound session on
+run-plays : (gs : List Leg) (σ : Session) (buffer : List ℕ)
+    → Sound σ (take (σ .rest) buffer) → Follows σ buffer gs → σ .done ≡ false → lastSession σ gs .done ≡ true
+    → output σ gs ≡ playedFrom (σ .service) (σ .number) (take (σ .rest) buffer ++ input gs)
+run-plays [] σ buffer sound w going ended = conflict ended going
+run-plays (g ∷ gs) σ buffer sound w going ended =
+    split (isLastTurn σ)
+    (λ last.
+    let none = done-last (turned σ g .session) (left σ g) gs (is-done σ buffer g (w .0) sound last) (w .1) in
+    ap (λ (l : List ℕ). l ++ output (turned σ g .session) gs) (wrote-summary σ buffer g (w .0) sound last)
+    ∙ ap (λ (l : List Leg). summaryOf σ ++ output (turned σ g .session) l) none
+    ∙ append-nil (summaryOf σ)
+    ∙ sym (last-played σ buffer g (w .0) sound last (input gs) (ap input none)))
+    (λ other.
+    let after = turned σ g .session in
+    let rest =
+    run-plays gs after (left σ g) (still-sound σ buffer g (w .0) sound other) (w .1) (still-going σ buffer g (w .0) sound other) ended in
+    ap (λ (l : List ℕ). wrote σ g ++ l) rest
+    ∙ sym (wrote-first σ buffer g (w .0) sound other (input gs))
+    ∙ sym
+    (same-played σ buffer g (w .0) sound other (input gs)
+    (λ e. over-input after (left σ g) gs (now-over σ buffer g (w .0) sound other e) (w .1))))
 
-run-leaves : (s : Service) (n : ℕ) (rest : List ℕ) (gs : List Leg) → Follows s n rest gs → lastRest rest gs ≡ [] → afterAll s (rest ++ input gs) ≡ lastService s gs
-run-leaves s n rest [] w none = ap (afterAll s) (append-nil rest ∙ none) ∙ after-none s
-run-leaves s n rest (g ∷ gs) w none =
-    ap (afterAll s) (sym (append-assoc rest (g .piece) (input gs)))
-    ∙ w .0 .after (input gs)
-    ∙ run-leaves (g .service) (g .number) (g .rest) gs (w .1) none
-
-pub whole-run :
-    (gs : List Leg)
-    → Follows fresh 1 [] gs
-    → lastRest [] gs ≡ []
-    → played (input gs) ≡ output gs ++ summaryText (lastService fresh gs .server .files)
+pub whole-run : (buffer : List ℕ) (gs : List Leg)
+    → Follows freshSession buffer gs → lastSession freshSession gs .done ≡ true → output freshSession gs ≡ played (input gs)
 unfolding played
-whole-run gs w none =
-    ap (λ (l : List ℕ). l ++ summaryText (afterAll fresh (input gs) .server .files)) (run-tells fresh 1 [] gs w none)
-    ∙ ap (λ (s : Service). output gs ++ summaryText (s .server .files)) (run-leaves fresh 1 [] gs w none)
-
--- LF after the last line makes no difference
-pub ended-run :
-    (a : List ℕ) (b : ℕ) (l : List ℕ)
-    → EndsLine a
-    → NoLF (b ∷ l)
-    → played (a ++ ((b ∷ l) ++ (10 ∷ []))) ≡ played (a ++ (b ∷ l))
-unfolding played
-ended-run a b l h none =
-    ap
-    (λ (ls : List (List ℕ)).
-    transcript saidOf serviceAfter fresh 1 ls ++ summaryText (after serviceAfter fresh ls .server .files))
-    (lines-ended a b l h none)
+whole-run buffer gs w ended = run-plays gs freshSession buffer (fresh-sound buffer) w refl ended

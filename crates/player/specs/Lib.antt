@@ -1,4 +1,4 @@
--- What playing a buffer leaves, what a turn leaves for the next, and a run of turns.
-pub mod Progress
+-- What playing a buffer leaves, what a turn leaves for the next, a session of turns, and a whole run of the program.
 pub mod Turn
+pub mod Session
 pub mod Run

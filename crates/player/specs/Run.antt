@@ -1,41 +1,54 @@
--- A run of the player: turns put one after the other, over an input that comes in pieces.
-use Prim.Native.Nat.{ℕ}
+-- A run of the program: the turns of one session, over an input that comes in pieces.
+use Prim.Native.Nat.{ℕ, _+_, _≤_, _<_}
 use mathlib.Core.Path.{_≡_}
+use mathlib.Core.Bool.{false}
 use mathlib.Core.List.{List, [], _∷_, _++_}
-use Rattle.service.specs.declared.service.Service.{Service}
-use Rattle.player.specs.Progress.{told, afterAll}
+use lib.ListN.{length, take}
+use Rattle.writer.specs.Buffer.{summaryRoom}
+use Rattle.player.specs.declared.session.Session.{Session}
+use Rattle.player.specs.declared.session.Advance.{Advance}
+use Rattle.player.specs.Session.{wantsInput, advanced, bufferLeft, outLeft}
 
--- a turn: the piece of input that was read for it, what it told, and what it left
+-- a turn of the program: the piece of input that was read for it, and both buffers as the turn finds them
 pub record Leg : Type 0 where
   pub piece : List ℕ
-  pub said : List ℕ
-  pub rest : List ℕ
-  pub service : Service
-  pub number : ℕ
+  pub buffer : List ℕ
+  pub out : List ℕ
 
--- what `Turned` says of a turn from service s on, with the next line numbered n, over these bytes
-pub record Leaves (s : Service) (n : ℕ) (bytes : List ℕ) (g : Leg) : Type 0 where
-  pub telling : (more : List ℕ) → told s n (bytes ++ more) ≡ g .said ++ told (g .service) (g .number) (g .rest ++ more)
-  pub after : (more : List ℕ) → afterAll s (bytes ++ more) ≡ afterAll (g .service) (g .rest ++ more)
+-- the session after the turn, the buffer that it leaves, and what is written then
+abbrev pub turned : Session → Leg → Advance
+turned σ g = advanced σ (length (g .piece)) (g .buffer) (g .out)
 
--- each turn begins with the rest of the one before and the next piece
-abbrev pub Follows : Service → ℕ → List ℕ → List Leg → Type 0
-Follows s n rest [] = Unit {0}
-Follows s n rest (g ∷ gs) = Leaves s n (rest ++ g .piece) g × Follows (g .service) (g .number) (g .rest) gs
+abbrev pub left : Session → Leg → List ℕ
+left σ g = bufferLeft σ (length (g .piece)) (g .buffer) (g .out)
 
--- all that was read, all that was told, and what the last turn left
+abbrev pub wrote : Session → Leg → List ℕ
+wrote σ g = take (turned σ g .written) (outLeft σ (length (g .piece)) (g .buffer) (g .out))
+
+-- The program takes a turn of a session that is not done: the piece that it read stands after the rest, and it read none where the session
+-- wants none. The buffers have room for a line of 87 bytes and its LF, and for the summary.
+pub record Takes (σ : Session) (buffer : List ℕ) (g : Leg) : Type 0 where
+  pub going : σ .done ≡ false
+  pub reading : wantsInput σ ≡ false → g .piece ≡ []
+  pub found : take (σ .rest + length (g .piece)) (g .buffer) ≡ take (σ .rest) buffer ++ g .piece
+  pub fits : σ .rest + length (g .piece) ≤ length (g .buffer)
+  pub room : 87 < length (g .buffer)
+  pub space : summaryRoom ≤ length (g .out)
+
+-- each turn begins with the session and the buffer that the one before left
+abbrev pub Follows : Session → List ℕ → List Leg → Type 0
+Follows σ buffer [] = Unit {0}
+Follows σ buffer (g ∷ gs) = Takes σ buffer g × Follows (turned σ g .session) (left σ g) gs
+
+-- all that was read, all that was written, and the session after it
 abbrev pub input : List Leg → List ℕ
 input [] = []
 input (g ∷ gs) = g .piece ++ input gs
 
-abbrev pub output : List Leg → List ℕ
-output [] = []
-output (g ∷ gs) = g .said ++ output gs
+abbrev pub output : Session → List Leg → List ℕ
+output σ [] = []
+output σ (g ∷ gs) = wrote σ g ++ output (turned σ g .session) gs
 
-abbrev pub lastRest : List ℕ → List Leg → List ℕ
-lastRest rest [] = rest
-lastRest rest (g ∷ gs) = lastRest (g .rest) gs
-
-abbrev pub lastService : Service → List Leg → Service
-lastService s [] = s
-lastService s (g ∷ gs) = lastService (g .service) gs
+abbrev pub lastSession : Session → List Leg → Session
+lastSession σ [] = σ
+lastSession σ (g ∷ gs) = lastSession (turned σ g .session) gs

@@ -1,43 +1,47 @@
--- A turn of the player, and the end of the input.
-use Prim.Native.Nat.{ℕ, _+_, _≤_}
-use mathlib.Core.Path.{_≡_}
-use mathlib.Core.Bool.{Bool, false, cond, not, _&&_}
-use mathlib.Core.List.{List, _++_}
+-- A turn of the player: the bytes that fill a buffer are played, and what is left of them moves to its start.
+use Prim.Native.Nat.{ℕ, _+_, _-_}
+use mathlib.Core.Bool.{Bool, cond, not, _&&_}
+use mathlib.Core.List.{List}
 use lib.Dec.{eqb, ltb}
-use lib.ListN.{length, take, drop, set}
+use lib.ListN.{length, drop, set}
+use lib.Seq.{paste}
 use Rattle.service.specs.declared.service.Service.{Service}
-use Rattle.stepfile.specs.Grammar.{nothing}
-use Rattle.stepfile.specs.Input.{firstLine}
 use Rattle.player.specs.declared.turn.Turn.{Turn}
-use Rattle.player.specs.Progress.{told, afterAll}
+use Rattle.lines.specs.Lines.{canReply, lineProgress}
 
--- 87 bytes or fewer: a line of that length is no step
-abbrev pub shorter : ℕ → ℕ
-shorter n = cond (ltb n 87) n 87
+abbrev pub least : ℕ → ℕ → ℕ
+least a b = cond (ltb a b) a b
 
--- A turn from service s on, with the first line numbered n, over the first bytes of the buffer. Whatever follows them in the input: what
--- is told of all of it is what stands in out now, and then what is told of the rest and what follows; so with the service. Bytes of out
--- past those that were written stay. If the turn is not paused, the rest has no whole line and leaves room in the buffer.
-pub record Turned
-    (s : Service) (n : ℕ) (buffer : List ℕ) (filled : ℕ) (out : List ℕ) (t : Turn) (buffer′ out′ : List ℕ) : Type 0 where
-  pub telling :
-      (more : List ℕ)
-      → told s n (take filled buffer ++ more)
-      ≡ take (t .written) out′ ++ told (t .service) (t .number) (take (t .rest) buffer′ ++ more)
-  pub service :
-      (more : List ℕ) → afterAll s (take filled buffer ++ more) ≡ afterAll (t .service) (take (t .rest) buffer′ ++ more)
-  pub past : drop (t .written) out′ ≡ drop (t .written) out
-  pub fits : t .written ≤ length out
-  pub size : length buffer′ ≡ length buffer
-  pub inside : t .rest ≤ length buffer
-  pub rests : t .paused ≡ false → (t .rest ≤ 87) × (firstLine (take (t .rest) buffer′) ≡ nothing)
+-- How many of the bytes that are left are kept for the next turn: all of them; of a line that has no LF yet 87 at most, since a line of
+-- that length is no step, whatever follows.
+abbrev pub keptOf : Bool → ℕ → ℕ
+keptOf isOneLine left = cond isOneLine (least left 87) left
+
+-- A turn from service s on over these bytes into a buffer, the first line numbered n. It pauses exactly where no other line can be
+-- replied to; where one can, what is left has no whole line.
+abbrev pub turnOf : Service → ℕ → List ℕ → List ℕ → Turn
+turnOf s n bytes out =
+    let p = lineProgress s n bytes out in
+    let can = canReply (length out) (p .written) (p .number) in
+    record {
+      service = p .service;
+      number = p .number;
+      rest = keptOf can (length bytes - p .used);
+      written = p .written;
+      paused = not can;
+    }
+
+-- the buffer after a turn over these bytes, the first of it: what is kept stands at its start
+abbrev pub bufferAfter : Service → ℕ → List ℕ → List ℕ → List ℕ → List ℕ
+bufferAfter s n buffer bytes out =
+    paste buffer 0 (drop (lineProgress s n bytes out .used) buffer) (turnOf s n bytes out .rest)
 
 -- the end of the input: LF after the rest, if there is one and room for it
-abbrev pub endsLine : List ℕ → ℕ → Bool
-endsLine buffer rest = not (eqb rest 0) && ltb rest (length buffer)
+abbrev pub lacksLF : List ℕ → ℕ → Bool
+lacksLF buffer rest = not (eqb rest 0) && ltb rest (length buffer)
 
-abbrev pub endedBuffer : List ℕ → ℕ → List ℕ
-endedBuffer buffer rest = cond (endsLine buffer rest) (set buffer rest 10) buffer
+abbrev pub completedBuffer : List ℕ → ℕ → List ℕ
+completedBuffer buffer rest = cond (lacksLF buffer rest) (set buffer rest 10) buffer
 
-abbrev pub endedCount : List ℕ → ℕ → ℕ
-endedCount buffer rest = cond (endsLine buffer rest) (rest + 1) rest
+abbrev pub completedCount : List ℕ → ℕ → ℕ
+completedCount buffer rest = cond (lacksLF buffer rest) (rest + 1) rest

@@ -1,9 +1,9 @@
-// The played file: lines of a buffer played from a service, and what they leave for the next buffer.
-mod lines;
+// The played file: a turn plays a buffer and leaves what is left of it for the next, and a session of turns goes from
+// the first byte of an input to its summary.
+mod session;
 mod turn;
 
-pub use lines::Progress;
-pub use lines::play_lines;
+pub use session::Advance;
+pub use session::Session;
 pub use turn::Turn;
-pub use turn::end_line;
 pub use turn::play_turn;

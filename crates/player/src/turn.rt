@@ -1,13 +1,12 @@
 // A turn of the player: a buffer of input is played, and what is left of it stands at its start for the next.
 ghost use mathlib.Core.Path.{_≡_};
-ghost use mathlib.Core.Bool.{cond};
 ghost use Prim.Native.Nat.{_+_, _≤_};
-ghost use lib.Dec.{ltb};
-ghost use lib.ListN.{length, drop};
+ghost use lib.ListN.{length, take, drop};
 ghost use lib.Seq.{paste};
-ghost use Rattle.player.specs.Turn.{Turned, shorter, endedCount, endedBuffer};
-use crate::lines::can_tell;
-use crate::lines::play_lines;
+ghost use Rattle.lines.specs.Lines.{linesWritten};
+ghost use Rattle.player.specs.Turn.{least as smaller, keptOf, turnOf, bufferAfter, completedBuffer, completedCount};
+use lines::can_reply;
+use lines::play_lines;
 use service::Service;
 
 // What a turn leaves.
@@ -18,7 +17,7 @@ pub struct Turn {
     // The bytes that stand at the start of the buffer for the next turn, and those of the output that were written.
     pub rest: usize,
     pub written: usize,
-    // Whole lines may be left, since the output had no room for them or there are no numbers left.
+    // Whole lines may be left: the output had no room for another reply line, or there are no numbers left.
     pub paused: bool,
 }
 
@@ -30,11 +29,16 @@ pub fn play_turn(
     filled: usize,
     out: &mut [u8],
 ) -> Turn
-    ensures { λ r. ⌜ Turned service number (now (buffer .entry)) filled (now (out .entry)) r (now (buffer .exit)) (now (out .exit)) ⌝ }
+    ensures { λ r. ⌜ r ≡ turnOf service number (take filled (now (buffer .entry))) (now (out .entry)) ⌝ }
+    ensures { λ r. ⌜ now (buffer .exit)
+        ≡ bufferAfter service number (now (buffer .entry)) (take filled (now (buffer .entry))) (now (out .entry)) ⌝ }
+    ensures { λ r. ⌜ now (out .exit) ≡ linesWritten service number (take filled (now (buffer .entry))) (now (out .entry)) ⌝ }
+    ensures { λ r. ⌜ r .written ≤ length (now (out .entry)) ⌝ }
+    ensures { λ r. ⌜ r .rest ≤ length (now (buffer .entry)) ⌝ }
 {
     let n = least(filled, buffer.len());
     let progress = play_lines(service, number, &buffer[..n], out);
-    let can = can_tell(out.len(), progress.written, progress.number);
+    let can = can_reply(out.len(), progress.written, progress.number);
     let used = progress.used;
     let rest = kept_of(can, n - used);
     move_down(buffer, used, rest);
@@ -48,8 +52,8 @@ pub fn play_turn(
     }
 }
 
-fn least(a: usize, b: usize) -> usize
-    ensures { λ r. ⌜ r ≡ cond (ltb a b) a b ⌝ }
+pub fn least(a: usize, b: usize) -> usize
+    ensures { λ r. ⌜ r ≡ smaller a b ⌝ }
     ensures { λ r. ⌜ r ≤ b ⌝ }
 {
     if a < b { a } else { b }
@@ -60,7 +64,7 @@ const NO_STEP: usize = 87;
 
 // How many bytes of a rest are kept: all of them, unless it is known to be the start of one line.
 fn kept_of(is_one_line: bool, left: usize) -> usize
-    ensures { λ r. ⌜ r ≡ cond «is_one_line» (shorter left) left ⌝ }
+    ensures { λ r. ⌜ r ≡ keptOf «is_one_line» left ⌝ }
 {
     if is_one_line {
         return least(left, NO_STEP);
@@ -68,7 +72,7 @@ fn kept_of(is_one_line: bool, left: usize) -> usize
     left
 }
 
-// Moves so many bytes from the place to the start of the buffer.
+// Moves so many bytes from the offset to the start of the buffer.
 fn move_down(buffer: &mut [u8], from: usize, count: usize)
     requires { ⌜ from + count ≤ length (now buffer) ⌝ }
     ensures { λ _. ⌜ now (buffer .exit) ≡ paste (now (buffer .entry)) 0 (drop from (now (buffer .entry))) count ⌝ }
@@ -82,9 +86,9 @@ fn move_down(buffer: &mut [u8], from: usize, count: usize)
 
 // Puts an LF after the rest at the end of the input, if there is a rest and room after it, and answers how many bytes
 // there are to play.
-pub fn end_line(buffer: &mut [u8], rest: usize) -> usize
-    ensures { λ r. ⌜ now (buffer .exit) ≡ endedBuffer (now (buffer .entry)) rest ⌝ }
-    ensures { λ r. ⌜ r ≡ endedCount (now (buffer .entry)) rest ⌝ }
+pub fn complete_line(buffer: &mut [u8], rest: usize) -> usize
+    ensures { λ r. ⌜ now (buffer .exit) ≡ completedBuffer (now (buffer .entry)) rest ⌝ }
+    ensures { λ r. ⌜ r ≡ completedCount (now (buffer .entry)) rest ⌝ }
 {
     if rest == 0 {
         return rest;

@@ -49,49 +49,49 @@ abbrev pub hasWriters : ClientFile → Bool
 hasWriters c = ltb 0 (c .opens .writers)
 
 abbrev pub isLatest : Version → ClientFile → Bool
-isLatest version c = sameVersion (c .cached) version
+isLatest version c = sameVersion (c .label) version
 
 -- The clauses on one client.
 pub record Own (version : Version) (c : ClientFile) : Type 0 where
   -- S1: a client that may cache is open.
-  pub S1 : mayCache c ≡ true → hasOpen c ≡ true
+  pub cachingIsOpen : mayCache c ≡ true → hasOpen c ≡ true
   -- S3: a marked client has no writers.
-  pub S3 : c .marked ≡ true → hasWriters c ≡ true → ⊥
+  pub markedExcludes : c .marked ≡ true → hasWriters c ≡ true → ⊥
   -- S4: a marked client that is open may cache.
-  pub S4 : c .marked ≡ true → hasOpen c ≡ true → mayCache c ≡ true
+  pub markedOpenCaches : c .marked ≡ true → hasOpen c ≡ true → mayCache c ≡ true
   -- L1: no copy is of a later version than the file's.
-  pub L1 : numberOf (c .cached) ≤ numberOf version
+  pub labelNotAhead : numberOf (c .label) ≤ numberOf version
   -- L2: a client that may cache, or is marked, has a copy of the latest version.
-  pub L2 : (mayCache c ≡ true) ⊎ (c .marked ≡ true) → isLatest version c ≡ true
+  pub cachingHasLatest : (mayCache c ≡ true) ⊎ (c .marked ≡ true) → isLatest version c ≡ true
   -- L3: a client with writers and a copy of the latest version may cache.
-  pub L3 : hasWriters c ≡ true → isLatest version c ≡ true → mayCache c ≡ true
+  pub writerOwnsLatest : hasWriters c ≡ true → isLatest version c ≡ true → mayCache c ≡ true
 
 -- The clauses on a client c and another one, d.
 pub record Apart (version : Version) (c d : ClientFile) : Type 0 where
   -- S2: where c has writers and may cache, d is not open.
-  pub S2 : mayCache c ≡ true → hasWriters c ≡ true → hasOpen d ≡ true → ⊥
+  pub cachingWriterAlone : mayCache c ≡ true → hasWriters c ≡ true → hasOpen d ≡ true → ⊥
   -- S3: where c is marked, d is neither open nor marked.
-  pub S3 : c .marked ≡ true → (hasOpen d ≡ true) ⊎ (d .marked ≡ true) → ⊥
+  pub markedExcludes : c .marked ≡ true → (hasOpen d ≡ true) ⊎ (d .marked ≡ true) → ⊥
   -- S5: where c has writers, d may not cache.
-  pub S5 : hasWriters c ≡ true → mayCache d ≡ true → ⊥
+  pub writerBarsCaching : hasWriters c ≡ true → mayCache d ≡ true → ⊥
   -- L3: where c has writers, d has no copy of the latest version.
-  pub L3 : hasWriters c ≡ true → isLatest version d ≡ true → ⊥
+  pub writerOwnsLatest : hasWriters c ≡ true → isLatest version d ≡ true → ⊥
   -- L4: where c is marked, d has no copy of the latest version.
-  pub L4 : c .marked ≡ true → isLatest version d ≡ true → ⊥
+  pub markedOwnsLatest : c .marked ≡ true → isLatest version d ≡ true → ⊥
 
 -- The clauses on a client's copy of the block.
 pub record Copied (version : Version) (c : ClientFile) (copy : ℕ) (held dirty : Bool) (k : ℕ) : Type 0 where
   -- D1: a dirty block is held.
-  pub D1 : dirty ≡ true → held ≡ true
+  pub dirtyIsHeld : dirty ≡ true → held ≡ true
   -- D2: a client with a dirty block is marked, or has writers and may cache.
-  pub D2 : dirty ≡ true → (c .marked ≡ true) ⊎ ((hasWriters c ≡ true) × (mayCache c ≡ true))
+  pub dirtyIsOwned : dirty ≡ true → (c .marked ≡ true) ⊎ ((hasWriters c ≡ true) × (mayCache c ≡ true))
   -- D3: a held block of the latest version is the reference memory's number.
-  pub D3 : held ≡ true → isLatest version c ≡ true → copy ≡ k
+  pub heldIsRight : held ≡ true → isLatest version c ≡ true → copy ≡ k
 
 -- What always holds of the clients' own records, so that no crash can touch it.
 pub record Clients (n : ℕ) (version : Version) (client : ℕ → ClientFile) : Type 0 where
   -- The stored version is not 0, so that it is the version as read.
-  pub V0 : eqb (numberOf version) 0 ≡ false
+  pub versionNotZero : eqb (numberOf version) 0 ≡ false
   -- From n on there is no client.
   pub beyond : (s : ℕ) → n ≤ s → client s ≡ freshClient
   pub own : (s : ℕ) → Own version (client s)
@@ -109,30 +109,30 @@ pub record Sound
   pub clients : Clients n version client
   pub copied : (s : ℕ) → Copied version (client s) (copy s) (held s) (dirty s) k
   -- D4: where no client has the block dirty, the server's block is the reference memory's number.
-  pub D4 : ((s : ℕ) → dirty s ≡ true → ⊥) → block ≡ k
+  pub cleanIsRight : ((s : ℕ) → dirty s ≡ true → ⊥) → block ≡ k
 
--- A2, B3, B4: the last writer is the marked client, as far as the clients have told: all of them while the server runs,
+-- A2, B3, B4: the last writer is the marked client, as far as the clients have heard: all of them while the server runs,
 -- those that have reported while it recovers.
-pub record LastWriter (n last : ℕ) (client : ℕ → ClientFile) (told : ℕ → Bool) : Type 0 where
-  -- Where a client that has told is marked, it is the last writer.
-  pub named : (s : ℕ) → told s ≡ true → client s .marked ≡ true → last ≡ s
+pub record LastWriter (n last : ℕ) (client : ℕ → ClientFile) (heard : ℕ → Bool) : Type 0 where
+  -- Where a client that has heard is marked, it is the last writer.
+  pub named : (s : ℕ) → heard s ≡ true → client s .marked ≡ true → last ≡ s
   -- Where the last writer is a client, that one is marked.
   pub holder : last < n → client last .marked ≡ true
   -- Where there is none, `nobody` stands for it.
   pub unnamed : n ≤ last → last ≡ nobody
 
--- What a table says of the clients that have told it.
+-- What a table says of the clients that have heard it.
 pub record Agrees
     (n : ℕ)
     (records : List ClientRecord)
     (last : ℕ)
     (client : ℕ → ClientFile)
-    (told : ℕ → Bool) : Type 0 where
+    (heard : ℕ → Bool) : Type 0 where
   -- There is a record for each client.
   pub size : length records ≡ n
   -- A1, B2, B4: the record of a client is its own.
-  pub known : (s : ℕ) → told s ≡ true → recordIn records s ≡ client s .opens
-  pub lastWriter : LastWriter n last client told
+  pub known : (s : ℕ) → heard s ≡ true → recordIn records s ≡ client s .opens
+  pub lastWriter : LastWriter n last client heard
 
 -- WS and W6: what holds while the opener waits for an open in the mode, where t has still to answer a callback of the
 -- kind `calls t`, 0 for none. With no call out it is what a grant needs.
@@ -163,9 +163,9 @@ pub record Waiting
   -- Where t is called to write back, no other client is marked.
   pub alone : (s t : ℕ) → writesBack (calls t) ≡ true → eqb s t ≡ false → client s .marked ≡ true → ⊥
   -- W6: there is a version left for a write open.
-  pub W6 : (isWrite mode && isLastVersion version) ≡ false
+  pub versionLeft : (isWrite mode && isLastVersion version) ≡ false
 
--- everybody has told the table
+-- everybody has heard the table
 abbrev pub everybody : ℕ → Bool
 everybody s = true
 
@@ -185,7 +185,7 @@ pub record Recovering (n : ℕ) (v : View) (k : ℕ) (reported : ℕ → Bool) (
   pub table : Agrees n (v .entry .records) (v .entry .last) (v .client) reported
   pub calls : length (v .entry .calls) ≡ n
   -- B1: no open waits.
-  pub B1 : waits n (v .entry) ≡ false
+  pub noneWaits : waits n (v .entry) ≡ false
   -- B4: the row of the table just before the crash is what the clients would tell, at the file's version.
   pub before : Agrees n (row .records) (row .last) (v .client) everybody
   pub version : row .version ≡ v .entry .version

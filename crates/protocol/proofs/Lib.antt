@@ -1,6 +1,6 @@
 -- The laws that the proofs of this crate, and of those above it, share; and the theorem of one file, which `Kept` proves.
 pub mod Counting
-pub mod Places
+pub mod Beyond
 pub mod Storing
 pub mod View
 pub mod Promises

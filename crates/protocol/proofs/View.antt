@@ -7,7 +7,7 @@ use lib.Dec.{eqb}
 use Rattle.records.specs.declared.record.Mode.{Mode}
 use Rattle.protocol.specs.declared.entry.Entry.{Entry}
 use Rattle.protocol.specs.declared.client.ClientFile.{ClientFile}
-use Rattle.records.specs.Version.{versionOf}
+use Rattle.records.specs.Version.{noVersion, firstVersion}
 use Rattle.records.specs.Record.{notOpen}
 use Rattle.protocol.specs.Callback.{writesBack, invalidates}
 use Rattle.protocol.specs.Entry.{callTo, callsDue, waitingEntry, grantOf, grantedEntry, closedEntry, answeredEntry, crashedEntry, reportedEntry}
@@ -28,12 +28,12 @@ abbrev pub at {ℓ} : {A : Type ℓ} → ℕ → A → (ℕ → A) → ℕ → A
 at i a g j = cond (eqb j i) a (g j)
 
 abbrev pub freshClient : ClientFile
-freshClient = record { opens = notOpen; marked = false; cached = versionOf 0 }
+freshClient = record { opens = notOpen; marked = false; label = noVersion }
 
 abbrev pub freshView : ℕ → View
 freshView n =
     record {
-      entry = crashedEntry n (versionOf 1);
+      entry = crashedEntry n firstVersion;
       block = 0;
       client = λ i. freshClient;
       copy = λ i. 0;
@@ -90,14 +90,14 @@ readView v i =
 
 abbrev pub writtenView : View → ℕ → ℕ → View
 writtenView v i x =
-    let cached = v .client i .opens .caching in
+    let caches = v .client i .opens .caching in
     record {
       entry = v .entry;
-      block = cond cached (v .block) x;
+      block = cond caches (v .block) x;
       client = v .client;
-      copy = at i (cond cached x (v .copy i)) (v .copy);
-      held = at i (cond cached true (v .held i)) (v .held);
-      dirty = at i (cond cached true (v .dirty i)) (v .dirty);
+      copy = at i (cond caches x (v .copy i)) (v .copy);
+      held = at i (cond caches true (v .held i)) (v .held);
+      dirty = at i (cond caches true (v .dirty i)) (v .dirty);
     }
 
 abbrev pub flushedView : View → ℕ → View

@@ -2,7 +2,7 @@
 use Prim.Native.Nat.{ℕ}
 use mathlib.Core.Bool.{Bool, cond, _&&_, _||_}
 use mathlib.Core.List.{List}
-use lib.Dec.{eqb, leb, ltb}
+use lib.Dec.{eqb}
 use lib.ListN.{replicate}
 use Rattle.records.specs.declared.record.Mode.{Mode}
 use Rattle.records.specs.declared.record.Mode.the-variants.{Read, Write}
@@ -38,9 +38,12 @@ callbackDue n r last opener mode i =
 abbrev pub callbacksDue : ℕ → (ℕ → ClientRecord) → ℕ → ℕ → Mode → List ℕ
 callbacksDue n r last opener mode = stored n (λ i. i) (callbackDue n r last opener mode) (replicate n 0)
 
--- a kind 1 or 3 writes back, a kind 2 or 3 invalidates
+-- a kind 1 or 3 writes back, a kind 2 or 3 invalidates, and 0 asks nothing
 abbrev pub writesBack : ℕ → Bool
 writesBack kind = eqb kind 1 || eqb kind 3
 
 abbrev pub invalidates : ℕ → Bool
 invalidates kind = eqb kind 2 || eqb kind 3
+
+abbrev pub asksNothing : ℕ → Bool
+asksNothing kind = eqb kind 0

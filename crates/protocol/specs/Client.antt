@@ -1,17 +1,16 @@
 -- A client's side of one file: its own record, its last-writer flag (document 01: mark) and the version of its copy
 -- (label), and how a grant, a close and an answer change them and the copies of its blocks.
 use Prim.Native.Nat.{ℕ, _+_}
-use mathlib.Core.Bool.{Bool, true, false, cond, not, _&&_, _||_}
+use mathlib.Core.Bool.{Bool, false, cond, not, _&&_, _||_}
 use mathlib.Core.List.{List}
 use lib.Dec.{ltb}
 use lib.ListN.{getD}
 use Rattle.records.specs.declared.record.Mode.{Mode}
-use Rattle.records.specs.declared.record.Mode.the-variants.{Read, Write}
 use Rattle.protocol.specs.declared.client.ClientFile.{ClientFile}
 use Rattle.protocol.specs.declared.reply.Grant.{Grant}
 use Rattle.protocol.specs.Sizes.{blocks}
 use Rattle.protocol.specs.Lists.{stored}
-use Rattle.records.specs.Version.{versionOf}
+use Rattle.records.specs.Version.{noVersion}
 use Rattle.records.specs.Record.{isOpen, isWrite, opened, closed, uncached, leavesLastWriter}
 use Rattle.protocol.specs.Callback.{writesBack, invalidates}
 use Rattle.protocol.specs.Copy.{keepsCopy}
@@ -22,12 +21,12 @@ grantedClient mode g own =
     record {
       opens = opened mode (g .caching) (own .opens);
       marked = not (isWrite mode) && own .marked;
-      cached = cond (g .caching) (g .latest) (versionOf 0);
+      label = cond (g .caching) (g .latest) noVersion;
     }
 
 -- "with permission, the copy is kept when ..; otherwise its blocks are dropped"
 abbrev pub keepsBlocks : Mode → Grant → ClientFile → Bool
-keepsBlocks mode g own = g .caching && keepsCopy mode (own .cached) (g .latest)
+keepsBlocks mode g own = g .caching && keepsCopy mode (own .label) (g .latest)
 
 -- "If that was the last writer count and the station may cache, it becomes .. marked. A final close takes its
 -- permission away; its copy stays."
@@ -36,7 +35,7 @@ closedClient mode own =
     record {
       opens = closed mode (own .opens);
       marked = leavesLastWriter mode (own .opens) || own .marked;
-      cached = own .cached;
+      label = own .label;
     }
 
 -- "1 .. clears mark ..; 2 drops the copy, label 0, permission gone; 3 is 1, then 2."
@@ -45,7 +44,7 @@ answeredClient kind own =
     record {
       opens = cond (invalidates kind) (uncached (own .opens)) (own .opens);
       marked = not (writesBack kind) && own .marked;
-      cached = cond (invalidates kind) (versionOf 0) (own .cached);
+      label = cond (invalidates kind) noVersion (own .label);
     }
 
 -- A read "needs the server .. unless the station is open, may cache and holds the block", a write "unless it has

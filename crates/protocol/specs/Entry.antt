@@ -1,7 +1,7 @@
 -- The server's side of one file: the entry of the state table, and how an open, a grant, a close, an answer, a crash
 -- and a report change it. n is the number of clients.
 use Prim.Native.Nat.{ℕ}
-use mathlib.Core.Bool.{Bool, cond}
+use mathlib.Core.Bool.{Bool, cond, not}
 use mathlib.Core.List.{List}
 use lib.Dec.{leb, ltb}
 use lib.ListN.{getD, set, replicate}
@@ -17,7 +17,7 @@ use Rattle.protocol.specs.Lists.{count}
 use Rattle.records.specs.Version.{latestAt, previousVersion}
 use Rattle.records.specs.Record.{notOpen, isWrite, opened, closed, uncached, leavesLastWriter}
 use Rattle.protocol.specs.State.{recordIn}
-use Rattle.protocol.specs.Callback.{callbacksDue, writesBack, invalidates}
+use Rattle.protocol.specs.Callback.{callbacksDue, writesBack, invalidates, asksNothing}
 use Rattle.protocol.specs.Permission.{permissionAtGrant}
 
 abbrev pub recordAt : Entry → ℕ → ClientRecord
@@ -37,11 +37,11 @@ callTo n e i = cond (waits n e) (kindOf (getD (e .calls) i 0)) 0
 
 -- how many clients have still to answer
 abbrev pub callsOut : ℕ → Entry → ℕ
-callsOut n e = count n (λ i. ltb 0 (callTo n e i))
+callsOut n e = count n (λ i. not (asksNothing (callTo n e i)))
 
 -- how many clients a list of callbacks calls
 abbrev pub callsIn : ℕ → List ℕ → ℕ
-callsIn n calls = count n (λ i. ltb 0 (getD calls i 0))
+callsIn n calls = count n (λ i. not (asksNothing (getD calls i 0)))
 
 -- the callbacks that an open in the mode causes
 abbrev pub callsDue : ℕ → Entry → ℕ → Mode → List ℕ

@@ -11,8 +11,8 @@ count (suc n) p = count n p + cond (p n) 1 0
 
 -- the list l with value k stored at place k, for each k below n
 unfoldable pub stored {ℓ} : {A : Type ℓ} → ℕ → (ℕ → ℕ) → (ℕ → A) → List A → List A
-stored zero place value l = l
-stored (suc n) place value l = set (stored n place value l) (place n) (value n)
+stored zero at value l = l
+stored (suc n) at value l = set (stored n at value l) (at n) (value n)
 
 -- the number that stands with the first test that holds; 0 where none does
 abbrev pub firstOf : List (Bool × ℕ) → ℕ

@@ -13,6 +13,7 @@ use Rattle.protocol.specs.declared.client.ClientFile.{ClientFile}
 use Rattle.protocol.specs.Sizes.{clients, files, blocks}
 use Rattle.records.specs.Version.{isLastVersion}
 use Rattle.records.specs.Record.{isOpen, isWrite, countOf}
+use Rattle.protocol.specs.Callback.{asksNothing}
 use Rattle.protocol.specs.Entry.{waits, callTo}
 use Rattle.protocol.specs.Client.{readNeedsServer, writeNeedsServer}
 
@@ -42,7 +43,7 @@ abbrev pub openWaits : Entry → Test
 openWaits e = (waits clients e, 9)
 
 abbrev pub noCall : Entry → ℕ → Test
-noCall e i = (eqb (callTo clients e i) 0, 10)
+noCall e i = (asksNothing (callTo clients e i), 10)
 
 -- "11 not open in the mode needed (a read needs either). 12 that count is 255. 13 the block isn't dirty there."
 abbrev pub notOpenIn : Mode → ClientFile → Test

@@ -15,7 +15,7 @@ pub struct ClientFile {
     // The last-writer flag (document 01: mark).
     pub marked: bool,
     // The version of the cached copy, 0 for no copy (document 01: label).
-    pub cached: Version,
+    pub label: Version,
 }
 
 impl ClientFile {
@@ -25,7 +25,7 @@ impl ClientFile {
         ClientFile {
             opens: self.opens.opened(mode, grant.caching),
             marked: !mode.is_write() & self.marked,
-            cached: Version::either(grant.caching, grant.latest, Version::none()),
+            label: Version::either(grant.caching, grant.latest, Version::none()),
         }
     }
 
@@ -33,18 +33,18 @@ impl ClientFile {
     pub fn keeps_blocks(self, mode: Mode, grant: Grant) -> bool
         ensures { λ r. ⌜ r ≡ keepsBlocks mode grant self ⌝ }
     {
-        grant.caching & keeps_copy(mode, self.cached, grant.latest)
+        grant.caching & keeps_copy(mode, self.label, grant.latest)
     }
 
     pub fn closed(self, mode: Mode) -> Self
         ensures { λ r. ⌜ r ≡ closedClient mode self ⌝ }
     {
         let opens = self.opens;
-        let cached = self.cached;
+        let label = self.label;
         ClientFile {
             opens: opens.closed(mode),
             marked: opens.leaves_last_writer(mode) | self.marked,
-            cached,
+            label,
         }
     }
 
@@ -57,7 +57,7 @@ impl ClientFile {
         ClientFile {
             opens: ClientRecord::either(invalidated, opens.uncached(), opens),
             marked: !writes_back(kind) & self.marked,
-            cached: Version::either(invalidated, Version::none(), self.cached),
+            label: Version::either(invalidated, Version::none(), self.label),
         }
     }
 

@@ -4,9 +4,9 @@ ghost use Rattle.protocol.specs.Copy.{keepsCopy};
 use records::Mode;
 use records::Version;
 
-// Whether a copy at the cached version is kept by an open in the mode, at the latest version.
-pub fn keeps_copy(mode: Mode, cached: Version, latest: Version) -> bool
-    ensures { λ r. ⌜ r ≡ keepsCopy mode cached latest ⌝ }
+// Whether a copy with this label is kept by an open in the mode, at the latest version.
+pub fn keeps_copy(mode: Mode, label: Version, latest: Version) -> bool
+    ensures { λ r. ⌜ r ≡ keepsCopy mode label latest ⌝ }
 {
-    cached.same(latest) | (mode.is_write() & cached.same(latest.previous()))
+    label.same(latest) | (mode.is_write() & label.same(latest.previous()))
 }

@@ -1,4 +1,4 @@
-// The consistency protocol of one file: the types of both ends, the client's side, and the definitions of every rule
+// The consistency protocol of one file: the types of both sides, the client's side, and the definitions of every rule
 // of one file with the theorem that they keep it consistent. Nothing here knows of lists of files or of the whole
 // service.
 mod callback;
@@ -10,6 +10,7 @@ mod reply;
 mod state;
 mod step;
 
+pub use callback::asks_nothing;
 pub use callback::invalidates;
 pub use callback::writes_back;
 pub use client::ClientFile;

@@ -2,5 +2,5 @@
 pub mod Numbers
 pub mod Shapes
 pub mod Words
-pub mod Ends
-pub mod LineEnds
+pub mod Whole
+pub mod LineFeeds

@@ -11,7 +11,7 @@ use Rattle.reader.specs.declared.step.Pair.the-variants.{Are as ArePair,
 use Rattle.reader.specs.declared.step.Triple.{Triple}
 use Rattle.reader.specs.declared.step.Triple.the-variants.{Are as AreTriple, Missing as NoTriple}
 use Rattle.stepfile.specs.Grammar.{found, nothing, onward, argument, Shape, whole, taking, shaped}
-use Rattle.reader.specs.Places.{numberIn, pairIn, tripleIn}
+use Rattle.reader.specs.Offsets.{numberIn, pairIn, tripleIn}
 
 -- none
 pub whole-there : (x : Step) (l : List ℕ) → shaped (whole x) l ≡ found x l

@@ -7,7 +7,7 @@ use native.Mathlib.Omega.{arith}
 use lib.ListN.{length, getD, drop, length-drop}
 use Rattle.stepfile.specs.Grammar.{nothing, Shape, noWord, words, same, shapeIn, shapeOf, shaped, step}
 use Rattle.records.proofs.Choosing.{unless, split}
-use Rattle.stepfile.proofs.Digits.{at-place}
+use Rattle.stepfile.proofs.Digits.{at-offset}
 use Rattle.stepfile.proofs.AsWritten.{same-true}
 
 -- fewer than two bytes are no word
@@ -21,11 +21,11 @@ module _ (s : List ℕ) (at : ℕ) where
   pub step-short : length s < at + 2 → step (drop at s) ≡ nothing
   step-short h = short (drop at s) (rw (length-drop at s) (omega arith))
 
-  -- two bytes: their shape, and the place after them
+  -- two bytes: their shape, and the offset after them
   pub step-there : at + 2 ≤ length s → step (drop at s) ≡ shaped (shapeOf (getD s at 0) (getD s (at + 1) 0)) (drop (at + 2) s)
   unfolding step
   step-there h =
-      rw (at-place s at (omega arith), at-place s (at + 1) (omega arith), add-assoc at 1 1)
+      rw (at-offset s at (omega arith), at-offset s (at + 1) (omega arith), add-assoc at 1 1)
 
 -- The code reads the two bytes as one number.
 abbrev pub wordNumber : List ℕ → ℕ

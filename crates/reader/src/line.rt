@@ -19,7 +19,7 @@ pub fn read_line(line: &[u8]) -> Parsed
     Parsed::Is(step)
 }
 
-// The line that starts at the place. A step is read in one pass; only a line that is none is searched for its LF.
+// The line that starts at the offset. A step is read in one pass; only a line that is none is searched for its LF.
 pub fn read_at(input: &[u8], at: usize) -> Read
     ensures { λ r. ⌜ r ≡ readAt (now (input .entry)) at ⌝ }
 {
@@ -38,7 +38,7 @@ pub fn read_at(input: &[u8], at: usize) -> Read
     }
 }
 
-// The line that starts at the place, which is no step.
+// The line that starts at the offset, which is no step.
 fn no_step_at(input: &[u8], at: usize) -> Read
     ensures { λ r. ⌜ r ≡ noStepAt (now (input .entry)) at ⌝ }
 {

@@ -2,11 +2,11 @@
 ghost use mathlib.Core.Path.{_≡_};
 ghost use lib.ListN.{drop};
 ghost use Rattle.stepfile.specs.Grammar.{digitsOn, numeral, argument};
-ghost use Rattle.reader.specs.Places.{numberIn};
+ghost use Rattle.reader.specs.Offsets.{numberIn};
 
-// What reading a number at a place finds.
+// What reading a number at a offset finds.
 pub enum Number {
-    // The number, and the place past its last digit.
+    // The number, and the offset past its last digit.
     Is { value: u64, next: usize },
     Missing,
 }

@@ -4,14 +4,14 @@ ghost use Prim.Native.Nat.{ℕ, _+_, _*_, _≤_};
 ghost use lib.ListN.{length, getD, drop};
 ghost use Rattle.stepfile.specs.Grammar.{Shape, taking, one, two, three, four, shaped};
 ghost use Rattle.stepfile.specs.Grammar.{step as stepOn};
-ghost use Rattle.reader.specs.Places.{pairIn, tripleIn, begunIn};
+ghost use Rattle.reader.specs.Offsets.{pairIn, tripleIn, begunIn};
 use crate::number::Number;
 use crate::number::argument_at;
 use crate::number::wide;
 use protocol::Step;
 use records::Mode;
 
-// What reading a step at a place finds: the step, and the place past its last byte.
+// What reading a step at a offset finds: the step, and the offset past its last byte.
 pub enum Begun {
     Is { step: Step, next: usize },
     Missing,
@@ -173,7 +173,7 @@ fn write_from(s: &[u8], at: usize) -> Begun
     else {
         return Begun::Missing;
     };
-    let Number::Is { value, next: end } = argument_at(s, next) else {
+    let Number::Is { value, next: past } = argument_at(s, next) else {
         return Begun::Missing;
     };
     Begun::Is {
@@ -183,7 +183,7 @@ fn write_from(s: &[u8], at: usize) -> Begun
             block,
             value,
         },
-        next: end,
+        next: past,
     }
 }
 
@@ -201,7 +201,7 @@ fn report_from(s: &[u8], at: usize) -> Begun
     }
 }
 
-// Two numbers, a client and a file, and the place past them.
+// Two numbers, a client and a file, and the offset past them.
 pub enum Pair {
     Are {
         client: usize,
@@ -223,7 +223,7 @@ fn pair_at(s: &[u8], at: usize) -> Pair
     };
     let Number::Is {
         value: file,
-        next: end,
+        next: past,
     } = argument_at(s, next)
     else {
         return Pair::Missing;
@@ -231,11 +231,11 @@ fn pair_at(s: &[u8], at: usize) -> Pair
     Pair::Are {
         client: client as usize,
         file: file as usize,
-        next: end,
+        next: past,
     }
 }
 
-// A client, a file and a block, and the place past them.
+// A client, a file and a block, and the offset past them.
 pub enum Triple {
     Are {
         client: usize,
@@ -252,13 +252,13 @@ fn triple_at(s: &[u8], at: usize) -> Triple
     let Pair::Are { client, file, next } = pair_at(s, at) else {
         return Triple::Missing;
     };
-    let Number::Is { value, next: end } = argument_at(s, next) else {
+    let Number::Is { value, next: past } = argument_at(s, next) else {
         return Triple::Missing;
     };
     Triple::Are {
         client,
         file,
         block: value as usize,
-        next: end,
+        next: past,
     }
 }

@@ -1,3 +1,3 @@
--- The values that both ends keep, in reading order.
+-- The values that both sides keep, in reading order.
 pub mod Version
 pub mod Record

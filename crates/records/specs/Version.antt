@@ -13,8 +13,20 @@ versionOf n = record { 0 = n }
 abbrev pub numberOf : Version → ℕ
 numberOf v = v .0
 
+-- "label: the version of its copy, 0 for no copy"
+abbrev pub noVersion : Version
+noVersion = versionOf 0
+
+-- "1 at the start"
+abbrev pub firstVersion : Version
+firstVersion = versionOf 1
+
 abbrev pub sameVersion : Version → Version → Bool
 sameVersion v w = eqb (numberOf v) (numberOf w)
+
+-- "at version 1"
+abbrev pub isFirstVersion : Version → Bool
+isFirstVersion v = sameVersion v firstVersion
 
 -- "The version is 4,294,967,295"
 abbrev pub isLastVersion : Version → Bool
@@ -22,7 +34,7 @@ isLastVersion v = eqb (numberOf v) 4294967295
 
 -- "a version of 0 [reads] as 1"
 abbrev pub asRead : Version → Version
-asRead v = cond (eqb (numberOf v) 0) (versionOf 1) v
+asRead v = cond (eqb (numberOf v) 0) firstVersion v
 
 -- "the version rises by 1"; "a grant that would pass the limit of .. 14 leaves that number"
 abbrev pub nextVersion : Version → Version

@@ -1,4 +1,4 @@
-// Versions and client records: the values that both ends of the protocol keep for a file, and what their own
+// Versions and client records: the values that both sides of the protocol keep for a file, and what their own
 // functions do with them.
 mod record;
 mod version;

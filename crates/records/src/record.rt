@@ -1,4 +1,4 @@
-// One client's opens of one file, as either end keeps them (document 01: a station record).
+// One client's opens of one file, as either side keeps them (document 01: a station record).
 ghost use mathlib.Core.Path.{_≡_};
 ghost use mathlib.Core.Bool.{cond};
 ghost use Prim.Native.Nat.{_-_};

@@ -2,8 +2,8 @@
 // so that no count and no block value can stand for a version.
 ghost use mathlib.Core.Path.{_≡_};
 ghost use mathlib.Core.Bool.{cond};
-ghost use Rattle.records.specs.Version.{versionOf, numberOf, asRead, nextVersion, previousVersion};
-ghost use Rattle.records.specs.Version.{isLastVersion, sameVersion, latestAt};
+ghost use Rattle.records.specs.Version.{noVersion, firstVersion, numberOf, asRead, nextVersion, previousVersion};
+ghost use Rattle.records.specs.Version.{isFirstVersion, isLastVersion, sameVersion, latestAt};
 use crate::record::Mode;
 
 pub struct Version(u32);
@@ -11,14 +11,14 @@ pub struct Version(u32);
 impl Version {
     // No copy.
     pub fn none() -> Self
-        ensures { λ r. ⌜ r ≡ versionOf 0 ⌝ }
+        ensures { λ r. ⌜ r ≡ noVersion ⌝ }
     {
         Version(0)
     }
 
     // The version that every file has at the start.
     pub fn first() -> Self
-        ensures { λ r. ⌜ r ≡ versionOf 1 ⌝ }
+        ensures { λ r. ⌜ r ≡ firstVersion ⌝ }
     {
         Version(1)
     }
@@ -54,6 +54,12 @@ impl Version {
         } else {
             Version(self.0 - 1)
         }
+    }
+
+    pub fn is_first(self) -> bool
+        ensures { λ r. ⌜ r ≡ isFirstVersion self ⌝ }
+    {
+        self.0 == 1
     }
 
     pub fn is_last(self) -> bool

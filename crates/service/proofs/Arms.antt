@@ -18,11 +18,11 @@ use Rattle.records.proofs.Choosing.{when, unless}
 pub use Rattle.records.proofs.Choosing.{split}
 use Rattle.protocol.specs.Sizes.{clients, files, blocks, slot}
 use Rattle.protocol.specs.Client.{kept}
-use Rattle.ends.specs.declared.ends.Ends.{Ends}
-use Rattle.ends.specs.Ends.{refusedEnds}
+use Rattle.opening.specs.declared.opening.Change.{Change}
+use Rattle.opening.specs.Opening.{refusedChange}
 use Rattle.service.specs.declared.service.Service.{Service}
 use Rattle.service.specs.declared.outcome.Outcome.{Outcome}
-use Rattle.service.specs.Places.{noEntry, noClient, entryAt, clientAt, withEntry}
+use Rattle.service.specs.Contents.{noEntry, noClient, entryAt, clientAt, withEntry}
 use Rattle.service.specs.Refusal.{refusalOf}
 use Rattle.service.specs.Next.{nextOf}
 use Rattle.service.specs.Answer.{noCalls, replyOf, callsOf}
@@ -32,9 +32,9 @@ use Rattle.service.specs.Step.{stepOf}
 abbrev pub refusedWith : Service → ℕ → Outcome
 refusedWith s k = record { service = s; reply = Refused k; calls = noCalls }
 
--- the outcome with the ends stored at file f and client i, whose copies of the file begin at base
-abbrev pub withEndsAt : ℕ → Service → ℕ → ℕ → Ends → Outcome
-withEndsAt base s i f e =
+-- the outcome with the change stored at file f and client i, whose copies of the file begin at base
+abbrev pub withChangeAt : ℕ → Service → ℕ → ℕ → Change → Outcome
+withChangeAt base s i f e =
     record {
       service =
           record {
@@ -48,11 +48,11 @@ withEndsAt base s i f e =
       calls = e .calls;
     }
 
-abbrev pub withEnds : Service → ℕ → ℕ → Ends → Outcome
-withEnds s i f e = withEndsAt (slot i f * blocks) s i f e
+abbrev pub withChange : Service → ℕ → ℕ → Change → Outcome
+withChange s i f e = withChangeAt (slot i f * blocks) s i f e
 
 -- the same for a step that changes no copies and sends no callbacks
-abbrev pub withPair : Service → ℕ → ℕ → Ends → Outcome
+abbrev pub withPair : Service → ℕ → ℕ → Change → Outcome
 withPair s i f e =
     record {
       service =
@@ -67,8 +67,8 @@ withPair s i f e =
       calls = noCalls;
     }
 
--- ends that are refused are stored back as they were
-pub refused-pair : (s : Service) (i f k : ℕ) → withPair s i f (refusedEnds (entryAt s f) (clientAt s i f) k) ≡ refusedWith s k
+-- change that are refused are stored back as they were
+pub refused-pair : (s : Service) (i f k : ℕ) → withPair s i f (refusedChange (entryAt s f) (clientAt s i f) k) ≡ refusedWith s k
 refused-pair s i f k =
     ap₂
     (λ fs cs.

@@ -8,11 +8,11 @@ use lib.ListN.{length, set}
 use Rattle.protocol.specs.Sizes.{clients, files, blocks, place, cell}
 use Rattle.protocol.proofs.View.{View, at, readView, writtenView, flushedView}
 use Rattle.service.specs.declared.service.Service.{Service}
-use Rattle.service.specs.Places.{entryAt, blockAt, clientAt, copyAt, heldAt, dirtyAt, reportedAt}
+use Rattle.service.specs.Contents.{entryAt, blockAt, clientAt, copyAt, heldAt, dirtyAt, reportedAt}
 use Rattle.service.specs.Next.{fetches, afterRead, afterWrite, afterFlush}
 use Rattle.service.proofs.Tests.{eqb-same}
 use Rattle.service.proofs.Lists.{getD-put, length-put}
-use Rattle.service.proofs.Places.{place-same, cell-same, place-in, cell-in}
+use Rattle.service.proofs.Contents.{place-same, cell-same, place-in, cell-in}
 use Rattle.service.proofs.Views.{Sized, viewOf, same-view, at-own}
 
 -- From s to s′ the view of block b of file f becomes w, and every other stays.
@@ -141,15 +141,15 @@ module _ {s : Service} {i f b : ℕ} (n : Sized s) (hi : i < clients) (hf : f < 
 
   -- with permission the copy is written, without the server's block
   written-by :
-      (cached : Bool) (v : ℕ)
-      → BlockStep s (cond cached (moved s i f b (inCopy v)) (moved s i f b (atServer v))) f b
+      (caches : Bool) (v : ℕ)
+      → BlockStep s (cond caches (moved s i f b (inCopy v)) (moved s i f b (atServer v))) f b
       (record {
         entry = entryAt s f;
-        block = cond cached (blockAt s f b) v;
+        block = cond caches (blockAt s f b) v;
         client = λ j. clientAt s j f;
-        copy = at i (cond cached v (copyAt s i f b)) (λ j. copyAt s j f b);
-        held = at i (cond cached true (heldAt s i f b)) (λ j. heldAt s j f b);
-        dirty = at i (cond cached true (dirtyAt s i f b)) (λ j. dirtyAt s j f b);
+        copy = at i (cond caches v (copyAt s i f b)) (λ j. copyAt s j f b);
+        held = at i (cond caches true (heldAt s i f b)) (λ j. heldAt s j f b);
+        dirty = at i (cond caches true (dirtyAt s i f b)) (λ j. dirtyAt s j f b);
       })
   written-by true v = moved-step (inCopy v) n hi hf hb
   written-by false v = moved-step (atServer v) n hi hf hb

@@ -11,13 +11,13 @@ use Rattle.protocol.specs.declared.reply.Reply.the-variants.{Value}
 use Rattle.protocol.specs.declared.step.Step.{Step}
 use Rattle.protocol.specs.declared.step.Step.the-variants.{Open, Close, Read, Write, Flush, Answer, Crash, Report, End}
 use Rattle.protocol.specs.Sizes.{clients, files, blocks, slot, place, cell}
-use Rattle.records.specs.Version.{versionOf}
+use Rattle.records.specs.Version.{firstVersion}
 use Rattle.protocol.specs.Entry.{crashedEntry}
 use Rattle.protocol.specs.Table.{Row}
 use Rattle.protocol.proofs.View.{View, freshView}
 use Rattle.protocol.proofs.Promises.{Promises}
 use Rattle.service.specs.declared.service.Service.{Service}
-use Rattle.service.specs.Places.{noEntry, noClient}
+use Rattle.service.specs.Contents.{noEntry, noClient}
 use Rattle.service.specs.Refusal.{testsOf, refusalOf}
 use Rattle.service.specs.Next.{valueRead, nextOf}
 use Rattle.service.specs.Step.{stepOf}
@@ -37,7 +37,7 @@ fresh-sized : Sized fresh
 unfolding fresh
 fresh-sized =
     record {
-      entries = length-replicate files (crashedEntry clients (versionOf 1));
+      entries = length-replicate files (crashedEntry clients firstVersion);
       words = length-replicate {A = ℕ} (files * blocks) 0;
       reports = length-replicate clients false;
       ends = length-replicate (clients * files) noClient;
@@ -50,7 +50,7 @@ fresh-view : (f b : ℕ) → f < files → viewOf fresh f b ≡ freshView client
 unfolding fresh
 fresh-view f b hf =
     same-view
-    (getD-inside files f (crashedEntry clients (versionOf 1)) noEntry hf)
+    (getD-inside files f (crashedEntry clients firstVersion) noEntry hf)
     (getD-replicate (files * blocks) (place f b) 0)
     (λ j. getD-replicate (clients * files) (slot j f) noClient)
     (λ j. getD-replicate (clients * files * blocks) (cell j f b) 0)

@@ -1,37 +1,26 @@
 -- The starred edges of document 01, each shown from the definitions by evaluation. Assumes nothing.
-use Prim.Native.Nat.{ℕ}
 use mathlib.Core.Path.{_≡_, refl}
-use mathlib.Core.Bool.{Bool, true, false}
+use mathlib.Core.Bool.{true, false}
 use mathlib.Core.List.{List, [], _∷_, _++_}
-use lib.ListN.{replicate, getD}
 use Rattle.records.specs.declared.record.Mode.the-variants.{Read, Write}
-use Rattle.protocol.specs.declared.reply.Reply.{Reply}
-use Rattle.protocol.specs.declared.reply.Reply.the-variants.{Granted, Waiting, Value, Refused, Answered, AnsweredGrant, Done}
-use Rattle.protocol.specs.declared.state.FileState.{FileState}
+use Rattle.protocol.specs.declared.reply.Reply.the-variants.{Granted, Refused}
 use Rattle.protocol.specs.declared.state.FileState.the-variants.{MultReaders, WriteShared}
-use Rattle.protocol.specs.Sizes.{clients}
+use Rattle.protocol.specs.Sizes.{nobody}
 use Rattle.protocol.specs.Lists.{count, stored}
 use Rattle.records.specs.Version.{versionOf}
+use Rattle.records.specs.Record.{notOpen}
 use Rattle.protocol.specs.State.{stateOf}
 use Rattle.protocol.specs.Permission.{permissionAtGrant}
 use Rattle.protocol.specs.Copy.{keepsCopy}
-use Rattle.protocol.specs.Entry.{crashedEntry}
 use Rattle.service.specs.declared.service.Service.{Service}
-use Rattle.service.specs.Places.{withEntry}
 use Rattle.service.specs.Step.{stepOf}
 use Rattle.service.specs.Fresh.{fresh}
-use Rattle.service.proofs.Run.{OR, OW, CW, RD, WR, AN, XX, EN, told, replies, played, answerAfter, times, recovered, stateAt, serverRecord}
+use Rattle.service.proofs.Making.{entry, withFile}
+use Rattle.service.proofs.Run.{OR, OW, CW, RD, WR, AN, XX, EN, grant, replies, after, answerAfter, times, recovered, stateAt, serverRecord}
 
 -- a service whose file 0 is at version 4,294,967,294
 abbrev nearLast : Service
-nearLast =
-    record {
-      server = withEntry (fresh .server) 0 (crashedEntry clients (versionOf 4294967294));
-      clients = fresh .clients;
-      copies = fresh .copies;
-      held = fresh .held;
-      dirty = fresh .dirty;
-    }
+nearLast = withFile (entry 4294967294 notOpen notOpen nobody)
 
 -- the listing of document 01
 abbrev pub listing : List Rattle.protocol.specs.declared.step.Step.Step
@@ -42,11 +31,11 @@ abbrev twoReaders : List Rattle.protocol.specs.declared.step.Step.Step
 twoReaders = OR 1 0 ∷ OR 2 0 ∷ []
 
 abbrev brokenOff : Service
-brokenOff = played fresh (twoReaders ++ (OW 3 0 ∷ AN 1 0 ∷ XX ∷ recovered))
+brokenOff = after fresh (twoReaders ++ (OW 3 0 ∷ AN 1 0 ∷ XX ∷ recovered))
 
 pub record Edges : Type 0 where
   -- "Station 7 runs, 8 gets 2."
-  pub lastClient : answerAfter fresh [] (OR 7 0) ≡ Granted (told 1 0)
+  pub lastClient : answerAfter fresh [] (OR 7 0) ≡ Granted (grant 1 0)
   pub noClient : answerAfter fresh [] (OR 8 0) ≡ Refused 2
   -- "File 32 gets 3."
   pub noFile : answerAfter fresh [] (OR 0 32) ≡ Refused 3
@@ -54,12 +43,12 @@ pub record Edges : Type 0 where
   pub noBlock : answerAfter fresh [] (RD 0 0 4) ≡ Refused 4
   -- "The 256th read open by one station gets 12."
   pub fullCount : answerAfter fresh (times 255 (OR 0 0)) (OR 0 0) ≡ Refused 12
-  pub lastCount : answerAfter fresh (times 254 (OR 0 0)) (OR 0 0) ≡ Granted (told 1 0)
+  pub lastCount : answerAfter fresh (times 254 (OR 0 0)) (OR 0 0) ≡ Granted (grant 1 0)
   -- "A copy labelled 5 meets latest 6: kept for write, dropped for read."
   pub previousForWrite : keepsCopy Write (versionOf 5) (versionOf 6) ≡ true
   pub previousForRead : keepsCopy Read (versionOf 5) (versionOf 6) ≡ false
   -- "Version 4,294,967,294 opens for write once more, then 14."
-  pub onceMore : replies nearLast (OW 0 0 ∷ OW 0 0 ∷ []) ≡ Granted (told 4294967295 4294967294) ∷ Refused 14 ∷ []
+  pub onceMore : replies nearLast (OW 0 0 ∷ OW 0 0 ∷ []) ≡ Granted (grant 4294967295 4294967294) ∷ Refused 14 ∷ []
   -- "A reply with no call gets 10."
   pub noCall : answerAfter fresh [] (AN 0 0) ≡ Refused 10
   -- "EN on a fresh service gets 6."
@@ -67,8 +56,8 @@ pub record Edges : Type 0 where
   -- "After the listing above, XX then AN 1 3 gets 5."
   pub lostCall : answerAfter fresh (listing ++ (XX ∷ [])) (AN 1 3) ≡ Refused 5
   -- "MULT_READERS of 1 and 2, OW 3 calls both; 1 replies, crash, eight reports, end: WRITE_SHARED, 1 without permission, 2 with it."
-  pub readers : stateAt (played fresh twoReaders) 0 ≡ MultReaders
-  pub bothCalled : stepOf (played fresh twoReaders) (OW 3 0) .calls ≡ 0 ∷ 2 ∷ 2 ∷ 0 ∷ 0 ∷ 0 ∷ 0 ∷ 0 ∷ []
+  pub readers : stateAt (after fresh twoReaders) 0 ≡ MultReaders
+  pub bothCalled : stepOf (after fresh twoReaders) (OW 3 0) .calls ≡ 0 ∷ 2 ∷ 2 ∷ 0 ∷ 0 ∷ 0 ∷ 0 ∷ 0 ∷ []
   pub stateAfter : stateAt brokenOff 0 ≡ WriteShared
   pub firstAfter : serverRecord brokenOff 1 0 ≡ record { readers = 1; writers = 0; caching = false }
   pub secondAfter : serverRecord brokenOff 2 0 ≡ record { readers = 1; writers = 0; caching = true }

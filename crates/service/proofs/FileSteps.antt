@@ -16,11 +16,11 @@ use Rattle.protocol.specs.Entry.{callTo, callsDue, waitingEntry, grantedEntry, 
 use Rattle.protocol.specs.Client.{grantedClient, keepsBlocks, closedClient, answeredClient, kept, sent}
 use Rattle.protocol.proofs.View.{View, withEntry, waitingView, grantedView, closedView, answeredView, callAnsweredView, waiterGrantedView}
 use Rattle.service.specs.declared.service.Service.{Service}
-use Rattle.service.specs.Places.{noEntry, noClient, entryAt, clientAt, copyAt, heldAt, dirtyAt}
+use Rattle.service.specs.Contents.{noEntry, noClient, entryAt, clientAt, copyAt, heldAt, dirtyAt}
 use Rattle.service.specs.Next.{granted, grantFor, waiting, afterClose, answered, callAnswered, waiterOf, waiterGranted}
 use Rattle.service.proofs.Tests.{eqb-same, cond-not}
 use Rattle.service.proofs.Lists.{getD-set}
-use Rattle.service.proofs.Places.{slot-same, slot-in, getD-kept, length-kept, getD-sent, length-sent}
+use Rattle.service.proofs.Contents.{slot-same, slot-in, getD-kept, length-kept, getD-sent, length-sent}
 use Rattle.service.proofs.Views.{Sized, sized-table, viewOf, same-view, at-own}
 
 -- From s to s′ the view of file f becomes w, at each block, and every other stays.

@@ -12,7 +12,7 @@ use Rattle.protocol.specs.Sizes.{files, blocks}
 use Rattle.protocol.specs.Table.{Row, rowOf}
 use Rattle.protocol.proofs.View.{View}
 use Rattle.service.specs.declared.service.Service.{Service}
-use Rattle.service.specs.Places.{noEntry, reportedAt}
+use Rattle.service.specs.Contents.{noEntry, reportedAt}
 use Rattle.service.specs.Demand3.{Memory, written, Recovery, none, since}
 use Rattle.service.proofs.Tests.{split, eqb-same, both}
 use Rattle.service.proofs.Views.{Sized, viewOf}

@@ -1,13 +1,16 @@
--- The proofs about the service, in reading order: the examples of document 01, by evaluation; then Demand 3, which
--- `Consistent` proves from the promises of the protocol of one file.
+-- The proofs about the service, in reading order: the examples of document 01, the readings of open points and the
+-- hand-made states, by evaluation; then Demand 3, which `Consistent` proves from the promises of the protocol of one
+-- file.
 pub mod Run
+pub mod Making
 pub mod Edges
 pub mod WholeCase
 pub mod Readings
+pub mod HandMade
 pub mod Rows
 pub mod Tests
 pub mod Lists
-pub mod Places
+pub mod Contents
 pub mod Views
 pub mod FileSteps
 pub mod BlockSteps

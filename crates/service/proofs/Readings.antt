@@ -6,10 +6,10 @@ use Rattle.protocol.specs.declared.state.FileState.the-variants.{Closed, OneRea
 use Rattle.protocol.specs.Lists.{count, stored}
 use Rattle.protocol.specs.State.{stateOf}
 use Rattle.protocol.specs.Permission.{permissionAtGrant}
-use Rattle.service.specs.Places.{entryAt}
+use Rattle.service.specs.Contents.{entryAt}
 use Rattle.service.specs.Step.{stepOf}
 use Rattle.service.specs.Fresh.{fresh}
-use Rattle.service.proofs.Run.{OR, OW, CR, CW, RD, WR, FL, AN, XX, RP, EN, told, toldUncached, replies, played, answerAfter, recovered, stateAt}
+use Rattle.service.proofs.Run.{OR, OW, CR, CW, RD, WR, FL, AN, XX, RP, EN, grant, grantUncached, replies, after, answerAfter, recovered, stateAt}
 
 -- an invalidation that a crash breaks off: clients 1 and 2 read, 3 opens for write, 1 has answered
 abbrev brokenOff : List Rattle.protocol.specs.declared.step.Step.Step
@@ -22,51 +22,51 @@ pub record Readings : Type 0 where
   pub readInRecovery : answerAfter fresh (XX ∷ []) (RD 0 0 0) ≡ Refused 5
   pub writeInRecovery : answerAfter fresh (XX ∷ []) (WR 0 0 0 1) ≡ Refused 5
   -- the table as it stands, in recovery and with half of the answers in
-  pub tableInRecovery : stateAt (played fresh (OW 0 0 ∷ XX ∷ [])) 0 ≡ Closed
-  pub halfAnswered : stateAt (played fresh (OR 1 0 ∷ OR 2 0 ∷ OW 3 0 ∷ AN 1 0 ∷ [])) 0 ≡ WriteShared
+  pub tableInRecovery : stateAt (after fresh (OW 0 0 ∷ XX ∷ [])) 0 ≡ Closed
+  pub halfAnswered : stateAt (after fresh (OR 1 0 ∷ OR 2 0 ∷ OW 3 0 ∷ AN 1 0 ∷ [])) 0 ≡ WriteShared
   -- 9 is for anyone, the waiting opener and an open that would keep its permission included, and comes before 11 at a close
   pub waitingOpener : answerAfter fresh (OR 0 0 ∷ OW 1 0 ∷ []) (OW 1 0) ≡ Refused 9
   pub keptOpen : answerAfter fresh (OR 0 0 ∷ OW 1 0 ∷ []) (OR 0 0) ≡ Refused 9
   pub closeWaits : answerAfter fresh (OR 0 0 ∷ OW 1 0 ∷ []) (CR 2 0) ≡ Refused 9
   -- a repeated write open raises the version
-  pub repeated : replies fresh (OW 0 0 ∷ OW 0 0 ∷ []) ≡ Granted (told 2 1) ∷ Granted (told 3 2) ∷ []
+  pub repeated : replies fresh (OW 0 0 ∷ OW 0 0 ∷ []) ≡ Granted (grant 2 1) ∷ Granted (grant 3 2) ∷ []
   -- a write open raises the writers alone, and allows reads
   pub writersAlone : answerAfter fresh (OW 0 0 ∷ []) (CR 0 0) ≡ Refused 11
   pub readsToo : answerAfter fresh (OW 0 0 ∷ []) (RD 0 0 0) ≡ Value 0
   -- the version before 1 is 0
-  pub beforeFirst : answerAfter fresh [] (OR 0 0) ≡ Granted (told 1 0)
+  pub beforeFirst : answerAfter fresh [] (OR 0 0) ≡ Granted (grant 1 0)
   -- a flush is allowed while an open waits, and leaves the callback due, the flag and the last writer
   pub flushWhileWaiting :
       replies fresh (OW 0 0 ∷ WR 0 0 0 5 ∷ CW 0 0 ∷ OR 1 0 ∷ FL 0 0 0 ∷ AN 0 0 ∷ RD 1 0 0 ∷ [])
-      ≡ Granted (told 2 1)
+      ≡ Granted (grant 2 1)
       ∷ Done
       ∷ Done
       ∷ Waiting
       ∷ Done
-      ∷ AnsweredGrant 1 (told 2 1)
+      ∷ AnsweredGrant 1 (grant 2 1)
       ∷ Value 5
       ∷ []
   -- a called client goes on reading and writing its copy until it answers
   pub untilAnswer :
       replies fresh (OW 0 0 ∷ OR 1 0 ∷ WR 0 0 0 6 ∷ RD 0 0 0 ∷ AN 0 0 ∷ RD 1 0 0 ∷ [])
-      ≡ Granted (told 2 1)
+      ≡ Granted (grant 2 1)
       ∷ Waiting
       ∷ Done
       ∷ Value 6
-      ∷ AnsweredGrant 1 (toldUncached 2 1)
+      ∷ AnsweredGrant 1 (grantUncached 2 1)
       ∷ Value 6
       ∷ []
   -- a report without the flag leaves the last writer as it is
-  pub noFlag : entryAt (played fresh (OW 0 0 ∷ CW 0 0 ∷ XX ∷ RP 0 ∷ RP 1 ∷ [])) 0 .last ≡ 0
+  pub noFlag : entryAt (after fresh (OW 0 0 ∷ CW 0 0 ∷ XX ∷ RP 0 ∷ RP 1 ∷ [])) 0 .last ≡ 0
   -- a broken-off invalidation
-  pub brokenWrite : answerAfter fresh brokenOff (OW 2 0) ≡ Granted (toldUncached 2 1)
-  pub brokenRead : answerAfter fresh brokenOff (OR 2 0) ≡ Granted (told 1 0)
-  pub brokenOther : answerAfter fresh brokenOff (OR 1 0) ≡ Granted (toldUncached 1 0)
-  pub brokenClose : stateAt (played fresh (brokenOff ++ (CR 1 0 ∷ []))) 0 ≡ OneReader
+  pub brokenWrite : answerAfter fresh brokenOff (OW 2 0) ≡ Granted (grantUncached 2 1)
+  pub brokenRead : answerAfter fresh brokenOff (OR 2 0) ≡ Granted (grant 1 0)
+  pub brokenOther : answerAfter fresh brokenOff (OR 1 0) ≡ Granted (grantUncached 1 0)
+  pub brokenClose : stateAt (after fresh (brokenOff ++ (CR 1 0 ∷ []))) 0 ≡ OneReader
   -- a second crash takes the reports back
   pub secondCrash :
       replies fresh (OR 0 0 ∷ RD 0 0 0 ∷ XX ∷ RP 0 ∷ RD 0 0 0 ∷ XX ∷ RD 0 0 0 ∷ [])
-      ≡ Granted (told 1 0)
+      ≡ Granted (grant 1 0)
       ∷ Value 0
       ∷ Done
       ∷ Done

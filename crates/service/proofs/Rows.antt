@@ -8,7 +8,7 @@ use Rattle.protocol.specs.declared.step.Step.{Step}
 use Rattle.protocol.specs.declared.step.Step.the-variants.{Open, Close, Read, Write, Flush, Answer, Crash, Report, End}
 use Rattle.service.specs.declared.service.Service.{Service}
 use Rattle.service.specs.declared.outcome.Outcome.{Outcome}
-use Rattle.service.specs.Places.{entryAt, clientAt}
+use Rattle.service.specs.Contents.{entryAt, clientAt}
 use Rattle.service.specs.Refusal.{refusalOf}
 use Rattle.service.specs.Next.{callsNobody, callAnswered, lastAnswer, nextOf}
 use Rattle.service.specs.Step.{stepOf}

@@ -1,4 +1,4 @@
--- Lists of steps played on a service, for the examples. Assumes nothing.
+-- Lists of steps after on a service, for the examples. Assumes nothing.
 use Prim.Native.Nat.{ℕ, zero, suc}
 use mathlib.Core.List.{List, [], _∷_, _++_}
 use mathlib.Core.Bool.{true, false}
@@ -14,7 +14,7 @@ use Rattle.records.specs.Version.{versionOf}
 use Rattle.protocol.specs.State.{stateOf}
 use Rattle.protocol.specs.Entry.{recordAt}
 use Rattle.service.specs.declared.service.Service.{Service}
-use Rattle.service.specs.Places.{entryAt}
+use Rattle.service.specs.Contents.{entryAt}
 use Rattle.service.specs.Step.{stepOf}
 
 -- the words of the step file
@@ -52,24 +52,24 @@ abbrev pub EN : Step
 EN = End
 
 -- G latest previous permission
-abbrev pub told : ℕ → ℕ → Grant
-told latest previous = record { latest = versionOf latest; previous = versionOf previous; caching = true }
+abbrev pub grant : ℕ → ℕ → Grant
+grant latest previous = record { latest = versionOf latest; previous = versionOf previous; caching = true }
 
-abbrev pub toldUncached : ℕ → ℕ → Grant
-toldUncached latest previous = record { latest = versionOf latest; previous = versionOf previous; caching = false }
+abbrev pub grantUncached : ℕ → ℕ → Grant
+grantUncached latest previous = record { latest = versionOf latest; previous = versionOf previous; caching = false }
 
 -- the replies to the steps, one after the other, and the service after them
 abbrev pub replies : Service → List Step → List Reply
 replies s [] = []
 replies s (x ∷ xs) = let r = stepOf s x in r .reply ∷ replies (r .service) xs
 
-abbrev pub played : Service → List Step → Service
-played s [] = s
-played s (x ∷ xs) = played (stepOf s x .service) xs
+abbrev pub after : Service → List Step → Service
+after s [] = s
+after s (x ∷ xs) = after (stepOf s x .service) xs
 
 -- the reply to the last step, after the others
 abbrev pub answerAfter : Service → List Step → Step → Reply
-answerAfter s xs x = stepOf (played s xs) x .reply
+answerAfter s xs x = stepOf (after s xs) x .reply
 
 abbrev pub times : ℕ → Step → List Step
 times zero x = []

@@ -12,7 +12,7 @@ use Rattle.protocol.specs.Lists.{stored}
 use Rattle.protocol.specs.Entry.{crashedEntry, reportedEntry}
 use Rattle.protocol.proofs.View.{View, at, withEntry, crashedView, reportedView}
 use Rattle.service.specs.declared.service.Service.{Service}
-use Rattle.service.specs.Places.{noEntry, entryAt, clientAt, reportedAt}
+use Rattle.service.specs.Contents.{noEntry, entryAt, clientAt, reportedAt}
 use Rattle.service.specs.Next.{afterCrash, afterReport, afterEnd}
 use Rattle.service.proofs.Lists.{getD-set, getD-replicate, getD-stored, length-stored}
 use Rattle.service.proofs.Views.{Sized, withTable, sized-table, viewOf}

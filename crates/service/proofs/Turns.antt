@@ -12,7 +12,7 @@ use Rattle.protocol.specs.Lists.{stored}
 use Rattle.protocol.specs.Entry.{crashedEntry, reportedEntry}
 use Rattle.protocol.proofs.Storing.{Stored, getD-stored-other}
 use Rattle.service.specs.declared.server.Server.{Server}
-use Rattle.service.specs.Places.{entryIn, clientIn}
+use Rattle.service.specs.Contents.{entryIn, clientIn}
 use Rattle.service.specs.Next.{crashed, reported}
 
 -- what the loop has not reached is as it was

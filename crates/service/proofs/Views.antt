@@ -11,7 +11,7 @@ use Rattle.protocol.specs.declared.entry.Entry.{Entry}
 use Rattle.protocol.specs.Sizes.{clients, files, blocks}
 use Rattle.protocol.proofs.View.{View, at}
 use Rattle.service.specs.declared.service.Service.{Service}
-use Rattle.service.specs.Places.{entryAt, blockAt, clientAt, copyAt, heldAt, dirtyAt}
+use Rattle.service.specs.Contents.{entryAt, blockAt, clientAt, copyAt, heldAt, dirtyAt}
 use Rattle.service.proofs.Tests.{split}
 
 -- every list of the service has the length of its array

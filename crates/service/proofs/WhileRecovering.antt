@@ -17,7 +17,7 @@ use Rattle.protocol.specs.Table.{Row, rowOf}
 use Rattle.protocol.proofs.View.{View, writtenView}
 use Rattle.protocol.proofs.Promises.{Promises}
 use Rattle.service.specs.declared.service.Service.{Service}
-use Rattle.service.specs.Places.{noEntry, blockAt, clientAt, heldAt, reportedAt}
+use Rattle.service.specs.Contents.{noEntry, blockAt, clientAt, heldAt, reportedAt}
 use Rattle.service.specs.Refusal.{testsOf}
 use Rattle.service.specs.Next.{fetches, valueRead, afterRead, afterWrite, afterCrash, afterReport, afterEnd}
 use Rattle.service.specs.Demand3.{Memory, written, tableOf, NoOpenWaits}

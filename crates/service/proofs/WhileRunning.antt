@@ -15,7 +15,7 @@ use Rattle.protocol.specs.Table.{Row, rowOf}
 use Rattle.protocol.proofs.View.{View, writtenView, callAnsweredView, crashedView}
 use Rattle.protocol.proofs.Promises.{Promises}
 use Rattle.service.specs.declared.service.Service.{Service}
-use Rattle.service.specs.Places.{noEntry, clientAt, dirtyAt}
+use Rattle.service.specs.Contents.{noEntry, clientAt, dirtyAt}
 use Rattle.service.specs.Refusal.{testsOf}
 use Rattle.service.specs.Next.{callsNobody, lastAnswer, valueRead, afterOpen, afterClose, afterRead, afterWrite, afterFlush, afterAnswer, afterCrash}
 use Rattle.service.specs.Demand3.{Memory, written, tableOf}

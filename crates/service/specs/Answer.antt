@@ -10,7 +10,7 @@ use Rattle.protocol.specs.declared.step.Step.the-variants.{Open, Close, Read, W
 use Rattle.protocol.specs.Sizes.{clients}
 use Rattle.protocol.specs.Entry.{callsDue}
 use Rattle.service.specs.declared.service.Service.{Service}
-use Rattle.service.specs.Places.{entryAt}
+use Rattle.service.specs.Contents.{entryAt}
 use Rattle.service.specs.Next.{callsNobody, grantFor, valueRead, callAnswered, lastAnswer, waiterOf, waitingGrant}
 
 abbrev pub noCalls : List ℕ

@@ -13,7 +13,7 @@ use Rattle.protocol.specs.Reply.{isRefused}
 use Rattle.protocol.specs.Entry.{waits}
 use Rattle.protocol.specs.Table.{Row, rowOf}
 use Rattle.service.specs.declared.service.Service.{Service}
-use Rattle.service.specs.Places.{entryAt}
+use Rattle.service.specs.Contents.{entryAt}
 use Rattle.service.specs.Step.{stepOf}
 use Rattle.service.specs.Fresh.{fresh}
 

@@ -3,10 +3,10 @@
 use mathlib.Core.Bool.{false}
 use lib.ListN.{replicate}
 use Rattle.protocol.specs.Sizes.{clients}
-use Rattle.records.specs.Version.{versionOf}
+use Rattle.records.specs.Version.{firstVersion}
 use Rattle.protocol.specs.Entry.{crashedEntry}
 use Rattle.service.specs.declared.service.Service.{Service}
-use Rattle.service.specs.Places.{noClient}
+use Rattle.service.specs.Contents.{noClient}
 
 -- an entry of which nothing but the version 1 is told is one that a crash leaves
 unfoldable pub fresh : Service
@@ -14,7 +14,7 @@ fresh =
     record {
       server =
           record {
-            files = replicate 32 (crashedEntry clients (versionOf 1));
+            files = replicate 32 (crashedEntry clients firstVersion);
             blocks = replicate 128 0;
             recovering = false;
             reported = replicate clients false;

@@ -1,5 +1,5 @@
 -- The service, in reading order.
-pub mod Places
+pub mod Contents
 pub mod Refusal
 pub mod Next
 pub mod Answer

@@ -16,9 +16,9 @@ use Rattle.protocol.specs.Entry.{callTo, callsOut, callsIn, callsDue, waitingEn
 use Rattle.protocol.specs.Client.{grantedClient, keepsBlocks, closedClient, answeredClient, kept, sent}
 use Rattle.service.specs.declared.server.Server.{Server}
 use Rattle.service.specs.declared.service.Service.{Service}
-use Rattle.service.specs.Places.{entryIn, entryAt, clientIn, clientAt, blockAt, copyAt, heldAt, withEntry, withBlock}
+use Rattle.service.specs.Contents.{entryIn, entryAt, clientIn, clientAt, blockAt, copyAt, heldAt, withEntry, withBlock}
 
--- An open is granted, at both ends: the entry and the opener's side change, and the opener's copy is kept or dropped.
+-- An open is granted, at both sides: the entry and the opener's side change, and the opener's copy is kept or dropped.
 abbrev pub granted : Service → ℕ → ℕ → Mode → Grant → Service
 granted s i f mode g =
     record {
@@ -109,7 +109,7 @@ afterFlush s i f b =
       dirty = set (s .dirty) (cell i f b) false;
     }
 
--- A callback of the kind is answered, at both ends: "1 sends every dirty block, each then clean and still held ..; 2
+-- A callback of the kind is answered, at both sides: "1 sends every dirty block, each then clean and still held ..; 2
 -- drops the copy".
 abbrev pub answered : Service → ℕ → ℕ → ℕ → Service
 answered s i f kind =

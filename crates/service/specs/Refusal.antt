@@ -10,7 +10,7 @@ use Rattle.protocol.specs.Sizes.{clients}
 use Rattle.protocol.specs.Lists.{count, firstOf}
 use Rattle.protocol.specs.Refusal.{Test, noSuchClient, openTests, closeTests, readTests, writeTests, flushTests, answerTests}
 use Rattle.service.specs.declared.service.Service.{Service}
-use Rattle.service.specs.Places.{reportedAt, entryAt, clientAt, heldAt, dirtyAt}
+use Rattle.service.specs.Contents.{reportedAt, entryAt, clientAt, heldAt, dirtyAt}
 
 -- "6 not recovering. 7 this station has reported. 8 some station hasn't."
 abbrev pub notRecovering : Bool → Test

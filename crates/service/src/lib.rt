@@ -1,4 +1,4 @@
-// The two ends together: the server with its state table and blocks, the clients with their copies, and the steps
+// The two sides together: the server with its state table and blocks, the clients with their copies, and the steps
 // that the service takes.
 mod outcome;
 mod server;

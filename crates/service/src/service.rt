@@ -32,7 +32,7 @@ impl Service {
         let own = ClientFile {
             opens: closed,
             marked: false,
-            cached: Version::none(),
+            label: Version::none(),
         };
         let entry = crashed_entry(Version::first());
         let server = Server {

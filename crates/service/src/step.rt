@@ -8,10 +8,10 @@ use access::drop_file_unless;
 use access::flush_block;
 use access::read_block;
 use access::write_block;
-use ends::answer_call;
-use ends::close_ends;
-use ends::grant_waiter;
-use ends::open_ends;
+use opening::answer_call;
+use opening::close_file;
+use opening::grant_waiter;
+use opening::open_file;
 use protocol::Reply;
 use protocol::Step;
 
@@ -34,14 +34,14 @@ impl Service {
                 let at = client % 8 * 32 + f;
                 let entry = server.files[f];
                 let own = clients[at];
-                let ends = open_ends(server.recovering, entry, own, mode, client, file);
-                let entry_after = ends.entry;
-                let own_after = ends.own;
-                let reply_after = ends.reply;
-                let calls_after = ends.calls;
+                let change = open_file(server.recovering, entry, own, mode, client, file);
+                let entry_after = change.entry;
+                let own_after = change.own;
+                let reply_after = change.reply;
+                let calls_after = change.calls;
                 server.files[f] = entry_after;
                 clients[at] = own_after;
-                drop_file_unless(ends.keep, &mut copies, &mut held, &mut dirty, at * 4);
+                drop_file_unless(change.keep, &mut copies, &mut held, &mut dirty, at * 4);
                 reply = reply_after;
                 calls = calls_after;
             }
@@ -50,10 +50,10 @@ impl Service {
                 let at = client % 8 * 32 + f;
                 let entry = server.files[f];
                 let own = clients[at];
-                let ends = close_ends(server.recovering, entry, own, mode, client, file);
-                let entry_after = ends.entry;
-                let own_after = ends.own;
-                let reply_after = ends.reply;
+                let change = close_file(server.recovering, entry, own, mode, client, file);
+                let entry_after = change.entry;
+                let own_after = change.own;
+                let reply_after = change.reply;
                 server.files[f] = entry_after;
                 clients[at] = own_after;
                 reply = reply_after;
@@ -136,13 +136,13 @@ impl Service {
                 let answer_reply = answer.reply;
                 let waiter = answered.waiter as usize % 8 * 32 + f;
                 let waiting = clients[waiter];
-                let ends = grant_waiter(answered, waiting, answer.kind, answer_reply);
-                let entry_after = ends.entry;
-                let waiting_after = ends.own;
-                let reply_after = ends.reply;
+                let change = grant_waiter(answered, waiting, answer.kind, answer_reply);
+                let entry_after = change.entry;
+                let waiting_after = change.own;
+                let reply_after = change.reply;
                 server.files[f] = entry_after;
                 clients[waiter] = waiting_after;
-                drop_file_unless(ends.keep, &mut copies, &mut held, &mut dirty, waiter * 4);
+                drop_file_unless(change.keep, &mut copies, &mut held, &mut dirty, waiter * 4);
                 reply = reply_after;
             }
             Step::Crash => {

@@ -11,7 +11,7 @@ use Rattle.protocol.specs.declared.step.Step.{Step}
 use Rattle.protocol.specs.declared.step.Step.the-variants.{Open, Close, Read, Write, Flush, Answer, Crash, Report, End}
 use Rattle.stepfile.specs.declared.parsed.Parsed.the-variants.{Is, NoStep}
 use Rattle.stepfile.specs.Text.{bytes, decimal, argumentText, valuesText}
-use Rattle.stepfile.specs.Grammar.{Reading, found, nothing, onward, isDigit, digitsOn, numeral, argument, Shape, whole, taking, noWord, one, two, three, four, words, same, shapeIn, shapeOf, shaped, step, ended, parseLine}
+use Rattle.stepfile.specs.Grammar.{Reading, found, nothing, onward, isDigit, digitsOn, numeral, argument, Shape, whole, taking, noWord, one, two, three, four, words, same, shapeIn, shapeOf, shaped, step, alone, parseLine}
 use Rattle.stepfile.specs.StepText.{wordOf, numbersOf, stepText, EachFits}
 use Rattle.records.proofs.Choosing.{when, unless, and-left, and-right, split}
 use Rattle.stepfile.proofs.ReadsBack.{filled}
@@ -254,7 +254,7 @@ pub line-as-step : (l : List ℕ) (s : Step) → parseLine l ≡ Is s → AsStep
 unfolding parseLine
 line-as-step l s e = from (step l) refl e
   where
-    from : (r : Reading Step) → step l ≡ r → ended r ≡ Is s → AsStep l s []
+    from : (r : Reading Step) → step l ≡ r → alone r ≡ Is s → AsStep l s []
     from (found x []) q f = let is : x ≡ s = cc in step-as-written l s [] (q ∙ ap (λ y. found y []) is)
     from (found x (b ∷ m)) q f = let z : _≡_ {A = ℕ} 0 1 = cc in absurd (omega arith)
     from nothing q f = let z : _≡_ {A = ℕ} 0 1 = cc in absurd (omega arith)

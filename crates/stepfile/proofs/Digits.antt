@@ -10,9 +10,9 @@ use borrow.Author.Tests.{lt-ltb, le-ltb, le-leb, lt-leb}
 use Rattle.stepfile.specs.Grammar.{found, nothing, isDigit, digitsOn}
 use Rattle.records.proofs.Choosing.{when, unless}
 
--- the byte at a place, and the place after it
-pub at-place : (s : List ℕ) (i : ℕ) → i < length s → drop i s ≡ getD s i 0 ∷ drop (i + 1) s
-at-place s i h = rw (add-one, drop-cons s i 0)
+-- the byte at a offset, and the offset after it
+pub at-offset : (s : List ℕ) (i : ℕ) → i < length s → drop i s ≡ getD s i 0 ∷ drop (i + 1) s
+at-offset s i h = rw (add-one, drop-cons s i 0)
 
 pub digit : (b : ℕ) → 48 ≤ b → b ≤ 57 → isDigit b ≡ true
 digit b low high = rw (le-leb 48 b low, le-leb b 57 high)

@@ -16,9 +16,9 @@ use Rattle.stepfile.specs.declared.parsed.Read.the-variants.{Line, Part}
 use Rattle.stepfile.specs.Text.{decimal, valuesText}
 use Rattle.stepfile.specs.Grammar.{Reading, found, nothing, onward, step, parseLine}
 use Rattle.stepfile.specs.StepText.{wordOf, numbersOf, stepText}
-use Rattle.stepfile.specs.Input.{firstLine, lineRead, readAt, noStepAt}
+use Rattle.stepfile.specs.Input.{beforeWhole, wholeLines, firstLine, lineRead, readAt, noStepAt}
 use Rattle.records.proofs.Choosing.{when, unless, split}
-use Rattle.stepfile.proofs.Digits.{at-place}
+use Rattle.stepfile.proofs.Digits.{at-offset}
 use Rattle.stepfile.proofs.Decimals.{decimal-small, decimal-large}
 use Rattle.stepfile.proofs.ReadsBack.{step-back, reads-back}
 use Rattle.stepfile.proofs.AsWritten.{never, step-as-written, line-as-step}
@@ -55,6 +55,21 @@ first-line (b ∷ d) l r e =
     let rest : d ≡ r = cc in
     record { text = cc (eqb-true b 10 lf); none = subst NoLF line tt })
     (λ lf. first-more b d l r lf (λ x. first-line d x r) (firstLine d) refl (sym (unless _ _ lf) ∙ e))
+
+-- the whole lines of an input: its first line and those after it; none, where there is no LF
+whole-line : (l r : List ℕ) → NoLF l → wholeLines (l ++ (10 ∷ r)) ≡ l ∷ wholeLines r
+unfolding wholeLines
+whole-line [] r none = refl
+whole-line (b ∷ l) r none =
+    ap (beforeWhole (eqb b 10) b) (whole-line l r (none .1)) ∙ ap (λ t. beforeWhole t b (l ∷ wholeLines r)) (none .0)
+
+pub whole-first : (d l r : List ℕ) → FirstLine d l r → wholeLines d ≡ l ∷ wholeLines r
+whole-first d l r w = ap wholeLines (w .text) ∙ whole-line l r (w .none)
+
+pub whole-none : (d : List ℕ) → NoLF d → wholeLines d ≡ []
+unfolding wholeLines
+whole-none [] none = refl
+whole-none (b ∷ d) none = ap (beforeWhole (eqb b 10) b) (whole-none d (none .1)) ∙ ap (λ t. beforeWhole t b []) (none .0)
 
 -- no byte of a step as it is written is LF
 digit-no-lf : (n : ℕ) → eqb (48 + n) 10 ≡ false
@@ -97,15 +112,15 @@ module _ (s : List ℕ) (at : ℕ) (x : Step) (next : ℕ) (read : step (drop at
   reads-step h lf =
       let d = drop at s in
       let r = drop (next + 1) s in
-      let onto : drop next s ≡ 10 ∷ r = at-place s next h ∙ ap (λ b. b ∷ r) lf in
+      let onto : drop next s ≡ 10 ∷ r = at-offset s next h ∙ ap (λ b. b ∷ r) lf in
       let w = step-as-written d x (drop next s) read in
       let text : d ≡ stepText x ++ (10 ∷ r) = w .text ∙ ap (λ k. stepText x ++ k) onto in
       let line : firstLine d ≡ found (stepText x) r = ap firstLine text ∙ first-found (stepText x) r (step-no-lf x) in
       let long : length s - at ≡ length (stepText x) + suc (length s - (next + 1)) =
       sym (length-drop at s) ∙ ap length text ∙ length-append (stepText x) (10 ∷ r)
       ∙ ap (λ k. length (stepText x) + suc k) (length-drop (next + 1) s) in
-      let place : at + length (stepText x) + 1 ≡ next + 1 = omega arith in
-      sym (ap (lineRead parseLine at) line ∙ ap (λ p. Line p (at + length (stepText x) + 1)) (reads-back x (w .fits)) ∙ ap (Line (Is x)) place)
+      let offset : at + length (stepText x) + 1 ≡ next + 1 = omega arith in
+      sym (ap (lineRead parseLine at) line ∙ ap (λ p. Line p (at + length (stepText x) + 1)) (reads-back x (w .fits)) ∙ ap (Line (Is x)) offset)
 
 -- a line that is a step has that step at its front, with LF after it
 no-step : (d l r : List ℕ) → firstLine d ≡ found l r → ((y : Step) → step d ≡ found y (10 ∷ r) → ⊥) → (p : Parsed) → parseLine l ≡ p → parseLine l ≡ NoStep

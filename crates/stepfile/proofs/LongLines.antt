@@ -11,7 +11,7 @@ use Rattle.service.specs.declared.service.Service.{Service}
 use Rattle.stepfile.specs.Grammar.{parseLine}
 use Rattle.stepfile.specs.Line.{lineText}
 use Rattle.stepfile.specs.Transcript.{before, lines, transcript, after}
-use Rattle.stepfile.specs.Played.{outcomeOf, saidOf, serviceAfter}
+use Rattle.stepfile.specs.Played.{outcomeOf, replyLine, serviceAfter}
 use Rattle.stepfile.proofs.Longest.{too-long}
 use Rattle.stepfile.proofs.Splitting.{NoLF}
 
@@ -35,20 +35,20 @@ lines-front b (x ∷ a) r h = ap (before (eqb b 10) b) (lines-front x a r (h .1)
 
 -- what is said of a line, and the service after it, go by what the line gives
 module _ (s : Service) (l m : List ℕ) (same : parseLine l ≡ parseLine m) where
-  said-alike : (n : ℕ) → saidOf s n l ≡ saidOf s n m
-  unfolding saidOf
-  said-alike n = ap (λ p. lineText n (outcomeOf s p .reply) (outcomeOf s p .calls)) same
+  reply-alike : (n : ℕ) → replyLine s n l ≡ replyLine s n m
+  unfolding replyLine
+  reply-alike n = ap (λ p. lineText n (outcomeOf s p .reply) (outcomeOf s p .calls)) same
 
   after-alike : serviceAfter s l ≡ serviceAfter s m
   unfolding serviceAfter
   after-alike = ap (λ p. outcomeOf s p .service) same
 
 module _ (s : Service) (n : ℕ) (ls : List (List ℕ)) (l m : List ℕ) (same : parseLine l ≡ parseLine m) where
-  transcript-alike : transcript saidOf serviceAfter s n (l ∷ ls) ≡ transcript saidOf serviceAfter s n (m ∷ ls)
+  transcript-alike : transcript replyLine serviceAfter s n (l ∷ ls) ≡ transcript replyLine serviceAfter s n (m ∷ ls)
   unfolding transcript
   transcript-alike =
-      ap (λ t. t ++ transcript saidOf serviceAfter (serviceAfter s l) (n + 1) ls) (said-alike s l m same n)
-      ∙ ap (λ t. saidOf s n m ++ transcript saidOf serviceAfter t (n + 1) ls) (after-alike s l m same)
+      ap (λ t. t ++ transcript replyLine serviceAfter (serviceAfter s l) (n + 1) ls) (reply-alike s l m same n)
+      ∙ ap (λ t. replyLine s n m ++ transcript replyLine serviceAfter t (n + 1) ls) (after-alike s l m same)
 
   service-alike : after serviceAfter s (l ∷ ls) ≡ after serviceAfter s (m ∷ ls)
   unfolding after
@@ -61,7 +61,7 @@ module _ (a d : List ℕ) (a-long : 86 < length a) (d-long : 86 < length d) wher
       too-long (a ++ l) (rw (length-append a l) (omega arith)) ∙ sym (too-long (d ++ l) (rw (length-append d l) (omega arith)))
 
   front-transcript : (s : Service) (n : ℕ) (ls : List (List ℕ))
-      → transcript saidOf serviceAfter s n (front a ls) ≡ transcript saidOf serviceAfter s n (front d ls)
+      → transcript replyLine serviceAfter s n (front a ls) ≡ transcript replyLine serviceAfter s n (front d ls)
   front-transcript s n [] = transcript-alike s n [] a d (too-long a a-long ∙ sym (too-long d d-long))
   front-transcript s n (l ∷ ls) = transcript-alike s n ls (a ++ l) (d ++ l) (no-steps l)
 
@@ -74,11 +74,11 @@ whole-front [] r none long = absurd (omega arith)
 whole-front (b ∷ a) r none long = lines-front b a r none
 
 module _ (a d : List ℕ) (a-none : NoLF a) (d-none : NoLF d) (a-long : 86 < length a) (d-long : 86 < length d) (r : List ℕ) (s : Service) where
-  pub said-of-long : (n : ℕ) → transcript saidOf serviceAfter s n (lines (a ++ r)) ≡ transcript saidOf serviceAfter s n (lines (d ++ r))
-  said-of-long n =
-      ap (transcript saidOf serviceAfter s n) (whole-front a r a-none a-long)
+  pub transcript-of-long : (n : ℕ) → transcript replyLine serviceAfter s n (lines (a ++ r)) ≡ transcript replyLine serviceAfter s n (lines (d ++ r))
+  transcript-of-long n =
+      ap (transcript replyLine serviceAfter s n) (whole-front a r a-none a-long)
       ∙ front-transcript a d a-long d-long s n (lines r)
-      ∙ sym (ap (transcript saidOf serviceAfter s n) (whole-front d r d-none d-long))
+      ∙ sym (ap (transcript replyLine serviceAfter s n) (whole-front d r d-none d-long))
 
   pub service-after-long : after serviceAfter s (lines (a ++ r)) ≡ after serviceAfter s (lines (d ++ r))
   service-after-long =

@@ -11,7 +11,7 @@ use Rattle.protocol.specs.declared.step.Step.{Step}
 use Rattle.protocol.specs.declared.step.Step.the-variants.{Open, Close, Read, Write, Flush, Answer, Crash, Report, End}
 use Rattle.stepfile.specs.declared.parsed.Parsed.the-variants.{Is}
 use Rattle.stepfile.specs.Text.{decimal, argumentText, valuesText}
-use Rattle.stepfile.specs.Grammar.{Reading, found, nothing, onward, isDigit, digitsOn, numeral, argument, Shape, whole, taking, noWord, shapeOf, shaped, step, ended, parseLine}
+use Rattle.stepfile.specs.Grammar.{Reading, found, nothing, onward, isDigit, digitsOn, numeral, argument, Shape, whole, taking, noWord, shapeOf, shaped, step, alone, parseLine}
 use Rattle.stepfile.specs.StepText.{wordOf, numbersOf, stepText, EachFits}
 use Rattle.records.proofs.Choosing.{when, unless, split}
 use Rattle.stepfile.proofs.Digits.{digit, other, more}
@@ -104,4 +104,4 @@ step-back End fits l h = shaped-back _ [] _ refl fits l h
 
 pub reads-back : (s : Step) → EachFits (numbersOf s) → parseLine (stepText s) ≡ Is s
 unfolding parseLine
-reads-back s fits = ap ended (ap step (sym (append-nil (stepText s))) ∙ step-back s fits [] tt)
+reads-back s fits = ap alone (ap step (sym (append-nil (stepText s))) ∙ step-back s fits [] tt)

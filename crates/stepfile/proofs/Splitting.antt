@@ -5,7 +5,7 @@ use mathlib.Core.Bool.{Bool, true, false}
 use mathlib.Core.List.{List, [], _∷_, _++_, append-assoc, append-nil}
 use lib.Dec.{eqb}
 use lib.ListN.{length, length-append}
-use Rattle.stepfile.specs.Transcript.{before, lines, EndsLine}
+use Rattle.stepfile.specs.Transcript.{before, lines, BreaksLine}
 use Rattle.records.proofs.Choosing.{split}
 
 -- no byte is LF
@@ -51,21 +51,21 @@ some-line (b ∷ p) =
     (λ e. (b ∷ w .0, w .1, ap (before (eqb b 10) b) (w .2) ∙ before-other b (w .0) (w .1) e))
 
 -- after LF a new line starts, and so after nothing
-pub ends-none : EndsLine []
+pub breaks-none : BreaksLine []
 unfolding lines
-ends-none b = refl
+breaks-none b = refl
 
-pub ends-lf : (p : List ℕ) → EndsLine (p ++ (10 ∷ []))
+pub breaks-lf : (p : List ℕ) → BreaksLine (p ++ (10 ∷ []))
 unfolding lines
-ends-lf [] b = refl
-ends-lf (x ∷ p) b =
+breaks-lf [] b = refl
+breaks-lf (x ∷ p) b =
     let w = some-line p in
-    ap (before (eqb x 10) x) (ends-lf p b ∙ ap (λ ls. ls ++ lines b) (w .2))
+    ap (before (eqb x 10) x) (breaks-lf p b ∙ ap (λ ls. ls ++ lines b) (w .2))
     ∙ before-append (eqb x 10) x (w .0) (w .1) (lines b)
     ∙ ap (λ ls. before (eqb x 10) x ls ++ lines b) (sym (w .2))
 
-pub ends-append : (a b : List ℕ) → EndsLine a → EndsLine b → EndsLine (a ++ b)
-ends-append a b ha hb c =
+pub breaks-append : (a b : List ℕ) → BreaksLine a → BreaksLine b → BreaksLine (a ++ b)
+breaks-append a b ha hb c =
     ap lines (append-assoc a b c)
     ∙ ha (b ++ c)
     ∙ ap (λ ls. lines a ++ ls) (hb c)
@@ -73,17 +73,17 @@ ends-append a b ha hb c =
     ∙ ap (λ ls. ls ++ lines c) (sym (ha b))
 
 -- one line more
-pub ends-line : (a l : List ℕ) → EndsLine a → EndsLine (a ++ (l ++ (10 ∷ [])))
-ends-line a l h = ends-append a (l ++ (10 ∷ [])) h (ends-lf l)
+pub breaks-line : (a l : List ℕ) → BreaksLine a → BreaksLine (a ++ (l ++ (10 ∷ [])))
+breaks-line a l h = breaks-append a (l ++ (10 ∷ [])) h (breaks-lf l)
 
-pub lines-more : (a l : List ℕ) → EndsLine a → NoLF l → lines (a ++ (l ++ (10 ∷ []))) ≡ lines a ++ (l ∷ [])
+pub lines-more : (a l : List ℕ) → BreaksLine a → NoLF l → lines (a ++ (l ++ (10 ∷ []))) ≡ lines a ++ (l ∷ [])
 unfolding lines
 lines-more a l h none = h (l ++ (10 ∷ [])) ∙ ap (λ ls. lines a ++ ls) (lines-line l [] none)
 
-pub count-more : (a l : List ℕ) → EndsLine a → NoLF l → length (lines (a ++ (l ++ (10 ∷ [])))) ≡ length (lines a) + 1
+pub count-more : (a l : List ℕ) → BreaksLine a → NoLF l → length (lines (a ++ (l ++ (10 ∷ [])))) ≡ length (lines a) + 1
 count-more a l h none = ap length (lines-more a l h none) ∙ length-append (lines a) (l ∷ [])
 
 -- the last line, with LF put after it
-pub lines-ended : (a : List ℕ) (b : ℕ) (l : List ℕ) → EndsLine a → NoLF (b ∷ l) → lines (a ++ ((b ∷ l) ++ (10 ∷ []))) ≡ lines (a ++ (b ∷ l))
-lines-ended a b l h none =
+pub lines-completed : (a : List ℕ) (b : ℕ) (l : List ℕ) → BreaksLine a → NoLF (b ∷ l) → lines (a ++ ((b ∷ l) ++ (10 ∷ []))) ≡ lines (a ++ (b ∷ l))
+lines-completed a b l h none =
     lines-more a (b ∷ l) h none ∙ ap (λ ls. lines a ++ ls) (sym (lines-last b l none)) ∙ sym (h (b ∷ l))

@@ -5,7 +5,7 @@ use mathlib.Core.List.{List, [], _∷_, _++_, append-assoc, append-nil}
 use native.Mathlib.Nat.{add-zero, add-assoc}
 use native.Mathlib.Omega.{arith}
 use lib.ListN.{length}
-use Rattle.stepfile.specs.Transcript.{lines, EndsLine, transcript, after}
+use Rattle.stepfile.specs.Transcript.{lines, BreaksLine, transcript, after}
 use Rattle.stepfile.proofs.Splitting.{NoLF, lines-more}
 
 module _ {ℓ} {S : Type ℓ} (next : S → List ℕ → S) where
@@ -15,11 +15,11 @@ module _ {ℓ} {S : Type ℓ} (next : S → List ℕ → S) where
   after-append s (x ∷ xs) ys = after-append (next s x) xs ys
 
   -- of a part that ends a line, and of what follows it
-  pub after-on : (s : S) (a b : List ℕ) → EndsLine a → after next s (lines (a ++ b)) ≡ after next (after next s (lines a)) (lines b)
+  pub after-on : (s : S) (a b : List ℕ) → BreaksLine a → after next s (lines (a ++ b)) ≡ after next (after next s (lines a)) (lines b)
   after-on s a b h = ap (after next s) (h b) ∙ after-append s (lines a) (lines b)
 
   -- of one line more
-  pub after-more : (s : S) (a l : List ℕ) → EndsLine a → NoLF l
+  pub after-more : (s : S) (a l : List ℕ) → BreaksLine a → NoLF l
       → after next s (lines (a ++ (l ++ (10 ∷ [])))) ≡ next (after next s (lines a)) l
   unfolding after
   after-more s a l h none = ap (after next s) (lines-more a l h none) ∙ after-append s (lines a) (l ∷ [])
@@ -37,12 +37,12 @@ module _ {ℓ} {S : Type ℓ} (say : S → ℕ → List ℕ → List ℕ) (next 
       (λ k. (say s n x ++ transcript say next (next s x) (n + 1) xs) ++ transcript say next (after next (next s x) xs) k ys)
       one-more
 
-  pub transcript-on : (s : S) (n : ℕ) (a b : List ℕ) → EndsLine a
+  pub transcript-on : (s : S) (n : ℕ) (a b : List ℕ) → BreaksLine a
       → transcript say next s n (lines (a ++ b))
       ≡ transcript say next s n (lines a) ++ transcript say next (after next s (lines a)) (n + length (lines a)) (lines b)
   transcript-on s n a b h = ap (transcript say next s n) (h b) ∙ transcript-append s n (lines a) (lines b)
 
-  pub transcript-more : (s : S) (n : ℕ) (a l : List ℕ) → EndsLine a → NoLF l
+  pub transcript-more : (s : S) (n : ℕ) (a l : List ℕ) → BreaksLine a → NoLF l
       → transcript say next s n (lines (a ++ (l ++ (10 ∷ []))))
       ≡ transcript say next s n (lines a) ++ say (after next s (lines a)) (n + length (lines a)) l
   unfolding transcript

@@ -10,7 +10,7 @@ use Rattle.stepfile.specs.Grammar.{digitsOn, numeral, argument, shapeOf,
 use Rattle.stepfile.specs.Line.{callsText, lineText}
 use Rattle.stepfile.specs.Summary.{filesText, summaryText}
 use Rattle.stepfile.specs.Transcript.{lines, transcript, after}
-use Rattle.stepfile.specs.Played.{saidOf, serviceAfter, played}
+use Rattle.stepfile.specs.Played.{replyLine, serviceAfter, played}
 
 pub record WholeCase : Type 0 where
   pub empty : played (bytes "") ≡ bytes "files 0\n"
@@ -19,5 +19,5 @@ pub record WholeCase : Type 0 where
       ≡ bytes "1 G 2 1 1\n2 K\n3 K\n4 W 0:1\n5 N 11\n6 A 1 2 1 1\n7 V 77\n8 W 1:2\nfiles 1\n3 2 2 -\n"
 
 pub wholeCase : WholeCase
-unfolding fresh stepOf stateOf permissionAtGrant count stored digitsOf decimal digitsOn numeral argument shapeOf shaped step parseLine valuesText callsText lineText filesText summaryText lines transcript after saidOf serviceAfter played
+unfolding fresh stepOf stateOf permissionAtGrant count stored digitsOf decimal digitsOn numeral argument shapeOf shaped step parseLine valuesText callsText lineText filesText summaryText lines transcript after replyLine serviceAfter played
 wholeCase = record { empty = refl; case = refl }

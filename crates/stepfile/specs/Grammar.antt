@@ -103,10 +103,10 @@ step (a ∷ []) = nothing
 step (a ∷ b ∷ l) = shaped (shapeOf a b) l
 
 -- a line is a step if nothing follows the step
-abbrev pub ended : Reading Step → Parsed
-ended (found s []) = Is s
-ended (found s (b ∷ l)) = NoStep
-ended nothing = NoStep
+abbrev pub alone : Reading Step → Parsed
+alone (found s []) = Is s
+alone (found s (b ∷ l)) = NoStep
+alone nothing = NoStep
 
 unfoldable pub parseLine : List ℕ → Parsed
-parseLine l = ended (step l)
+parseLine l = alone (step l)

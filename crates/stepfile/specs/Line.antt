@@ -8,12 +8,13 @@ use lib.Dec.{eqb}
 use lib.ListN.{getD}
 use Rattle.protocol.specs.declared.reply.Reply.{Reply}
 use Rattle.protocol.specs.Sizes.{clients}
+use Rattle.protocol.specs.Callback.{asksNothing}
 use Rattle.protocol.specs.Reply.{letterOf, valuesOf}
 use Rattle.stepfile.specs.Text.{bytes, decimal, argumentText, valuesText}
 
 -- a callback: "each call as station:kind"; a kind of 0 is no callback
 abbrev pub callText : ℕ → ℕ → List ℕ
-callText client kind = cond (eqb kind 0) [] (argumentText client ++ (bytes ":" ++ decimal kind))
+callText client kind = cond (asksNothing kind) [] (argumentText client ++ (bytes ":" ++ decimal kind))
 
 -- the callbacks to the clients below n, the clients ascending
 unfoldable pub callsText : ℕ → List ℕ → List ℕ

@@ -20,8 +20,8 @@ outcomeOf s (Is x) = stepOf s x
 outcomeOf s NoStep = record { service = s; reply = Refused 1; calls = noCalls }
 
 -- what is said of line l, numbered n, and the service after it
-unfoldable pub saidOf : Service → ℕ → List ℕ → List ℕ
-saidOf s n l = let o = outcomeOf s (parseLine l) in lineText n (o .reply) (o .calls)
+unfoldable pub replyLine : Service → ℕ → List ℕ → List ℕ
+replyLine s n l = let o = outcomeOf s (parseLine l) in lineText n (o .reply) (o .calls)
 
 unfoldable pub serviceAfter : Service → List ℕ → Service
 serviceAfter s l = outcomeOf s (parseLine l) .service
@@ -29,4 +29,4 @@ serviceAfter s l = outcomeOf s (parseLine l) .service
 unfoldable pub played : List ℕ → List ℕ
 played input =
     let ls = lines input in
-    transcript saidOf serviceAfter fresh 1 ls ++ summaryText (after serviceAfter fresh ls .server .files)
+    transcript replyLine serviceAfter fresh 1 ls ++ summaryText (after serviceAfter fresh ls .server .files)

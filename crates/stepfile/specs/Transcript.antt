@@ -5,7 +5,7 @@ use mathlib.Core.Bool.{Bool, true, false}
 use mathlib.Core.List.{List, [], _∷_, _++_}
 use lib.Dec.{eqb}
 
--- A byte before lines: "one step a line, ended by LF or the end of input (nothing after the last LF is no line)". LF
+-- A byte before lines: "one step a line, alone by LF or the end of input (nothing after the last LF is no line)". LF
 -- begins another line, any other byte is the first of the first line.
 abbrev pub before : Bool → ℕ → List (List ℕ) → List (List ℕ)
 before true b ls = [] ∷ ls
@@ -17,8 +17,8 @@ lines [] = []
 lines (b ∷ l) = before (eqb b 10) b (lines l)
 
 -- Whatever follows a starts a new line.
-abbrev pub EndsLine : List ℕ → Type 0
-EndsLine a = (b : List ℕ) → lines (a ++ b) ≡ lines a ++ lines b
+abbrev pub BreaksLine : List ℕ → Type 0
+BreaksLine a = (b : List ℕ) → lines (a ++ b) ≡ lines a ++ lines b
 
 -- what is said of the lines from state s on, the first of them numbered n
 unfoldable pub transcript {ℓ} : {S : Type ℓ} → (S → ℕ → List ℕ → List ℕ) → (S → List ℕ → S) → S → ℕ → List (List ℕ) → List ℕ

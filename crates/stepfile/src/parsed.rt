@@ -7,10 +7,10 @@ pub enum Parsed {
     NoStep,
 }
 
-// What stands at a place of an input.
+// What stands at a offset of an input.
 pub enum Read {
-    // A line: what it gives, and the place past its LF.
+    // A line: what it gives, and the offset past its LF.
     Line { parsed: Parsed, next: usize },
-    // No LF from the place on.
+    // No LF from the offset on.
     Part,
 }

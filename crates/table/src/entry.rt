@@ -8,10 +8,12 @@ ghost use Rattle.protocol.specs.Entry.{grantOf, grantedEntry, closedEntry, answ
 use decision::callbacks_due;
 use decision::one_if;
 use decision::permission_at_grant;
+use decision::with_record;
 use protocol::ClientFile;
 use protocol::Entry;
 use protocol::Grant;
 use protocol::NOBODY;
+use protocol::asks_nothing;
 use protocol::invalidates;
 use protocol::writes_back;
 use records::ClientRecord;
@@ -25,7 +27,7 @@ pub fn count_calls(calls: [u8; 8]) -> usize
     let mut count: usize = 0;
     let mut i = 0;
     while i < 8 {
-        count += one_if(0 < calls[i]);
+        count += one_if(!asks_nothing(calls[i]));
         i += 1;
     }
     count
@@ -48,7 +50,10 @@ pub fn call_to(entry: Entry, client: usize) -> u8
         return 0;
     }
     let kind = calls[client];
-    if kind <= 3 { kind } else { 0 }
+    match kind {
+        1..=3 => kind,
+        _ => 0,
+    }
 }
 
 // How many clients have still to answer.
@@ -58,7 +63,7 @@ pub fn calls_out(entry: Entry) -> usize
     let mut count: usize = 0;
     let mut i = 0;
     while i < 8 {
-        count += one_if(0 < call_to(entry, i));
+        count += one_if(!asks_nothing(call_to(entry, i)));
         i += 1;
     }
     count
@@ -106,11 +111,11 @@ pub fn granted_entry(entry: Entry, opener: usize, mode: Mode, grant: Grant) -> E
     requires { ⌜ opener < clients ⌝ }
     ensures { λ r. ⌜ r ≡ grantedEntry clients entry opener mode grant ⌝ }
 {
-    let mut records = entry.records;
+    let before = entry.records;
     let version = entry.version;
     let latest = grant.latest;
-    let own = records[opener];
-    records[opener] = own.opened(mode, grant.caching);
+    let own = before[opener];
+    let records = with_record(before, opener, own.opened(mode, grant.caching));
     match mode {
         Mode::Read => Entry {
             records,
@@ -135,8 +140,10 @@ pub fn closed_entry(mut entry: Entry, client: usize, mode: Mode) -> Entry
     requires { ⌜ client < clients ⌝ }
     ensures { λ r. ⌜ r ≡ closedEntry entry client mode ⌝ }
 {
-    let own = entry.records[client];
-    entry.records[client] = own.closed(mode);
+    let before = entry.records;
+    let own = before[client];
+    let records = with_record(before, client, own.closed(mode));
+    entry.records = records;
     if own.leaves_last_writer(mode) {
         entry.last = client as u8;
     }
@@ -148,8 +155,11 @@ pub fn answered_entry(mut entry: Entry, client: usize, kind: u8) -> Entry
     requires { ⌜ client < clients ⌝ }
     ensures { λ r. ⌜ r ≡ answeredEntry entry client kind ⌝ }
 {
-    let own = entry.records[client];
-    entry.records[client] = ClientRecord::either(invalidates(kind), own.uncached(), own);
+    let before = entry.records;
+    let own = before[client];
+    let after = ClientRecord::either(invalidates(kind), own.uncached(), own);
+    let records = with_record(before, client, after);
+    entry.records = records;
     entry.calls[client] = 0;
     if writes_back(kind) {
         entry.last = NOBODY;
@@ -195,7 +205,9 @@ pub fn reported_entry(mut entry: Entry, client: usize, own: ClientFile) -> Entry
     if !own.marked & same_record(known, opens) {
         return entry;
     }
-    entry.records[client] = opens;
+    let before = entry.records;
+    let records = with_record(before, client, opens);
+    entry.records = records;
     if own.marked {
         entry.last = client as u8;
     }

@@ -8,7 +8,7 @@ use native.Mathlib.Omega.{arith}
 use lib.ListN.{length, take, drop, set, length-append, length-take, length-drop, take-append-drop}
 use lib.Seq.{length-take-le, set-split, set-append-left, take-set-lt, take-suc-set, take-at, drop-at, drop-drop}
 use borrow.Author.Tests.{le-leb, lt-leb}
-use Rattle.writer.specs.Buffer.{written, Wrote, Placed}
+use Rattle.writer.specs.Buffer.{written, Wrote, WroteIfRoom}
 use Rattle.records.proofs.Choosing.{when, unless}
 
 -- nothing is written
@@ -76,15 +76,15 @@ wrote-as {d} {at} {s} {t} {d′} {at′} e w = subst (λ l. Wrote d at l d′ at
 
 -- by the room: a text is written, or nothing is
 module _ (room : ℕ) (d : List ℕ) (at : ℕ) (s : List ℕ) (d′ : List ℕ) (at′ : ℕ) where
-  pub placed : at + room ≤ length d → Wrote d at s d′ at′ → Placed room d at s d′ at′
-  placed h w =
+  pub wrote-if-room : at + room ≤ length d → Wrote d at s d′ at′ → WroteIfRoom room d at s d′ at′
+  wrote-if-room h w =
       record { bytes = w .bytes ∙ sym (when _ _ (le-leb _ _ h)); next = w .next ∙ sym (when _ _ (le-leb _ _ h)) }
 
-  pub placed-wrote : at + room ≤ length d → at′ ≤ at + room → Placed room d at s d′ at′ → Wrote d at s d′ at′
-  placed-wrote h k p =
+  pub if-room-wrote : at + room ≤ length d → at′ ≤ at + room → WroteIfRoom room d at s d′ at′ → Wrote d at s d′ at′
+  if-room-wrote h k p =
       let next : at′ ≡ at + length s = p .next ∙ when _ _ (le-leb _ _ h) in
       record { bytes = p .bytes ∙ when _ _ (le-leb _ _ h); next = next; fits = omega arith }
 
-pub placed-none : (room : ℕ) (d : List ℕ) (at : ℕ) (s : List ℕ) → length d < at + room → Placed room d at s d at
-placed-none room d at s h =
+pub no-room-wrote : (room : ℕ) (d : List ℕ) (at : ℕ) (s : List ℕ) → length d < at + room → WroteIfRoom room d at s d at
+no-room-wrote room d at s h =
     record { bytes = sym (unless _ _ (lt-leb _ _ h)); next = sym (unless _ _ (lt-leb _ _ h)) }

@@ -6,18 +6,18 @@ use mathlib.Core.List.{List, _++_}
 use lib.Dec.{leb}
 use lib.ListN.{length, take, drop}
 
--- the buffer d with the text s from place at on; every other byte stays
+-- the buffer d with the text s from offset at on; every other byte stays
 abbrev pub written : List ℕ → ℕ → List ℕ → List ℕ
 written d at s = take at d ++ (s ++ drop (at + length s) d)
 
--- s was written into d at place at: d′ is the buffer after it, at′ the place past it
+-- s was written into d at offset at: d′ is the buffer after it, at′ the offset past it
 pub record Wrote (d : List ℕ) (at : ℕ) (s : List ℕ) (d′ : List ℕ) (at′ : ℕ) : Type 0 where
   pub bytes : d′ ≡ written d at s
   pub next : at′ ≡ at + length s
   pub fits : at + length s ≤ length d
 
 -- s was written where there is room for so many bytes; where there is less, nothing was
-pub record Placed (room : ℕ) (d : List ℕ) (at : ℕ) (s : List ℕ) (d′ : List ℕ) (at′ : ℕ) : Type 0 where
+pub record WroteIfRoom (room : ℕ) (d : List ℕ) (at : ℕ) (s : List ℕ) (d′ : List ℕ) (at′ : ℕ) : Type 0 where
   pub bytes : d′ ≡ cond (leb (at + room) (length d)) (written d at s) d
   pub next : at′ ≡ cond (leb (at + room) (length d)) (at + length s) at
 

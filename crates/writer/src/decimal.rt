@@ -1,4 +1,4 @@
-// Bytes and numbers, written into a buffer at a place. Each function answers the place past what it wrote.
+// Bytes and numbers, written into a buffer at a offset. Each function answers the offset past what it wrote.
 ghost use Prim.Native.Nat.{_+_, _≤_, _<_};
 ghost use mathlib.Core.Path.{_≡_};
 ghost use mathlib.Core.List.{[], _∷_};
@@ -122,8 +122,8 @@ pub fn put_decimal(out: &mut [u8], at: usize, n: u64) -> usize
     ensures { λ r. ⌜ Wrote (now (out .entry)) at (decimalText n) (now (out .exit)) r ⌝ }
     ensures { λ r. ⌜ r ≤ at + 20 ⌝ }
 {
-    let end = at + digits(n);
-    let mut i = end;
+    let past = at + digits(n);
+    let mut i = past;
     let mut rest = n;
     while 100 <= rest {
         i -= 2;
@@ -135,10 +135,10 @@ pub fn put_decimal(out: &mut [u8], at: usize, n: u64) -> usize
     if 10 <= rest {
         out[at + 1] = digit(rest % 10);
         out[at] = digit(rest / 10);
-        return end;
+        return past;
     }
     out[at] = digit(rest);
-    end
+    past
 }
 
 // The byte of a digit.

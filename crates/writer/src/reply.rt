@@ -8,7 +8,7 @@ ghost use Rattle.protocol.specs.Sizes.{clients};
 ghost use Rattle.protocol.specs.Reply.{grantValues, letterOf};
 ghost use Rattle.stepfile.specs.Line.{callText, callsText, fieldsText, lineText};
 ghost use Rattle.stepfile.specs.Text.{valuesText};
-ghost use Rattle.writer.specs.Buffer.{Wrote, Placed, lineRoom};
+ghost use Rattle.writer.specs.Buffer.{Wrote, WroteIfRoom, lineRoom};
 use crate::decimal::put_argument;
 use crate::decimal::put_byte;
 use crate::decimal::put_decimal;
@@ -18,10 +18,10 @@ use protocol::Reply;
 // The room that a line is given: more than any line takes.
 pub const LINE_ROOM: usize = 400;
 
-// Writes the line of a reply, and answers the place past it. Where the buffer has less than LINE_ROOM bytes from the
-// place on, writes nothing and answers the place.
+// Writes the line of a reply, and answers the offset past it. Where the buffer has less than LINE_ROOM bytes from the
+// offset on, writes nothing and answers the offset.
 pub fn write_reply(out: &mut [u8], at: usize, number: u64, reply: Reply, calls: [u8; 8]) -> usize
-    ensures { λ r. ⌜ Placed lineRoom (now (out .entry)) at (lineText number reply calls) (now (out .exit)) r ⌝ }
+    ensures { λ r. ⌜ WroteIfRoom lineRoom (now (out .entry)) at (lineText number reply calls) (now (out .exit)) r ⌝ }
     ensures { λ r. ⌜ r ≤ at + lineRoom ⌝ }
 {
     if out.len() < LINE_ROOM {
@@ -40,8 +40,8 @@ fn put_reply(out: &mut [u8], at: usize, number: u64, reply: Reply, calls: [u8; 8
 {
     let letter = put_decimal(out, at, number);
     let fields = put_letter(out, letter, letter_of(reply));
-    let end = put_fields(out, fields, reply, calls);
-    put_byte(out, end, b'\n')
+    let feed = put_fields(out, fields, reply, calls);
+    put_byte(out, feed, b'\n')
 }
 
 fn letter_of(reply: Reply) -> u8
@@ -128,10 +128,12 @@ fn put_call(out: &mut [u8], at: usize, client: usize, kind: u8) -> usize
     ensures { λ r. ⌜ Wrote (now (out .entry)) at (callText client kind) (now (out .exit)) r ⌝ }
     ensures { λ r. ⌜ r ≤ at + 42 ⌝ }
 {
-    if kind == 0 {
-        return at;
+    match kind {
+        0 => at,
+        _ => {
+            let colon = put_argument(out, at, client as u64);
+            let second = put_byte(out, colon, b':');
+            put_decimal(out, second, kind as u64)
+        }
     }
-    let colon = put_argument(out, at, client as u64);
-    let second = put_byte(out, colon, b':');
-    put_decimal(out, second, kind as u64)
 }

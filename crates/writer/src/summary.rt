@@ -3,9 +3,9 @@ ghost use Prim.Native.Nat.{_+_, _≤_};
 ghost use mathlib.Core.Path.{_≡_};
 ghost use lib.ListN.{length};
 ghost use Rattle.protocol.specs.Sizes.{files};
-ghost use Rattle.stepfile.specs.Summary.{codeIn, versionIn, isTold, toldBelow};
+ghost use Rattle.stepfile.specs.Summary.{codeIn, versionIn, isListed, listedBelow};
 ghost use Rattle.stepfile.specs.Summary.{headingText, writerText, fieldsText, fileText, filesText, summaryText};
-ghost use Rattle.writer.specs.Buffer.{Wrote, Placed, summaryRoom};
+ghost use Rattle.writer.specs.Buffer.{Wrote, WroteIfRoom, summaryRoom};
 use crate::decimal::put_argument;
 use crate::decimal::put_byte;
 use crate::decimal::put_decimal;
@@ -17,10 +17,10 @@ use service::Server;
 // The room that the summary is given: more than any summary takes.
 pub const SUMMARY_ROOM: usize = 4096;
 
-// Writes the summary, and answers the place past it. Where the buffer has less than SUMMARY_ROOM bytes from the place
-// on, writes nothing and answers the place.
+// Writes the summary, and answers the offset past it. Where the buffer has less than SUMMARY_ROOM bytes from the offset
+// on, writes nothing and answers the offset.
 pub fn write_summary(out: &mut [u8], at: usize, server: Server) -> usize
-    ensures { λ r. ⌜ Placed summaryRoom (now (out .entry)) at (summaryText (server .files)) (now (out .exit)) r ⌝ }
+    ensures { λ r. ⌜ WroteIfRoom summaryRoom (now (out .entry)) at (summaryText (server .files)) (now (out .exit)) r ⌝ }
     ensures { λ r. ⌜ r ≤ at + summaryRoom ⌝ }
 {
     if out.len() < SUMMARY_ROOM {
@@ -37,7 +37,7 @@ fn put_summary(out: &mut [u8], at: usize, server: Server) -> usize
     ensures { λ r. ⌜ Wrote (now (out .entry)) at (summaryText (server .files)) (now (out .exit)) r ⌝ }
     ensures { λ r. ⌜ r ≤ at + summaryRoom ⌝ }
 {
-    let lines = put_heading(out, at, count_told(server));
+    let lines = put_heading(out, at, count_listed(server));
     put_files(out, lines, server)
 }
 
@@ -52,32 +52,33 @@ fn put_heading(out: &mut [u8], at: usize, count: u64) -> usize
     let e = put_byte(out, l, b'l');
     let s = put_byte(out, e, b'e');
     let number = put_byte(out, s, b's');
-    let end = put_argument(out, number, count);
-    put_byte(out, end, b'\n')
+    let feed = put_argument(out, number, count);
+    put_byte(out, feed, b'\n')
 }
 
 // How many files are told.
-fn count_told(server: Server) -> u64
-    ensures { λ r. ⌜ r ≡ toldBelow files (server .files) ⌝ }
+fn count_listed(server: Server) -> u64
+    ensures { λ r. ⌜ r ≡ listedBelow files (server .files) ⌝ }
 {
     let mut count: u64 = 0;
     let mut file: usize = 0;
     while file < 32 {
         let entry = server.files[file];
-        count += one_if(is_told(entry)) as u64;
+        count += one_if(is_listed(entry)) as u64;
         file += 1;
     }
     count
 }
 
 // A file is told if it is not CLOSED or not at version 1.
-fn is_told(entry: Entry) -> bool
-    ensures { λ r. ⌜ r ≡ isTold entry ⌝ }
+fn is_listed(entry: Entry) -> bool
+    ensures { λ r. ⌜ r ≡ isListed entry ⌝ }
 {
-    if code_in(entry) == 0 {
-        version_in(entry) != 1
-    } else {
-        true
+    let code = code_in(entry);
+    let version = entry.version;
+    match code {
+        0 => !version.as_read().is_first(),
+        _ => true,
     }
 }
 
@@ -117,7 +118,7 @@ fn put_file(out: &mut [u8], at: usize, file: usize, entry: Entry) -> usize
     ensures { λ r. ⌜ Wrote (now (out .entry)) at (fileText file entry) (now (out .exit)) r ⌝ }
     ensures { λ r. ⌜ r ≤ at + 84 ⌝ }
 {
-    if is_told(entry) {
+    if is_listed(entry) {
         put_fields(out, at, file, code_in(entry), version_in(entry), entry.last)
     } else {
         at
@@ -132,8 +133,8 @@ fn put_fields(out: &mut [u8], at: usize, file: usize, code: u8, version: u32, la
     let second = put_decimal(out, at, file as u64);
     let third = put_argument(out, second, code as u64);
     let fourth = put_argument(out, third, version as u64);
-    let end = put_writer(out, fourth, last);
-    put_byte(out, end, b'\n')
+    let feed = put_writer(out, fourth, last);
+    put_byte(out, feed, b'\n')
 }
 
 // The last writer, or that there is none.

@@ -1,6 +1,6 @@
 //! The callbacks of one open (document 01: calls): who is called, and for what.
 
-use crate::ClientSet;
+use crate::{CLIENTS, ClientSet};
 
 /// Document 01's kinds 1, 2 and 3.
 #[derive(Clone, Copy, PartialEq, Eq, Debug)]
@@ -12,6 +12,16 @@ pub enum Kind {
 }
 
 impl Kind {
+    /// The kind of this number. Document 01 knows three: a hand-made number above them is no callback, like 0.
+    pub fn numbered(number: u8) -> Option<Kind> {
+        match number {
+            1 => Some(Kind::WriteBack),
+            2 => Some(Kind::Invalidate),
+            3 => Some(Kind::Both),
+            _ => None,
+        }
+    }
+
     pub fn writes_back(self) -> bool {
         self != Kind::Invalidate
     }
@@ -21,42 +31,32 @@ impl Kind {
     }
 }
 
-/// A client in both sets is called for kind 3.
-#[derive(Clone, Copy, PartialEq, Eq, Debug, Default)]
-pub struct Callbacks {
-    write_back: ClientSet,
-    invalidate: ClientSet,
-}
+/// For each client the number of its callback's kind, 0 for none.
+#[derive(Clone, Copy, PartialEq, Eq, Debug)]
+pub struct Callbacks(pub [u8; CLIENTS]);
 
 impl Callbacks {
-    pub const NONE: Callbacks = Callbacks { write_back: ClientSet::NONE, invalidate: ClientSet::NONE };
+    pub const NONE: Callbacks = Callbacks([0; CLIENTS]);
 
     pub fn to(clients: ClientSet, kind: Kind) -> Self {
-        Callbacks {
-            write_back: if kind.writes_back() { clients } else { ClientSet::NONE },
-            invalidate: if kind.invalidates() { clients } else { ClientSet::NONE },
-        }
+        Callbacks(std::array::from_fn(|client| if clients.contains(client) { kind as u8 } else { 0 }))
     }
 
     pub fn kind(self, client: usize) -> Option<Kind> {
-        match (self.write_back.contains(client), self.invalidate.contains(client)) {
-            (false, false) => None,
-            (true, false) => Some(Kind::WriteBack),
-            (false, true) => Some(Kind::Invalidate),
-            (true, true) => Some(Kind::Both),
-        }
+        Kind::numbered(self.0[client])
     }
 
     /// The clients still to reply.
     pub fn clients(self) -> ClientSet {
-        self.write_back.or(self.invalidate)
+        ClientSet::of(|client| self.kind(client).is_some())
     }
 
     pub fn is_empty(self) -> bool {
-        self.clients().is_empty()
+        (0..CLIENTS).all(|client| self.kind(client).is_none())
     }
 
-    pub fn without(self, client: usize) -> Self {
-        Callbacks { write_back: self.write_back.without(client), invalidate: self.invalidate.without(client) }
+    pub fn without(mut self, client: usize) -> Self {
+        self.0[client] = 0;
+        self
     }
 }

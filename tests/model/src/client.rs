@@ -23,7 +23,7 @@ pub struct ClientFile {
     pub copies: Copies,
 }
 
-/// The copies of one file's blocks. A block that is not held is not dirty and zero.
+/// The copies of one file's blocks. Steps leave a block that is not held clean and zero; a hand-made state need not.
 #[derive(Clone, PartialEq, Eq, Debug, Default)]
 pub struct Copies {
     pub values: [u64; BLOCKS],

@@ -13,6 +13,12 @@ impl ClientSet {
         ClientSet(1 << client)
     }
 
+    /// Those of whom this holds.
+    pub fn of(has: impl Fn(usize) -> bool) -> Self {
+        let with = |set: ClientSet, client| if has(client) { set.with(client) } else { set };
+        (0..CLIENTS).fold(ClientSet::NONE, with)
+    }
+
     pub fn contains(self, client: usize) -> bool {
         self.0 >> client & 1 != 0
     }
@@ -27,10 +33,6 @@ impl ClientSet {
 
     pub fn and(self, other: Self) -> Self {
         ClientSet(self.0 & other.0)
-    }
-
-    pub fn or(self, other: Self) -> Self {
-        ClientSet(self.0 | other.0)
     }
 
     pub fn minus(self, other: Self) -> Self {

@@ -37,7 +37,7 @@ impl Service {
         self.running()?;
         self.nothing_waits(file)?;
         unless(self.at_client(client, file).record.count(mode) == u8::MAX, Refusal::CountAtLimit)?;
-        unless(mode == Mode::Write && self.entry(file).version == u32::MAX, Refusal::VersionAtLimit)
+        unless(mode == Mode::Write && self.entry(file).version.read() == u32::MAX, Refusal::VersionAtLimit)
     }
 
     pub fn may_close(&self, mode: Mode, client: u64, file: u64) -> Admission {
@@ -126,7 +126,7 @@ impl Service {
     }
 
     fn nothing_waits(&self, file: u64) -> Admission {
-        unless(self.entry(file).waiting.is_some(), Refusal::OpenWaits)
+        unless(self.entry(file).waiting.read().is_some(), Refusal::OpenWaits)
     }
 
     fn entry(&self, file: u64) -> &Entry {

@@ -1,13 +1,15 @@
 //! One file at the server: its entry in the state table, its blocks and its waiting open.
 
-use crate::{BLOCKS, CLIENTS, Callbacks, ClientSet, Grant, Kind, Mode, Record, State};
+use crate::{
+    BLOCKS, CLIENTS, Callbacks, ClientField, ClientSet, Grant, Kind, Mode, Record, State, VersionField, WaitField,
+};
 
 #[derive(Clone, PartialEq, Eq, Debug)]
 pub struct Entry {
     pub records: [Record; CLIENTS],
-    pub version: u32,
-    pub last_writer: Option<usize>,
-    pub waiting: Option<WaitingOpen>,
+    pub version: VersionField,
+    pub last_writer: ClientField,
+    pub waiting: WaitField,
     pub blocks: [u64; BLOCKS],
 }
 
@@ -23,16 +25,15 @@ impl Entry {
     pub fn fresh() -> Self {
         Entry {
             records: [Record::default(); CLIENTS],
-            version: 1,
-            last_writer: None,
-            waiting: None,
+            version: VersionField(1),
+            last_writer: ClientField::NONE,
+            waiting: WaitField::NONE,
             blocks: [0; BLOCKS],
         }
     }
 
     fn clients_with(&self, has: impl Fn(&Record) -> bool) -> ClientSet {
-        let with = |set: ClientSet, client| if has(&self.records[client]) { set.with(client) } else { set };
-        (0..CLIENTS).fold(ClientSet::NONE, with)
+        ClientSet::of(|client| has(&self.records[client]))
     }
 
     pub fn open_clients(&self) -> ClientSet {
@@ -69,7 +70,7 @@ impl Entry {
     }
 
     fn other_last_writer(&self, opener: usize) -> ClientSet {
-        self.last_writer.map_or(ClientSet::NONE, ClientSet::only).without(opener)
+        self.last_writer.read().map_or(ClientSet::NONE, ClientSet::only).without(opener)
     }
 
     /// Whether the opener may cache, on the table just before the grant.
@@ -91,30 +92,29 @@ impl Entry {
     pub fn grant(&mut self, opener: usize, mode: Mode, may_cache: bool) -> Grant {
         self.records[opener].grant(mode, may_cache);
         if mode == Mode::Write {
-            self.version = self.version.saturating_add(1);
-            self.last_writer = None;
+            self.version = VersionField(self.version.read().saturating_add(1));
+            self.last_writer = ClientField::NONE;
         }
-        Grant { latest: self.version, previous: self.version - 1, may_cache }
+        let latest = self.version.read();
+        Grant { latest, previous: latest - 1, may_cache }
     }
 
     pub fn close(&mut self, client: usize, mode: Mode) {
         if self.records[client].close(mode) {
-            self.last_writer = Some(client);
+            self.last_writer = ClientField::of(client);
         }
     }
 
     /// The kind of the callback that this client has still to reply to.
     pub fn callback(&self, client: usize) -> Option<Kind> {
-        self.waiting.as_ref()?.callbacks.kind(client)
+        self.waiting.read()?.callbacks.kind(client)
     }
 
     /// The server's part of a callback reply. "The table changes in that same step."
     pub fn callback_answered(&mut self, client: usize, kind: Kind) {
-        if let Some(waiting) = &mut self.waiting {
-            waiting.callbacks = waiting.callbacks.without(client);
-        }
+        self.waiting.callbacks = self.waiting.callbacks.without(client);
         if kind.writes_back() {
-            self.last_writer = None;
+            self.last_writer = ClientField::NONE;
         }
         if kind.invalidates() {
             self.records[client].may_cache = false;
@@ -123,14 +123,16 @@ impl Entry {
 
     /// Versions and blocks survive; the rest does not.
     pub fn crash(&mut self) {
-        *self = Entry { version: self.version, blocks: self.blocks, ..Entry::fresh() };
+        self.records = [Record::default(); CLIENTS];
+        self.last_writer = ClientField::NONE;
+        self.waiting = WaitField::NONE;
     }
 
     /// A report of one client on this file; a report without the flag leaves the last writer as it is.
     pub fn report(&mut self, client: usize, record: Record, last_writer_flag: bool) {
         self.records[client] = record;
         if last_writer_flag {
-            self.last_writer = Some(client);
+            self.last_writer = ClientField::of(client);
         }
     }
 }

@@ -1,4 +1,4 @@
-//! Step files played from a fresh service: as a stream, and in memory with a witness beside it.
+//! Step files played: as a stream from a fresh service, and in memory with a witness beside it.
 
 use std::io::{Read, Result, Write};
 use std::marker::PhantomData;
@@ -55,20 +55,29 @@ impl<R: Rules, W: Write> Taker for &mut Player<R, W> {
 
 /// Plays a step file in memory and shows every step to the witness. Gives the output.
 pub fn replay<R: Rules>(input: &[u8], witness: &mut dyn Witness) -> Vec<u8> {
-    replay_with(Service::take::<R>, input, witness)
+    replay_from::<R>(&mut Service::fresh(), input, witness)
+}
+
+/// The same from any service, which is left as the last step leaves it.
+pub fn replay_from<R: Rules>(service: &mut Service, input: &[u8], witness: &mut dyn Witness) -> Vec<u8> {
+    replay_with(Service::take::<R>, service, input, witness)
 }
 
 /// Apart from `replay`, so that it is compiled once and not for each set of rules.
-fn replay_with(take: fn(&mut Service, &Step) -> Outcome, mut input: &[u8], witness: &mut dyn Witness) -> Vec<u8> {
-    let mut service = Service::fresh();
+fn replay_with(
+    take: fn(&mut Service, &Step) -> Outcome,
+    service: &mut Service,
+    mut input: &[u8],
+    witness: &mut dyn Witness,
+) -> Vec<u8> {
     let mut printer = Printer::new(Vec::new());
     while !input.is_empty() {
         let (step, length) = read_line(input);
         let outcome = match step {
             Some(step) => {
-                witness.before(&service, &step);
-                let outcome = take(&mut service, &step);
-                witness.after(&service, &step, &outcome);
+                witness.before(service, &step);
+                let outcome = take(service, &step);
+                witness.after(service, &step, &outcome);
                 outcome
             }
             None => Outcome::Refused(Refusal::NotAStep),

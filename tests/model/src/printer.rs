@@ -34,7 +34,7 @@ impl<W: Write> Printer<W> {
     }
 
     pub fn summary(&mut self, server: &Server) -> Result<()> {
-        let listed = |entry: &Entry| State::of(entry) != State::Closed || entry.version != 1;
+        let listed = |entry: &Entry| State::of(entry) != State::Closed || entry.version.read() != 1;
         let count = server.entries.iter().filter(|entry| listed(entry)).count();
         self.make_room()?;
         let mut text = Text { bytes: &mut self.buffer, at: self.filled };
@@ -113,17 +113,16 @@ impl Text<'_> {
 
     fn callbacks(&mut self, callbacks: Callbacks) {
         for client in callbacks.clients().members() {
-            let kind = callbacks.kind(client).map_or(0, |kind| kind as u8);
-            self.bytes(&[b' ', b'0' + client as u8, b':', b'0' + kind]);
+            self.bytes(&[b' ', b'0' + client as u8, b':', b'0' + callbacks.0[client]]);
         }
     }
 
     fn entry(&mut self, file: usize, entry: &Entry) {
-        for field in [file as u64, State::of(entry).code(), u64::from(entry.version)] {
+        for field in [file as u64, State::of(entry).code(), u64::from(entry.version.read())] {
             self.number(field);
             self.byte(b' ');
         }
-        match entry.last_writer {
+        match entry.last_writer.read() {
             Some(client) => self.number(client as u64),
             None => self.byte(b'-'),
         }

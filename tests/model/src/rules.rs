@@ -34,7 +34,7 @@ pub trait Rules {
         entry.callbacks_due(opener, mode)
     }
     fn wait(entry: &mut Entry, waiting: WaitingOpen) {
-        entry.waiting = Some(waiting);
+        entry.waiting = waiting.into();
     }
     fn permission_at_grant(entry: &Entry, opener: usize, mode: Mode) -> bool {
         entry.permission_at_grant(opener, mode)

@@ -23,5 +23,6 @@ impl Server {
 
     pub fn end(&mut self) {
         self.recovering = false;
+        self.reported = ClientSet::NONE;
     }
 }

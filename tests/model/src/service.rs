@@ -1,6 +1,6 @@
 //! The server's end and the clients' ends together: one step at a time, changed in place.
 
-use crate::{CLIENTS, Client, Grant, Mode, Outcome, Refusal, Rules, Server, Step, WaitingOpen};
+use crate::{CLIENTS, Callbacks, Client, Grant, Mode, Outcome, Refusal, Rules, Server, Step, WaitField, WaitingOpen};
 
 #[derive(Clone, PartialEq, Eq, Debug)]
 pub struct Service {
@@ -36,7 +36,7 @@ impl Service {
         let (opener, file) = (client as usize, file as usize);
         let entry = &mut self.server.entries[file];
         let callbacks = R::callbacks_due(entry, opener, mode);
-        if callbacks.is_empty() {
+        if callbacks == Callbacks::NONE {
             return Ok(Outcome::Granted(self.grant::<R>(opener, file, mode)));
         }
         R::wait(entry, WaitingOpen { opener, mode, callbacks });
@@ -47,7 +47,7 @@ impl Service {
         let entry = &mut self.server.entries[file];
         let may_cache = R::permission_at_grant(entry, opener, mode);
         let grant = R::grant_at_server(entry, opener, mode, may_cache);
-        entry.waiting = None;
+        entry.waiting = WaitField::NONE;
         R::grant_at_client(&mut self.clients[opener].files[file], mode, &grant);
         grant
     }
@@ -66,7 +66,7 @@ impl Service {
         let entry = &mut self.server.entries[file];
         R::answer_at_client(&mut self.clients[client].files[file], kind, &mut entry.blocks);
         R::answer_at_server(entry, client, kind);
-        let due = entry.waiting.filter(|waiting| waiting.callbacks.is_empty());
+        let due = entry.waiting.read().filter(|waiting| waiting.callbacks.is_empty());
         let granted = due.map(|open| (open.opener, self.grant::<R>(open.opener, file, open.mode)));
         Ok(Outcome::Replied(granted))
     }

@@ -23,14 +23,14 @@ impl State {
     pub fn of(entry: &Entry) -> State {
         let open = entry.open_clients();
         if open.is_empty() {
-            return if entry.last_writer.is_none() { State::Closed } else { State::ClosedDirty };
+            return if entry.last_writer.read().is_none() { State::Closed } else { State::ClosedDirty };
         }
         if !open.minus(entry.caching_clients()).is_empty() {
             return State::WriteShared;
         }
         match open.single() {
             Some(client) if entry.records[client].writers > 0 => State::OneWriter,
-            Some(client) if entry.last_writer == Some(client) => State::OneRdrDirty,
+            Some(client) if entry.last_writer.read() == Some(client) => State::OneRdrDirty,
             Some(_) => State::OneReader,
             None => State::MultReaders,
         }

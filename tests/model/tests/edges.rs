@@ -3,7 +3,7 @@
 mod common;
 
 use common::{RECOVERY, check, played};
-use model::{ClientFile, Copies, Document01, Grant, Mode, Outcome, Refusal, Service, State, Step};
+use model::{ClientFile, Copies, Document01, Grant, Mode, Outcome, Refusal, Service, State, Step, VersionField};
 
 const WHOLE_CASE: [(&str, &str); 8] = [
     ("OW 0 3", "G 2 1 1"),
@@ -64,7 +64,7 @@ fn a_copy_labelled_5_meets_latest_6() {
 #[test]
 fn version_4294967294_opens_for_write_once_more_then_14() {
     let mut service = Service::fresh();
-    service.server.entries[0].version = 4_294_967_294;
+    service.server.entries[0].version = VersionField(4_294_967_294);
     let open = |mode, client| Step::Open { mode, client, file: 0 };
     let last = Grant { latest: 4_294_967_295, previous: 4_294_967_294, may_cache: true };
     assert_eq!(service.take::<Document01>(&open(Mode::Write, 0)), Outcome::Granted(last));
@@ -111,7 +111,7 @@ fn broken_off_invalidation_leaves_1_without_permission_and_2_with_it() {
     let entry = &service.server.entries[0];
     assert_eq!(State::of(entry), State::WriteShared);
     assert_eq!([1, 2].map(|client| entry.records[client].may_cache), [false, true]);
-    assert!(entry.waiting.is_none());
+    assert!(entry.waiting.read().is_none());
 }
 
 #[test]

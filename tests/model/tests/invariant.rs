@@ -2,7 +2,10 @@
 
 use model::check::{CLAUSES, Demand3, Invariant, Tally, Witness, broken_clauses};
 use model::generate::{FileKind, step_file};
-use model::{Callbacks, ClientSet, Document01, FILES, Kind, Mode, Record, Refusal, Service, Step, WaitingOpen, replay};
+use model::{
+    Callbacks, ClientField, ClientSet, Document01, FILES, Kind, Mode, Record, Refusal, Service, Step, VersionField,
+    WaitField, WaitingOpen, replay,
+};
 
 /// Plays seeded files under the invariant; tells what they met.
 fn hold(kind: FileKind, seeds: std::ops::Range<u64>, lines: usize) -> Tally {
@@ -75,17 +78,17 @@ type Spoilt = (&'static str, &'static [Step], fn(&mut Service));
 const RECORD: Record = Record { readers: 1, writers: 0, may_cache: false };
 const WRITER: Record = Record { readers: 0, writers: 1, may_cache: true };
 
-fn waiting(opener: usize, called: usize) -> Option<WaitingOpen> {
-    Some(WaitingOpen { opener, mode: Mode::Write, callbacks: Callbacks::to(ClientSet::only(called), Kind::Both) })
+fn waiting(opener: usize, called: usize) -> WaitField {
+    WaitingOpen { opener, mode: Mode::Write, callbacks: Callbacks::to(ClientSet::only(called), Kind::Both) }.into()
 }
 
 const SPOILT: [Spoilt; 21] = [
     ("A1", &[], |service| service.server.entries[0].records[0] = RECORD),
-    ("A2", &[], |service| service.server.entries[0].last_writer = Some(0)),
+    ("A2", &[], |service| service.server.entries[0].last_writer = ClientField(0)),
     ("B1", &[Step::Crash], |service| service.server.entries[0].waiting = waiting(0, 1)),
     ("B2", &[Step::Crash, Step::Report { client: 0 }], |service| service.server.entries[0].records[0] = RECORD),
-    ("B3", &[Step::Crash], |service| service.server.entries[0].last_writer = Some(0)),
-    ("B4", &[Step::Crash], |service| service.server.entries[0].version = 2),
+    ("B3", &[Step::Crash], |service| service.server.entries[0].last_writer = ClientField(0)),
+    ("B4", &[Step::Crash], |service| service.server.entries[0].version = VersionField(2)),
     ("S1", &[], |service| service.clients[0].files[0].record.may_cache = true),
     ("S2", &[], |service| {
         service.clients[0].files[0].record = WRITER;
@@ -124,7 +127,7 @@ const SPOILT: [Spoilt; 21] = [
     ("D4", &[], |service| service.server.entries[0].blocks[3] = 7),
     ("WS", &[], |service| service.server.entries[0].waiting = waiting(0, 0)),
     ("W6", &[], |service| {
-        service.server.entries[0].version = u32::MAX;
+        service.server.entries[0].version = VersionField(u32::MAX);
         service.server.entries[0].waiting = waiting(0, 1);
     }),
 ];

@@ -1,4 +1,4 @@
-//! The readings of document 01's open points, numbered as in design/protocol.md.
+//! The readings of document 01's open points (docs/DECISIONS.md), numbered as the vectors are.
 
 mod common;
 

@@ -14,7 +14,7 @@ use Rattle.records.specs.declared.version.Version.{Version}
 use Rattle.protocol.specs.declared.client.ClientFile.{ClientFile}
 use Rattle.protocol.specs.declared.entry.Entry.{Entry}
 use Rattle.protocol.specs.Sizes.{nobody}
-use Rattle.records.specs.Version.{versionOf, numberOf}
+use Rattle.records.specs.Version.{noVersion, numberOf}
 use Rattle.records.specs.Record.{uncached, isWrite}
 use Rattle.protocol.specs.Callback.{writesBack, invalidates}
 use Rattle.protocol.specs.Client.{answeredClient}
@@ -51,7 +51,7 @@ module _ (kind : ℕ) (c : ClientFile) where
       → eqb (numberOf version) 0 ≡ false
       → invalidates kind ≡ true
       → isLatest version answered ≡ false
-  copy-gone version V0 drops = cc (other-sym 0 (numberOf version) V0)
+  copy-gone version versionNotZero drops = cc (other-sym 0 (numberOf version) versionNotZero)
 
   copy-same : (version : Version) → invalidates kind ≡ false → isLatest version answered ≡ isLatest version c
   copy-same version stays = cc
@@ -66,13 +66,13 @@ module _ (kind : ℕ) (c : ClientFile) where
   still-caches : mayCache answered ≡ true → invalidates kind ≡ false
   still-caches p = is-false (invalidates kind) (λ drops. conflict p (permission-gone drops))
 
-  cached : mayCache answered ≡ true → mayCache c ≡ true
-  cached p = sym (permission-same (still-caches p)) ∙ p
+  cached-before : mayCache answered ≡ true → mayCache c ≡ true
+  cached-before p = sym (permission-same (still-caches p)) ∙ p
 
   -- The clauses on the client, on it with another client d, and on its copy.
-  module _ (version : Version) (V0 : eqb (numberOf version) 0 ≡ false) where
+  module _ (version : Version) (versionNotZero : eqb (numberOf version) 0 ≡ false) where
     still-latest : isLatest version answered ≡ true → invalidates kind ≡ false
-    still-latest f = is-false (invalidates kind) (λ drops. conflict f (copy-gone version V0 drops))
+    still-latest f = is-false (invalidates kind) (λ drops. conflict f (copy-gone version versionNotZero drops))
 
     was-latest : isLatest version answered ≡ true → isLatest version c ≡ true
     was-latest f = sym (copy-same version (still-latest f)) ∙ f
@@ -80,13 +80,13 @@ module _ (kind : ℕ) (c : ClientFile) where
     own-answered : (c .marked ≡ true → writesBack kind ≡ true) → Own version c → Own version answered
     own-answered due h =
         record {
-          S1 = λ p. open-same ∙ h .S1 (cached p);
-          S3 = λ m. absurd (unmarked due m);
-          S4 = λ m. absurd (unmarked due m);
-          L1 = cases (λ b. numberOf (cond b (versionOf 0) (c .cached)) ≤ numberOf version) (invalidates kind)
-              (λ _. omega arith) (λ _. h .L1);
-          L2 = ⊎-elim (λ p. copy-same version (still-caches p) ∙ h .L2 (inl (cached p))) (λ m. absurd (unmarked due m));
-          L3 = λ w f. permission-same (still-latest f) ∙ h .L3 (sym writers-same ∙ w) (was-latest f);
+          cachingIsOpen = λ p. open-same ∙ h .cachingIsOpen (cached-before p);
+          markedExcludes = λ m. absurd (unmarked due m);
+          markedOpenCaches = λ m. absurd (unmarked due m);
+          labelNotAhead = cases (λ b. numberOf (cond b noVersion (c .label)) ≤ numberOf version) (invalidates kind)
+              (λ _. omega arith) (λ _. h .labelNotAhead);
+          cachingHasLatest = ⊎-elim (λ p. copy-same version (still-caches p) ∙ h .cachingHasLatest (inl (cached-before p))) (λ m. absurd (unmarked due m));
+          writerOwnsLatest = λ w f. permission-same (still-latest f) ∙ h .writerOwnsLatest (sym writers-same ∙ w) (was-latest f);
         }
 
     answered-to :
@@ -96,11 +96,11 @@ module _ (kind : ℕ) (c : ClientFile) where
         → Apart version answered d
     answered-to d due h =
         record {
-          S2 = λ p w. h .S2 (cached p) (sym writers-same ∙ w);
-          S3 = λ m. absurd (unmarked due m);
-          S5 = λ w. h .S5 (sym writers-same ∙ w);
-          L3 = λ w. h .L3 (sym writers-same ∙ w);
-          L4 = λ m. absurd (unmarked due m);
+          cachingWriterAlone = λ p w. h .cachingWriterAlone (cached-before p) (sym writers-same ∙ w);
+          markedExcludes = λ m. absurd (unmarked due m);
+          writerBarsCaching = λ w. h .writerBarsCaching (sym writers-same ∙ w);
+          writerOwnsLatest = λ w. h .writerOwnsLatest (sym writers-same ∙ w);
+          markedOwnsLatest = λ m. absurd (unmarked due m);
         }
 
     answered-from :
@@ -110,11 +110,11 @@ module _ (kind : ℕ) (c : ClientFile) where
         → Apart version d answered
     answered-from d due h =
         record {
-          S2 = λ p w o. h .S2 p w (sym open-same ∙ o);
-          S3 = λ m. ⊎-elim (λ o. h .S3 m (inl (sym open-same ∙ o))) (unmarked due);
-          S5 = λ w p. h .S5 w (cached p);
-          L3 = λ w f. h .L3 w (was-latest f);
-          L4 = λ m f. h .L4 m (was-latest f);
+          cachingWriterAlone = λ p w o. h .cachingWriterAlone p w (sym open-same ∙ o);
+          markedExcludes = λ m. ⊎-elim (λ o. h .markedExcludes m (inl (sym open-same ∙ o))) (unmarked due);
+          writerBarsCaching = λ w p. h .writerBarsCaching w (cached-before p);
+          writerOwnsLatest = λ w f. h .writerOwnsLatest w (was-latest f);
+          markedOwnsLatest = λ m f. h .markedOwnsLatest m (was-latest f);
         }
 
     copied-answered :
@@ -123,10 +123,10 @@ module _ (kind : ℕ) (c : ClientFile) where
         → Copied version answered (cond (invalidates kind) 0 copy) (cond (invalidates kind) false held) false k
     copied-answered {copy} {held} {k = k} h =
         record {
-          D1 = λ d. absurd (false≢true d);
-          D2 = λ d. absurd (false≢true d);
-          D3 = λ y f. subst (λ b. cond b false held ≡ true → cond b 0 copy ≡ k) (sym (still-latest f))
-              (λ y. h .D3 y (was-latest f)) y;
+          dirtyIsHeld = λ d. absurd (false≢true d);
+          dirtyIsOwned = λ d. absurd (false≢true d);
+          heldIsRight = λ y f. subst (λ b. cond b false held ≡ true → cond b 0 copy ≡ k) (sym (still-latest f))
+              (λ y. h .heldIsRight y (was-latest f)) y;
         }
 
 -- Client i answers, and what WS says of it.
@@ -155,19 +155,19 @@ module _
         let c = client i in
         let drops = invalidates kind in
         record {
-          clients = clients-at clients version i (answered kind c) below (clients .V0)
-              (own-answered kind c version (clients .V0) due (clients .own i))
+          clients = clients-at clients version i (answered kind c) below (clients .versionNotZero)
+              (own-answered kind c version (clients .versionNotZero) due (clients .own i))
               (λ t _. clients .own t)
-              (λ t e. answered-to kind c version (clients .V0) (client t) due (clients .apart i t e))
-              (λ t e. answered-from kind c version (clients .V0) (client t) due (clients .apart t i (other-sym i t e)))
+              (λ t e. answered-to kind c version (clients .versionNotZero) (client t) due (clients .apart i t e))
+              (λ t e. answered-from kind c version (clients .versionNotZero) (client t) due (clients .apart t i (other-sym i t e)))
               (clients .apart);
           copied = change (λ s b. Copied version (cond b (answered kind c) (client s))
               (cond b (cond drops 0 (copy i)) (copy s))
               (cond b (cond drops false (held i)) (held s)) (cond b false (dirty s)) k) i
-              (copied-answered kind c version (clients .V0) (h .copied i)) (λ s _. h .copied s);
-          D4 = λ clean. cases (λ b. cond b (copy i) block ≡ k) (writesBack kind && dirty i)
+              (copied-answered kind c version (clients .versionNotZero) (h .copied i)) (λ s _. h .copied s);
+          cleanIsRight = λ clean. cases (λ b. cond b (copy i) block ≡ k) (writesBack kind && dirty i)
               (λ e. dirty-is h i (and-right (writesBack kind) _ e))
-              (λ e. h .D4 (change (λ s _. dirty s ≡ true → ⊥) i (λ d. conflict (and-both (saved d) d) e)
+              (λ e. h .cleanIsRight (change (λ s _. dirty s ≡ true → ⊥) i (λ d. conflict (and-both (saved d) d) e)
               (λ s away d. clean s (at-other i s false dirty away ∙ d))));
         }
 
@@ -212,17 +212,17 @@ module _
               (λ _ m. absurd (gone m)) (λ t _. h .marked t);
           writing = change (λ t b. eqb t opener ≡ false → mayCache (cond b c (client t)) ≡ true
               → hasWriters (cond b c (client t)) ≡ true → cond b 0 (calls t) ≡ 3) i
-              (λ _ p w. absurd (stays p (both (cached kind (client i) p) (sym (writers-same kind (client i)) ∙ w))))
+              (λ _ p w. absurd (stays p (both (cached-before kind (client i) p) (sym (writers-same kind (client i)) ∙ w))))
               (λ t _. h .writing t);
           caching = change (λ t b. eqb t opener ≡ false → isWrite mode ≡ true → mayCache (cond b c (client t)) ≡ true
               → invalidates (cond b 0 (calls t)) ≡ true) i
-              (λ _ w p. absurd (stays p (drops w (cached kind (client i) p)))) (λ t _. h .caching t);
+              (λ _ w p. absurd (stays p (drops w (cached-before kind (client i) p)))) (λ t _. h .caching t);
           alone = λ s. change (λ t b. writesBack (cond b 0 (calls t)) ≡ true → eqb s t ≡ false
               → at i c client s .marked ≡ true → ⊥) i
               (λ w. absurd (false≢true w))
               (λ t _ w. change (λ s b. eqb s t ≡ false → cond b c (client s) .marked ≡ true → ⊥) i
               (λ _. gone) (λ s _. h .alone s t w) s);
-          W6 = h .W6;
+          versionLeft = h .versionLeft;
         }
 
 -- the callbacks that are out after client i has answered
@@ -256,7 +256,7 @@ answer-kept n v k i bound h below called =
     = ne-eqb i (e .waiter) (λ q. eqb-false kind 0 called (ap (callTo n e) q ∙ ws .uncalled)) in
     let due = ws .marked i away in
     let saved : v .dirty i ≡ true → writesBack kind ≡ true
-    = λ d. ⊎-elim due (λ x. ap writesBack (ws .writing i away (x .1) (x .0))) (h .sound .copied i .D2 d) in
+    = λ d. ⊎-elim due (λ x. ap writesBack (ws .writing i away (x .1) (x .0))) (h .sound .copied i .dirtyIsOwned d) in
     let fits : i < length (e .calls) = subst (λ m. i < m) (sym (h .calls)) below in
     record {
       sound = sound-answered i kind below due (h .sound) saved;

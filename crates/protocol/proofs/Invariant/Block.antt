@@ -26,32 +26,32 @@ module _
   where
     -- a dirty block is of the latest version, and so the reference memory's number
     pub dirty-latest : (s : ℕ) → dirty s ≡ true → isLatest version (client s) ≡ true
-    dirty-latest s d = h .clients .own s .L2 (⊎-elim (λ m. inr m) (λ x. inl (x .1)) (h .copied s .D2 d))
+    dirty-latest s d = h .clients .own s .cachingHasLatest (⊎-elim (λ m. inr m) (λ x. inl (x .1)) (h .copied s .dirtyIsOwned d))
 
     pub dirty-is : (s : ℕ) → dirty s ≡ true → copy s ≡ k
-    dirty-is s d = h .copied s .D3 (h .copied s .D1 d) (dirty-latest s d)
+    dirty-is s d = h .copied s .heldIsRight (h .copied s .dirtyIsHeld d) (dirty-latest s d)
 
     -- where i is open, no other client has the block dirty
     other-clean : (i s : ℕ) → hasOpen (client i) ≡ true → eqb s i ≡ false → dirty s ≡ true → ⊥
     other-clean i s o e d =
         let far = h .clients .apart s i (other-sym i s e) in
-        ⊎-elim (λ m. far .S3 m (inl o)) (λ x. far .S2 (x .1) (x .0) o) (h .copied s .D2 d)
+        ⊎-elim (λ m. far .markedExcludes m (inl o)) (λ x. far .cachingWriterAlone (x .1) (x .0) o) (h .copied s .dirtyIsOwned d)
 
     -- so the server's block is the reference memory's number, unless i has it dirty
     server-is : (i : ℕ) → hasOpen (client i) ≡ true → (dirty i ≡ true → ⊥) → block ≡ k
-    server-is i o clean = h .D4 (change (λ s _. dirty s ≡ true → ⊥) i clean (λ s. other-clean i s o))
+    server-is i o clean = h .cleanIsRight (change (λ s _. dirty s ≡ true → ⊥) i clean (λ s. other-clean i s o))
 
     -- an open client that does not read its own copy has no dirty block
     unread-clean : (i : ℕ) → hasOpen (client i) ≡ true → (mayCache (client i) && held i) ≡ false → dirty i ≡ true → ⊥
     unread-clean i o e d =
-        let caches = ⊎-elim (λ m. h .clients .own i .S4 m o) (λ x. x .1) (h .copied i .D2 d) in
-        conflict (and-both caches (h .copied i .D1 d)) e
+        let caches = ⊎-elim (λ m. h .clients .own i .markedOpenCaches m o) (λ x. x .1) (h .copied i .dirtyIsOwned d) in
+        conflict (and-both caches (h .copied i .dirtyIsHeld d)) e
 
     read-is : (i : ℕ) → hasOpen (client i) ≡ true → cond (mayCache (client i) && held i) (copy i) block ≡ k
     read-is i o =
         cases (λ b. cond b (copy i) block ≡ k) (mayCache (client i) && held i)
-        (λ e. h .copied i .D3 (and-right (mayCache (client i)) _ e)
-        (h .clients .own i .L2 (inl (and-left _ (held i) e))))
+        (λ e. h .copied i .heldIsRight (and-right (mayCache (client i)) _ e)
+        (h .clients .own i .cachingHasLatest (inl (and-left _ (held i) e))))
         (λ e. server-is i o (unread-clean i o e))
 
     sound-read :
@@ -66,16 +66,16 @@ module _
         let fetched : Copied version (client i) (cond fetch block (copy i)) (cond fetch true (held i)) (dirty i) k
         = cases (λ b. Copied version (client i) (cond b block (copy i)) (cond b true (held i)) (dirty i) k) fetch
         (λ e. record {
-          D1 = λ _. refl;
-          D2 = h .copied i .D2;
-          D3 = λ _ _. server-is i o (λ d. conflict (h .copied i .D1 d) (unheld e));
+          dirtyIsHeld = λ _. refl;
+          dirtyIsOwned = h .copied i .dirtyIsOwned;
+          heldIsRight = λ _ _. server-is i o (λ d. conflict (h .copied i .dirtyIsHeld d) (unheld e));
         })
         (λ _. h .copied i) in
         record {
           clients = h .clients;
           copied = change (λ s b. Copied version (client s) (cond b (cond fetch block (copy i)) (copy s))
               (cond b (cond fetch true (held i)) (held s)) (dirty s) k) i fetched (λ s _. h .copied s);
-          D4 = h .D4;
+          cleanIsRight = h .cleanIsRight;
         }
 
     -- a write at i: another client has no copy of the latest version, and i has one only if it may cache
@@ -89,22 +89,22 @@ module _
         let own = mayCache (client i) in
         let written = cases
         (λ b. Copied version (client i) (cond b x (copy i)) (cond b true (held i)) (cond b true (dirty i)) x) own
-        (λ p. record { D1 = λ _. refl; D2 = λ _. inr (w, p); D3 = λ _ _. refl })
+        (λ p. record { dirtyIsHeld = λ _. refl; dirtyIsOwned = λ _. inr (w, p); heldIsRight = λ _ _. refl })
         (λ p. record {
-          D1 = h .copied i .D1;
-          D2 = h .copied i .D2;
-          D3 = λ _ f. absurd (conflict (h .clients .own i .L3 w f) p);
+          dirtyIsHeld = h .copied i .dirtyIsHeld;
+          dirtyIsOwned = h .copied i .dirtyIsOwned;
+          heldIsRight = λ _ f. absurd (conflict (h .clients .own i .writerOwnsLatest w f) p);
         }) in
         record {
           clients = h .clients;
           copied = change (λ s b. Copied version (client s) (cond b (cond own x (copy i)) (copy s))
               (cond b (cond own true (held i)) (held s)) (cond b (cond own true (dirty i)) (dirty s)) x) i written
               (λ s e. record {
-                D1 = h .copied s .D1;
-                D2 = h .copied s .D2;
-                D3 = λ _ f. absurd (h .clients .apart i s e .L3 w f);
+                dirtyIsHeld = h .copied s .dirtyIsHeld;
+                dirtyIsOwned = h .copied s .dirtyIsOwned;
+                heldIsRight = λ _ f. absurd (h .clients .apart i s e .writerOwnsLatest w f);
               });
-          D4 = cases (λ b. ((s : ℕ) → at i (cond b true (dirty i)) dirty s ≡ true → ⊥) → cond b block x ≡ x) own
+          cleanIsRight = cases (λ b. ((s : ℕ) → at i (cond b true (dirty i)) dirty s ≡ true → ⊥) → cond b block x ≡ x) own
               (λ _ clean. absurd (clean i (at-same i true dirty))) (λ _ _. refl);
         }
 
@@ -113,9 +113,9 @@ module _
         record {
           clients = h .clients;
           copied = change (λ s b. Copied version (client s) (copy s) (held s) (cond b false (dirty s)) k) i
-              (record { D1 = λ e. absurd (false≢true e); D2 = λ e. absurd (false≢true e); D3 = h .copied i .D3 })
+              (record { dirtyIsHeld = λ e. absurd (false≢true e); dirtyIsOwned = λ e. absurd (false≢true e); heldIsRight = h .copied i .heldIsRight })
               (λ s _. h .copied s);
-          D4 = λ _. dirty-is i d;
+          cleanIsRight = λ _. dirty-is i d;
         }
 
 pub read-kept :
@@ -168,7 +168,7 @@ own-write-kept n v k i x reported row h own =
       sound = sound-written (h .sound) i x (and-left (hasWriters c) (mayCache c) both);
       table = h .table;
       calls = h .calls;
-      B1 = h .B1;
+      noneWaits = h .noneWaits;
       before = h .before;
       version = h .version;
     }

@@ -55,9 +55,9 @@ module _ {n : ℕ} {version : Version} {client : ℕ → ClientFile} (h : Client
       → ((t : ℕ) → eqb t i ≡ false → Apart later (client t) c)
       → ((s t : ℕ) → eqb t s ≡ false → Apart later (client s) (client t))
       → Clients n later (at i c client)
-  clients-at later i c below V0 own others to from far =
+  clients-at later i c below versionNotZero own others to from far =
       record {
-        V0 = V0;
+        versionNotZero = versionNotZero;
         beyond = λ s out. at-other i s c client (ne-eqb s i (λ q. omega arith)) ∙ h .beyond s out;
         own = change (λ s b. Own later (cond b c (client s))) i own others;
         apart =
@@ -73,18 +73,18 @@ module _
     {records : List ClientRecord}
     {last : ℕ}
     {client : ℕ → ClientFile}
-    {told : ℕ → Bool}
-    (h : Agrees n records last client told)
+    {heard : ℕ → Bool}
+    (h : Agrees n records last client heard)
   where
     pub known-at :
         (i : ℕ) (a : ClientRecord) (c : ClientFile)
         → i < n
         → a ≡ c .opens
         → (s : ℕ)
-        → told s ≡ true
+        → heard s ≡ true
         → recordIn (set records i a) s ≡ at i c client s .opens
     known-at i a c below e s t =
         let fits : i < length records = subst (λ m. i < m) (sym (h .size)) below in
         getD-at records i a notOpen fits s
-        ∙ change (λ j b. told j ≡ true → cond b a (recordIn records j) ≡ cond b c (client j) .opens) i
+        ∙ change (λ j b. heard j ≡ true → cond b a (recordIn records j) ≡ cond b c (client j) .opens) i
         (λ _. e) (λ j _. h .known j) s t

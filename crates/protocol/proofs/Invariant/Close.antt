@@ -62,9 +62,9 @@ module _ (r : ClientRecord) where
       let single = eqb-true (r .writers) 1 (and-left _ (r .caching) l) in
       lt-ltb 0 (r .writers) (omega arith)
 
-  leaver-cached : (mode : Mode) → leavesLastWriter mode r ≡ true → r .caching ≡ true
-  leaver-cached Read l = absurd (false≢true l)
-  leaver-cached Write l = and-right (eqb (r .writers) 1) _ l
+  leaver-caching : (mode : Mode) → leavesLastWriter mode r ≡ true → r .caching ≡ true
+  leaver-caching Read l = absurd (false≢true l)
+  leaver-caching Write l = and-right (eqb (r .writers) 1) _ l
 
   leaver-done : (mode : Mode) → leavesLastWriter mode r ≡ true → ltb 0 (lowered mode r .writers) ≡ true → ⊥
   leaver-done Read l w = false≢true l
@@ -113,38 +113,38 @@ module _ (mode : Mode) (c : ClientFile) where
     own-closed : Own version c → Own version after
     own-closed h =
         record {
-          S1 = λ p. and-left (isOpen (lowered mode (c .opens))) _ p;
-          S3 = λ m w. ⊎-elim (λ l. leaver-done (c .opens) mode l w) (λ x. h .S3 x (wrote w)) (was-marked m);
-          S4 = λ m o. keeps-permission o
-              (⊎-elim (leaver-cached (c .opens) mode) (λ x. h .S4 x (was-open o)) (was-marked m));
-          L1 = h .L1;
-          L2 = λ x. h .L2 (⊎-elim (λ p. inl (had-permission p))
-              (λ m. ⊎-elim (λ l. inl (leaver-cached (c .opens) mode l)) (λ y. inr y) (was-marked m)) x);
-          L3 = λ w f. keeps-permission (writers-open (after .opens) w) (h .L3 (wrote w) f);
+          cachingIsOpen = λ p. and-left (isOpen (lowered mode (c .opens))) _ p;
+          markedExcludes = λ m w. ⊎-elim (λ l. leaver-done (c .opens) mode l w) (λ x. h .markedExcludes x (wrote w)) (was-marked m);
+          markedOpenCaches = λ m o. keeps-permission o
+              (⊎-elim (leaver-caching (c .opens) mode) (λ x. h .markedOpenCaches x (was-open o)) (was-marked m));
+          labelNotAhead = h .labelNotAhead;
+          cachingHasLatest = λ x. h .cachingHasLatest (⊎-elim (λ p. inl (had-permission p))
+              (λ m. ⊎-elim (λ l. inl (leaver-caching (c .opens) mode l)) (λ y. inr y) (was-marked m)) x);
+          writerOwnsLatest = λ w f. keeps-permission (writers-open (after .opens) w) (h .writerOwnsLatest (wrote w) f);
         }
 
     closed-to : (d : ClientFile) → Apart version c d → Apart version d c → Apart version after d
     closed-to d h back =
         record {
-          S2 = λ p w. h .S2 (had-permission p) (wrote w);
-          S3 = λ m x. ⊎-elim
-              (λ l. ⊎-elim (h .S2 (leaver-cached (c .opens) mode l) (leaver-wrote (c .opens) mode l))
-              (λ y. back .S3 y (inl (leaver-open l))) x)
-              (λ y. h .S3 y x) (was-marked m);
-          S5 = λ w. h .S5 (wrote w);
-          L3 = λ w. h .L3 (wrote w);
-          L4 = λ m f. ⊎-elim (λ l. h .L3 (leaver-wrote (c .opens) mode l) f) (λ y. h .L4 y f) (was-marked m);
+          cachingWriterAlone = λ p w. h .cachingWriterAlone (had-permission p) (wrote w);
+          markedExcludes = λ m x. ⊎-elim
+              (λ l. ⊎-elim (h .cachingWriterAlone (leaver-caching (c .opens) mode l) (leaver-wrote (c .opens) mode l))
+              (λ y. back .markedExcludes y (inl (leaver-open l))) x)
+              (λ y. h .markedExcludes y x) (was-marked m);
+          writerBarsCaching = λ w. h .writerBarsCaching (wrote w);
+          writerOwnsLatest = λ w. h .writerOwnsLatest (wrote w);
+          markedOwnsLatest = λ m f. ⊎-elim (λ l. h .writerOwnsLatest (leaver-wrote (c .opens) mode l) f) (λ y. h .markedOwnsLatest y f) (was-marked m);
         }
 
     closed-from : (d : ClientFile) → Apart version d c → Apart version d after
     closed-from d h =
         record {
-          S2 = λ p w o. h .S2 p w (was-open o);
-          S3 = λ m x. h .S3 m (⊎-elim (λ o. inl (was-open o))
+          cachingWriterAlone = λ p w o. h .cachingWriterAlone p w (was-open o);
+          markedExcludes = λ m x. h .markedExcludes m (⊎-elim (λ o. inl (was-open o))
               (λ y. ⊎-elim (λ l. inl (leaver-open l)) (λ z. inr z) (was-marked y)) x);
-          S5 = λ w p. h .S5 w (had-permission p);
-          L3 = h .L3;
-          L4 = h .L4;
+          writerBarsCaching = λ w p. h .writerBarsCaching w (had-permission p);
+          writerOwnsLatest = h .writerOwnsLatest;
+          markedOwnsLatest = h .markedOwnsLatest;
         }
 
     copied-closed :
@@ -153,12 +153,12 @@ module _ (mode : Mode) (c : ClientFile) where
         → Copied version after copy held dirty k
     copied-closed h =
         record {
-          D1 = h .D1;
-          D2 = λ d. ⊎-elim (λ m. inl (still-marked m))
+          dirtyIsHeld = h .dirtyIsHeld;
+          dirtyIsOwned = λ d. ⊎-elim (λ m. inl (still-marked m))
               (λ x. ⊎-elim (λ w. inr (w, keeps-permission (writers-open (after .opens) w) (x .1)))
               (λ l. inl (leaver-marked l))
-              (writes-or-leaves (c .opens) mode (x .0) (x .1))) (h .D2 d);
-          D3 = h .D3;
+              (writes-or-leaves (c .opens) mode (x .0) (x .1))) (h .dirtyIsOwned d);
+          heldIsRight = h .heldIsRight;
         }
 
 -- The table learns of the close as the client does.
@@ -173,14 +173,14 @@ table-closed :
 table-closed {client = client} clients e mode i below h =
     let c = closedClient mode (client i) in
     let is = h .known i refl in
-    let told : leavesLastWriter mode (recordAt e i) ≡ leaves mode (client i) = ap (leavesLastWriter mode) is in
+    let heard : leavesLastWriter mode (recordAt e i) ≡ leaves mode (client i) = ap (leavesLastWriter mode) is in
     record {
       size = length-set (e .records) i _ ∙ h .size;
       known = known-at h i _ c below (ap (closed mode) is);
       lastWriter = split (leaves mode (client i))
           (λ l. let now : closedEntry e i mode .last ≡ i = cc in
           rw now (last-one-at client i c below (leaver-marked mode (client i) l)
-          (λ s away m. clients .apart s i (other-sym i s away) .S3 m (inl (leaver-open mode (client i) l)))))
+          (λ s away m. clients .apart s i (other-sym i s away) .markedExcludes m (inl (leaver-open mode (client i) l)))))
           (λ stays. let now : closedEntry e i mode .last ≡ e .last = cc in
           rw now (last-same-at client i c (h .lastWriter) (else-same mode (client i) stays)));
     }
@@ -197,7 +197,7 @@ close-kept n v k i mode h below quiet =
     let clients = h .sound .clients in
     record {
       sound = record {
-        clients = clients-at clients version i (closedClient mode c) below (clients .V0)
+        clients = clients-at clients version i (closedClient mode c) below (clients .versionNotZero)
             (own-closed mode c (clients .own i))
             (λ t _. clients .own t)
             (λ t e. closed-to mode c (v .client t) (clients .apart i t e) (clients .apart t i (other-sym i t e)))
@@ -206,7 +206,7 @@ close-kept n v k i mode h below quiet =
         copied = change (λ s b. Copied version (cond b (closedClient mode c) (v .client s)) (v .copy s) (v .held s)
             (v .dirty s) k) i
             (copied-closed mode c (h .sound .copied i)) (λ s _. h .sound .copied s);
-        D4 = h .sound .D4;
+        cleanIsRight = h .sound .cleanIsRight;
       };
       table = table-closed clients (v .entry) mode i below (h .table);
       calls = h .calls;

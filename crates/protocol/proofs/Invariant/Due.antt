@@ -24,7 +24,7 @@ use Rattle.protocol.proofs.Invariant.Flags.{conflict, is-false, split, 
 use Rattle.protocol.proofs.Invariant.Count.{none, some, one, only}
 use Rattle.protocol.proofs.Invariant.Change.{counted-open, open-is-client, marked-is-client}
 use Rattle.protocol.proofs.Invariant.Permission.{keeper-open}
-use Rattle.protocol.proofs.Invariant.Kind.{kind, closed-sends, reader-sends, writer-both, cached-drops, sends-whom}
+use Rattle.protocol.proofs.Invariant.Kind.{kind, closed-sends, reader-sends, writer-both, caching-drops, sends-whom}
 
 module _
     {n : ℕ}
@@ -53,8 +53,8 @@ module _
       tally-one : hasOpen (client t) ≡ true → tally n r Open ≡ 1
       tally-one o = one n (λ j. has Open (r j)) t (open-is-client h t o) o alone
 
-      cached-none : (hasOpen (client t) ≡ true → mayCache (client t) ≡ true) → tally n r Uncached ≡ 0
-      cached-none p =
+      uncached-none : (hasOpen (client t) ≡ true → mayCache (client t) ≡ true) → tally n r Uncached ≡ 0
+      uncached-none p =
           tally-none Uncached
           (λ q. conflict (p (counted-open Uncached (r t) q)) (not-true (r t .caching) (and-right (isOpen (r t)) _ q)))
 
@@ -79,14 +79,14 @@ module _
 
       due-marked : (t : ℕ) → eqb t opener ≡ false → client t .marked ≡ true → writesBack (due t) ≡ true
       due-marked t e m =
-          let alone : Alone t = λ j away o. h .apart t j away .S3 m (inl o) in
+          let alone : Alone t = λ j away o. h .apart t j away .markedExcludes m (inl o) in
           let is : last ≡ t = table .lastWriter .named t refl m in
           let below : last < n = subst (λ j. j < n) (sym is) (marked-is-client h t m) in
           let same = eq-eqb t last (sym is) in
           ap writesBack (called t e (asks-alone t alone opener mode e))
           ∙ split (hasOpen (client t))
-          (λ o. reader-sends n r last t mode (tally-one t alone o) (cached-none t alone (h .own t .S4 m))
-          (tally-none t alone Writing (h .own t .S3 m)) below (subst (λ j. hasOpen (client j) ≡ true) (sym is) o) same)
+          (λ o. reader-sends n r last t mode (tally-one t alone o) (uncached-none t alone (h .own t .markedOpenCaches m))
+          (tally-none t alone Writing (h .own t .markedExcludes m)) below (subst (λ j. hasOpen (client j) ≡ true) (sym is) o) same)
           (λ o. closed-sends n r last t mode (tally-none t alone Open (λ q. conflict q o)) below same)
 
       due-writing :
@@ -96,10 +96,10 @@ module _
           → hasWriters (client t) ≡ true
           → due t ≡ 3
       due-writing t e p w =
-          let alone : Alone t = λ j away o. h .apart t j away .S2 p w o in
-          let o = h .own t .S1 p in
+          let alone : Alone t = λ j away o. h .apart t j away .cachingWriterAlone p w o in
+          let o = h .own t .cachingIsOpen p in
           called t e (asks-alone t alone opener mode e)
-          ∙ writer-both n r last t mode (tally-one t alone o) (cached-none t alone (λ _. p))
+          ∙ writer-both n r last t mode (tally-one t alone o) (uncached-none t alone (λ _. p))
           (some n (λ j. has Writing (r j)) t (open-is-client h t o) w) o
 
       due-alone : (s t : ℕ) → writesBack (due t) ≡ true → eqb s t ≡ false → client s .marked ≡ true → ⊥
@@ -108,7 +108,7 @@ module _
           let sends : writesBack (kind n r last t mode) ≡ true
           = split asked (λ none. let is : due t ≡ 0 = cc in absurd (false≢true (ap writesBack (sym is) ∙ w)))
           (λ some. let is : due t ≡ kind n r last t mode = cc in ap writesBack (sym is) ∙ w) in
-          ⊎-elim (λ o. h .apart s t (other-sym t s e) .S3 m (inl o))
+          ⊎-elim (λ o. h .apart s t (other-sym t s e) .markedExcludes m (inl o))
           (λ l. eqb-false s t e (sym (eqb-true t last l ∙ table .lastWriter .named s refl m)))
           (sends-whom (stateOf n r last) mode (r t) (eqb t last) sends)
 
@@ -120,11 +120,11 @@ module _
         → invalidates (due opener mode t) ≡ true
     due-caching opener Read t e w p = absurd (false≢true w)
     due-caching opener Write t e w p =
-        let o = h .own t .S1 p in
+        let o = h .own t .cachingIsOpen p in
         let below = open-is-client h t o in
-        let asks = is-false (keepsPermission Write (r opener)) (λ keeps. h .apart opener t e .S5 keeps p) in
+        let asks = is-false (keepsPermission Write (r opener)) (λ keeps. h .apart opener t e .writerBarsCaching keeps p) in
         ap invalidates (called opener Write t e asks)
-        ∙ cached-drops n r last t (some n (λ j. has Open (r j)) t below o) o p
+        ∙ caching-drops n r last t (some n (λ j. has Open (r j)) t below o) o p
         (λ one dirty. only n (λ j. has Open (r j)) t last (eqb-true (tally n r Open) 1 one) below
         (ltb-true last n (and-left _ (isOpen (r last)) dirty)) o (and-right (ltb last n) _ dirty))
 
@@ -140,11 +140,11 @@ module _
         record {
           uncalled = is-due opener below ∙ uncalled opener mode;
           marked = λ t e m. ap writesBack (is-due t (marked-is-client h t m)) ∙ due-marked opener mode t e m;
-          writing = λ t e p w. is-due t (open-is-client h t (h .own t .S1 p)) ∙ due-writing opener mode t e p w;
-          caching = λ t e w p. ap invalidates (is-due t (open-is-client h t (h .own t .S1 p)))
+          writing = λ t e p w. is-due t (open-is-client h t (h .own t .cachingIsOpen p)) ∙ due-writing opener mode t e p w;
+          caching = λ t e w p. ap invalidates (is-due t (open-is-client h t (h .own t .cachingIsOpen p)))
               ∙ due-caching opener mode t e w p;
           alone = λ s t w e m. split (ltb t n)
               (λ is. due-alone opener mode s t (ap writesBack (sym (is-due t (ltb-true t n is))) ∙ w) e m)
               (λ is. false≢true (ap writesBack (sym (is-none t (ltb-false t n is))) ∙ w));
-          W6 = left;
+          versionLeft = left;
         }

@@ -7,7 +7,7 @@ use native.Mathlib.Omega.{arith}
 use lib.ListN.{length-replicate}
 use borrow.Author.Tests.{le-ltb}
 use Rattle.protocol.specs.Sizes.{nobody}
-use Rattle.records.specs.Version.{versionOf}
+use Rattle.records.specs.Version.{firstVersion}
 use Rattle.records.specs.Record.{notOpen}
 use Rattle.protocol.proofs.View.{freshView, freshClient}
 use Rattle.protocol.proofs.Invariant.{Sound, Running}
@@ -15,30 +15,30 @@ use Rattle.protocol.proofs.Invariant.Flags.{conflict}
 use Rattle.protocol.proofs.Invariant.Last.{last-none}
 use Rattle.protocol.proofs.Invariant.Lists.{getD-alike}
 
-fresh-sound : (n : ℕ) → Sound n (versionOf 1) (λ s. freshClient) 0 (λ s. 0) (λ s. false) (λ s. false) 0
+fresh-sound : (n : ℕ) → Sound n firstVersion (λ s. freshClient) 0 (λ s. 0) (λ s. false) (λ s. false) 0
 fresh-sound n =
     record {
       clients = record {
-        V0 = refl;
+        versionNotZero = refl;
         beyond = λ _ _. refl;
         own = λ s. record {
-          S1 = λ p. absurd (false≢true p);
-          S3 = λ m. absurd (false≢true m);
-          S4 = λ m. absurd (false≢true m);
-          L1 = omega arith;
-          L2 = λ x. absurd (⊎-elim false≢true false≢true x);
-          L3 = λ w. absurd (false≢true w);
+          cachingIsOpen = λ p. absurd (false≢true p);
+          markedExcludes = λ m. absurd (false≢true m);
+          markedOpenCaches = λ m. absurd (false≢true m);
+          labelNotAhead = omega arith;
+          cachingHasLatest = λ x. absurd (⊎-elim false≢true false≢true x);
+          writerOwnsLatest = λ w. absurd (false≢true w);
         };
         apart = λ s t _. record {
-          S2 = λ p. absurd (false≢true p);
-          S3 = λ m. absurd (false≢true m);
-          S5 = λ w. absurd (false≢true w);
-          L3 = λ w. absurd (false≢true w);
-          L4 = λ m. absurd (false≢true m);
+          cachingWriterAlone = λ p. absurd (false≢true p);
+          markedExcludes = λ m. absurd (false≢true m);
+          writerBarsCaching = λ w. absurd (false≢true w);
+          writerOwnsLatest = λ w. absurd (false≢true w);
+          markedOwnsLatest = λ m. absurd (false≢true m);
         };
       };
-      copied = λ s. record { D1 = λ d. d; D2 = λ d. absurd (false≢true d); D3 = λ y. absurd (false≢true y) };
-      D4 = λ _. refl;
+      copied = λ s. record { dirtyIsHeld = λ d. d; dirtyIsOwned = λ d. absurd (false≢true d); heldIsRight = λ y. absurd (false≢true y) };
+      cleanIsRight = λ _. refl;
     }
 
 pub fresh-kept : (n : ℕ) → n ≤ nobody → Running n (freshView n) 0

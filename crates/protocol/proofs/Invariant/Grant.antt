@@ -16,7 +16,7 @@ use Rattle.protocol.specs.declared.client.ClientFile.{ClientFile}
 use Rattle.protocol.specs.declared.entry.Entry.{Entry}
 use Rattle.protocol.specs.declared.reply.Grant.{Grant}
 use Rattle.protocol.specs.Sizes.{nobody}
-use Rattle.records.specs.Version.{versionOf, numberOf, isLastVersion}
+use Rattle.records.specs.Version.{noVersion, numberOf, isLastVersion}
 use Rattle.records.specs.Record.{isWrite, raised, opened}
 use Rattle.protocol.specs.Callback.{writesBack, invalidates}
 use Rattle.protocol.specs.Permission.{permissionAtGrant}
@@ -80,9 +80,9 @@ module _ (g : Grant) (c : ClientFile) where
       (mode : Mode)
       → eqb (numberOf (g .latest)) 0 ≡ false
       → isLatest (g .latest) (grantedClient mode g c) ≡ g .caching
-  current-is mode V0 =
+  current-is mode versionNotZero =
       let same = eq-eqb (numberOf (g .latest)) (numberOf (g .latest)) refl in
-      let unlike = other-sym 0 (numberOf (g .latest)) V0 in
+      let unlike = other-sym 0 (numberOf (g .latest)) versionNotZero in
       split (g .caching) (λ p. cc) (λ p. cc)
 
 module _
@@ -104,7 +104,7 @@ module _
     permission p = sym (permission-is g (client i) mode) ∙ p
 
     current : isLatest (g .latest) granted ≡ g .caching
-    current = current-is g (client i) mode (next .V0)
+    current = current-is g (client i) mode (next .versionNotZero)
 
     opened-to-read : granted .marked ≡ true → isWrite mode ≡ false
     opened-to-read m = is-false (isWrite mode) (λ w. conflict m (unmarked-by-write g (client i) mode w))
@@ -118,63 +118,63 @@ module _
     own-granted : Own (g .latest) granted
     own-granted =
         record {
-          S1 = λ _. is-opened g (client i) mode;
-          S3 = λ m w. ⊎-elim (λ x. conflict x (opened-to-read m)) (h .own i .S3 (was-marked m)) (was-writing w);
-          S4 = λ m _. permission-is g (client i) mode ∙ may .marked (was-marked m);
-          L1 = cases (λ b. numberOf (cond b (g .latest) (versionOf 0)) ≤ numberOf (g .latest)) (g .caching)
+          cachingIsOpen = λ _. is-opened g (client i) mode;
+          markedExcludes = λ m w. ⊎-elim (λ x. conflict x (opened-to-read m)) (h .own i .markedExcludes (was-marked m)) (was-writing w);
+          markedOpenCaches = λ m _. permission-is g (client i) mode ∙ may .marked (was-marked m);
+          labelNotAhead = cases (λ b. numberOf (cond b (g .latest) noVersion) ≤ numberOf (g .latest)) (g .caching)
               (λ _. omega arith) (λ _. omega arith);
-          L2 = λ x. current ∙ ⊎-elim permission (λ m. may .marked (was-marked m)) x;
-          L3 = λ _ f. permission-is g (client i) mode ∙ (sym current ∙ f);
+          cachingHasLatest = λ x. current ∙ ⊎-elim permission (λ m. may .marked (was-marked m)) x;
+          writerOwnsLatest = λ _ f. permission-is g (client i) mode ∙ (sym current ∙ f);
         }
 
     own-others : (t : ℕ) → eqb t i ≡ false → Own (g .latest) (client t)
     own-others t e =
         let own = h .own t in
         record {
-          S1 = own .S1;
-          S3 = own .S3;
-          S4 = own .S4;
-          L1 = le-trans (own .L1) (next .rises);
-          L2 = ⊎-elim
+          cachingIsOpen = own .cachingIsOpen;
+          markedExcludes = own .markedExcludes;
+          markedOpenCaches = own .markedOpenCaches;
+          labelNotAhead = le-trans (own .labelNotAhead) (next .rises);
+          cachingHasLatest = ⊎-elim
               (λ p. split (isWrite mode) (λ w. absurd (free .caching t e w p))
-              (λ r. next .is (client t .cached) r (own .L2 (inl p))))
+              (λ r. next .is (client t .label) r (own .cachingHasLatest (inl p))))
               (λ m. absurd (free .marked t e m));
-          L3 = λ w f. own .L3 w (next .was (client t .cached) (own .L1) f);
+          writerOwnsLatest = λ w f. own .writerOwnsLatest w (next .was (client t .label) (own .labelNotAhead) f);
         }
 
     granted-to : (t : ℕ) → eqb t i ≡ false → Apart (g .latest) granted (client t)
     granted-to t e =
         let far = h .apart i t e in
-        let was = next .was (client t .cached) (h .own t .L1) in
+        let was = next .was (client t .label) (h .own t .labelNotAhead) in
         record {
-          S2 = λ p w. may .alone (permission p) (sym (writers-are g (client i) mode) ∙ w) t e;
-          S3 = λ m. far .S3 (was-marked m);
-          S5 = λ w p. ⊎-elim (λ x. free .caching t e x p) (λ y. far .S5 y p) (was-writing w);
-          L3 = λ w f. ⊎-elim (next .unwritten (client t .cached) (h .own t .L1) f) (λ y. far .L3 y (was f))
+          cachingWriterAlone = λ p w. may .alone (permission p) (sym (writers-are g (client i) mode) ∙ w) t e;
+          markedExcludes = λ m. far .markedExcludes (was-marked m);
+          writerBarsCaching = λ w p. ⊎-elim (λ x. free .caching t e x p) (λ y. far .writerBarsCaching y p) (was-writing w);
+          writerOwnsLatest = λ w f. ⊎-elim (next .unwritten (client t .label) (h .own t .labelNotAhead) f) (λ y. far .writerOwnsLatest y (was f))
               (was-writing w);
-          L4 = λ m f. far .L4 (was-marked m) (was f);
+          markedOwnsLatest = λ m f. far .markedOwnsLatest (was-marked m) (was f);
         }
 
     granted-from : (t : ℕ) → eqb t i ≡ false → Apart (g .latest) (client t) granted
     granted-from t e =
         record {
-          S2 = λ p w. absurd (free .writing t e p w);
-          S3 = λ m. absurd (free .marked t e m);
-          S5 = λ w p. may .unwritten (permission p) t e w;
-          L3 = λ w f. may .unwritten (sym current ∙ f) t e w;
-          L4 = λ m. absurd (free .marked t e m);
+          cachingWriterAlone = λ p w. absurd (free .writing t e p w);
+          markedExcludes = λ m. absurd (free .marked t e m);
+          writerBarsCaching = λ w p. may .unwritten (permission p) t e w;
+          writerOwnsLatest = λ w f. may .unwritten (sym current ∙ f) t e w;
+          markedOwnsLatest = λ m. absurd (free .marked t e m);
         }
 
     apart-others : (s t : ℕ) → eqb t s ≡ false → Apart (g .latest) (client s) (client t)
     apart-others s t e =
         let far = h .apart s t e in
-        let was = next .was (client t .cached) (h .own t .L1) in
+        let was = next .was (client t .label) (h .own t .labelNotAhead) in
         record {
-          S2 = far .S2;
-          S3 = far .S3;
-          S5 = far .S5;
-          L3 = λ w f. far .L3 w (was f);
-          L4 = λ m f. far .L4 m (was f);
+          cachingWriterAlone = far .cachingWriterAlone;
+          markedExcludes = far .markedExcludes;
+          writerBarsCaching = far .writerBarsCaching;
+          writerOwnsLatest = λ w f. far .writerOwnsLatest w (was f);
+          markedOwnsLatest = λ m f. far .markedOwnsLatest m (was f);
         }
 
     -- the copy check: what is kept was of the latest version
@@ -189,17 +189,17 @@ module _
         (λ keep.
         let p = permission-is g (client i) mode ∙ and-left (g .caching) _ keep in
         record {
-          D1 = was .D1;
-          D2 = λ d. ⊎-elim
+          dirtyIsHeld = was .dirtyIsHeld;
+          dirtyIsOwned = λ d. ⊎-elim
               (λ m. split (isWrite mode) (λ w. inr (writers-are g (client i) mode ∙ or-left _ w, p))
               (λ r. inl (marked-as-before g (client i) mode r ∙ m)))
-              (λ x. inr (writers-are g (client i) mode ∙ or-right (isWrite mode) (x .0), p)) (was .D2 d);
-          D3 = λ y _. was .D3 y (next .kept (client i .cached) (h .own i .L1) (and-right (g .caching) _ keep));
+              (λ x. inr (writers-are g (client i) mode ∙ or-right (isWrite mode) (x .0), p)) (was .dirtyIsOwned d);
+          heldIsRight = λ y _. was .heldIsRight y (next .kept (client i .label) (h .own i .labelNotAhead) (and-right (g .caching) _ keep));
         })
         (λ _. record {
-          D1 = λ d. absurd (false≢true d);
-          D2 = λ d. absurd (false≢true d);
-          D3 = λ y. absurd (false≢true y);
+          dirtyIsHeld = λ d. absurd (false≢true d);
+          dirtyIsOwned = λ d. absurd (false≢true d);
+          heldIsRight = λ y. absurd (false≢true y);
         })
 
     copied-others :
@@ -207,7 +207,7 @@ module _
         → Copied version (client t) copy held dirty k
         → Copied (g .latest) (client t) copy held dirty k
     copied-others t was =
-        record { D1 = was .D1; D2 = was .D2; D3 = λ y f. was .D3 y (next .was (client t .cached) (h .own t .L1) f) }
+        record { dirtyIsHeld = was .dirtyIsHeld; dirtyIsOwned = was .dirtyIsOwned; heldIsRight = λ y f. was .heldIsRight y (next .was (client t .label) (h .own t .labelNotAhead) f) }
 
     -- and a dirty block is kept: its client has permission, and its copy is of the latest version
     dirty-kept :
@@ -216,8 +216,8 @@ module _
         → dirty i ≡ true
         → keepsBlocks mode g (client i) ≡ true
     dirty-kept s d =
-        and-both (⊎-elim (may .marked) (λ x. may .writing (x .1) (x .0)) (s .copied i .D2 d))
-        (next .keeps (client i .cached) (dirty-latest s i d))
+        and-both (⊎-elim (may .marked) (λ x. may .writing (x .1) (x .0)) (s .copied i .dirtyIsOwned d))
+        (next .keeps (client i .label) (dirty-latest s i d))
 
     sound-granted :
         {block : ℕ} {copy : ℕ → ℕ} {held dirty : ℕ → Bool} {k : ℕ}
@@ -230,13 +230,13 @@ module _
     sound-granted {block} {copy} {held} {dirty} {k} s below =
         let keep = keepsBlocks mode g (client i) in
         record {
-          clients = clients-at h (g .latest) i granted below (next .V0) own-granted own-others granted-to granted-from
+          clients = clients-at h (g .latest) i granted below (next .versionNotZero) own-granted own-others granted-to granted-from
               apart-others;
           copied = change (λ j b. Copied (g .latest) (cond b granted (client j))
               (cond b (cond keep (copy i) 0) (copy j))
               (cond b (cond keep (held i) false) (held j)) (cond b (cond keep (dirty i) false) (dirty j)) k) i
               (copied-granted (s .copied i)) (λ j _. copied-others j (s .copied j));
-          D4 = λ clean. s .D4 (change (λ j _. dirty j ≡ true → ⊥) i
+          cleanIsRight = λ clean. s .cleanIsRight (change (λ j _. dirty j ≡ true → ⊥) i
               (λ d. clean i (at-same i _ dirty ∙ subst (λ b. cond b (dirty i) false ≡ true) (sym (dirty-kept s d)) d))
               (λ j e d. clean j (at-other i j _ dirty e ∙ d)));
         }
@@ -272,7 +272,7 @@ grant-kept n v k i mode bound h below left free =
     let e = v .entry in
     let g = grantOf n e i mode in
     let clients = h .sound .clients in
-    let next : Latest (e .version) mode (g .latest) = latest (e .version) (clients .V0) mode left in
+    let next : Latest (e .version) mode (g .latest) = latest (e .version) (clients .versionNotZero) mode left in
     let records : recordAt e ≡ (λ s. v .client s .opens) = fun-ext (λ s. h .table .known s refl) in
     let may : Permitted (v .client) i mode (g .caching)
     = subst (λ r. Permitted (v .client) i mode (permissionAtGrant n r i mode)) (sym records)

@@ -42,7 +42,7 @@ module _ (n : ℕ) (r : ℕ → ClientRecord) (last t : ℕ) where
       → eqb t last ≡ true
       → writesBack (kind mode) ≡ true
   unfolding stateOf
-  reader-sends mode one cached unwritten below o same =
+  reader-sends mode one all-cache unwritten below o same =
       let opened = ne-eqb (tally n r Open) 0 (omega arith) in
       let single = eq-eqb (tally n r Open) 1 one in
       let unshared = le-ltb 0 (tally n r Uncached) (omega arith) in
@@ -62,7 +62,7 @@ module _ (n : ℕ) (r : ℕ → ClientRecord) (last t : ℕ) where
       → isOpen (r t) ≡ true
       → kind mode ≡ 3
   unfolding stateOf
-  writer-both mode one cached some o =
+  writer-both mode one all-cache some o =
       let opened = ne-eqb (tally n r Open) 0 (omega arith) in
       let single = eq-eqb (tally n r Open) 1 one in
       let unshared = le-ltb 0 (tally n r Uncached) (omega arith) in
@@ -70,14 +70,14 @@ module _ (n : ℕ) (r : ℕ → ClientRecord) (last t : ℕ) where
       simp (opened, single, unshared, written, o)
 
   -- at a write open, one that may cache is called to invalidate, whatever the state
-  pub cached-drops :
+  pub caching-drops :
       0 < tally n r Open
       → isOpen (r t) ≡ true
       → r t .caching ≡ true
       → (eqb (tally n r Open) 1 ≡ true → (ltb last n && isOpen (r last)) ≡ true → eqb t last ≡ true)
       → invalidates (kind Write) ≡ true
   unfolding stateOf
-  cached-drops some o p single-is =
+  caching-drops some o p single-is =
       let opened = ne-eqb (tally n r Open) 0 (omega arith) in
       split (ltb 0 (tally n r Uncached)) (λ shared. simp (opened, shared, o, p))
       (λ unshared. split (eqb (tally n r Open) 1)

@@ -9,14 +9,14 @@ use borrow.Author.Tests.{ne-eqb}
 use Rattle.records.specs.declared.record.Mode.{Mode}
 use Rattle.records.specs.declared.record.Mode.the-variants.{Read, Write}
 use Rattle.records.specs.declared.version.Version.{Version}
-use Rattle.records.specs.Version.{versionOf, numberOf, sameVersion, isLastVersion, nextVersion, latestAt}
+use Rattle.records.specs.Version.{versionOf, firstVersion, numberOf, sameVersion, isLastVersion, nextVersion, latestAt}
 use Rattle.records.specs.Record.{isWrite}
 use Rattle.protocol.specs.Copy.{keepsCopy}
 use Rattle.protocol.proofs.Invariant.Flags.{conflict, split}
 
 -- What the clauses need of the latest version that a grant tells, where the file has had this version.
 pub record Latest (version : Version) (mode : Mode) (later : Version) : Type 0 where
-  pub V0 : eqb (numberOf later) 0 ≡ false
+  pub versionNotZero : eqb (numberOf later) 0 ≡ false
   pub rises : numberOf version ≤ numberOf later
   -- A read open stores the version as it is, a write open the latest.
   pub stored : cond (isWrite mode) later version ≡ later
@@ -42,9 +42,9 @@ pub record Latest (version : Version) (mode : Mode) (later : Version) : Type 0 w
       → sameVersion label version ≡ true
   pub keeps : (label : Version) → sameVersion label version ≡ true → keepsCopy mode label later ≡ true
 
-module _ (version : Version) (V0 : eqb (numberOf version) 0 ≡ false) where
+module _ (version : Version) (versionNotZero : eqb (numberOf version) 0 ≡ false) where
   read-is : latestAt Read version ≡ version
-  read-is = ap (λ b. cond b (versionOf 1) version) V0
+  read-is = ap (λ b. cond b firstVersion version) versionNotZero
 
   write-is : isLastVersion version ≡ false → latestAt Write version ≡ versionOf (numberOf version + 1)
   write-is left = ap nextVersion read-is ∙ ap (λ b. cond b version (versionOf (numberOf version + 1))) left
@@ -52,7 +52,7 @@ module _ (version : Version) (V0 : eqb (numberOf version) 0 ≡ false) where
   at-read : Latest version Read version
   at-read =
       record {
-        V0 = V0;
+        versionNotZero = versionNotZero;
         rises = omega arith;
         stored = refl;
         was = λ _ _ e. e;
@@ -74,7 +74,7 @@ module _ (version : Version) (V0 : eqb (numberOf version) 0 ≡ false) where
   at-write : Latest version Write (versionOf (numberOf version + 1))
   at-write =
       record {
-        V0 = ne-eqb (numberOf version + 1) 0 (omega arith);
+        versionNotZero = ne-eqb (numberOf version + 1) 0 (omega arith);
         rises = omega arith;
         stored = refl;
         was = λ label l e. absurd (conflict e (new label l));

@@ -2,7 +2,7 @@
 -- once no callback is out. It leads to the promises waitsFor, opens and answersLast. Assumes nothing.
 use Prim.Native.Nat.{ℕ, _<_, _≤_}
 use mathlib.Core.Path.{_≡_, refl, sym, _∙_, ap, subst, fun-ext}
-use mathlib.Core.Bool.{true, false, cond, _&&_}
+use mathlib.Core.Bool.{true, false, cond, not, _&&_}
 use mathlib.Core.List.{List}
 use native.Mathlib.Nat.{le-of-eq}
 use native.Mathlib.Omega.{arith}
@@ -29,20 +29,19 @@ use Rattle.protocol.proofs.Invariant.Kind.{same-sends, same-drops}
 use Rattle.protocol.proofs.Invariant.Grant.{ready, grant-kept}
 use Rattle.protocol.proofs.Invariant.Answer.{answer-kept, called-waits}
 
--- where a count of numbers above 0 is 0, each is 0
+-- where a count of numbers other than 0 is 0, each is 0
 silent :
     (n : ℕ) (f : ℕ → ℕ)
-    → eqb (count n (λ i. ltb 0 (f i))) 0 ≡ true
+    → eqb (count n (λ i. not (eqb (f i) 0))) 0 ≡ true
     → ((t : ℕ) → n ≤ t → f t ≡ 0)
     → (t : ℕ)
     → f t ≡ 0
 silent n f none out t =
     split (ltb t n)
-    (λ below. split (ltb 0 (f t))
-    (λ e. let more = some n (λ i. ltb 0 (f i)) t (ltb-true t n below) e in
-    let zero = eqb-true (count n (λ i. ltb 0 (f i))) 0 none in
-    absurd (omega arith))
-    (λ e. let zero = ltb-false 0 (f t) e in omega arith))
+    (λ below. split (eqb (f t) 0) (λ e. eqb-true (f t) 0 e)
+    (λ e. let more = some n (λ i. not (eqb (f i) 0)) t (ltb-true t n below) (rw e) in
+    let zero = eqb-true (count n (λ i. not (eqb (f i) 0))) 0 none in
+    absurd (omega arith)))
     (λ is. out t (ltb-false t n is))
 
 -- a list of one callback for each client calls nobody else
@@ -66,7 +65,7 @@ waiting-kinds {calls = calls} h =
       writing = λ t e p w. ap kindOf (h .writing t e p w);
       caching = λ t e w p. same-drops (calls t) ∙ h .caching t e w p;
       alone = λ s t w. h .alone s t (sym (same-sends (calls t)) ∙ w);
-      W6 = h .W6;
+      versionLeft = h .versionLeft;
     }
 
 -- Client i opens in the mode, and there is a version left.
@@ -126,6 +125,6 @@ answer-last-kept n v k i bound h below called quiet =
     let h′ = answer-kept n v k i bound h below called in
     let ws = h′ .waiting is in (
       waiter,
-      grant-kept n later k (v .entry .waiter) (v .entry .mode) bound h′ waiter (ws .W6)
+      grant-kept n later k (v .entry .waiter) (v .entry .mode) bound h′ waiter (ws .versionLeft)
           (ready ws (silent n (callTo n (later .entry)) quiet (uncalled n (later .entry) (h′ .calls)))),
     )

@@ -125,7 +125,7 @@ module _
     no-others property m =
         le-ltb 0 (others n r property i)
         (le-of-eq (none n (λ j. not (eqb j i) && has property (r j))
-        (λ j _ q. h .apart i j (not-true (eqb j i) (and-left _ (has property (r j)) q)) .S3 m
+        (λ j _ q. h .apart i j (not-true (eqb j i) (and-left _ (has property (r j)) q)) .markedExcludes m
         (inl (counted-open property (r j) (and-right (not (eqb j i)) _ q))))))
 
     no-uncached : client i .marked ≡ true → ltb 0 (tally n r Uncached) ≡ false
@@ -133,9 +133,9 @@ module _
         le-ltb 0 (tally n r Uncached)
         (le-of-eq (none n (λ j. has Uncached (r j))
         (λ j _. change (λ j _. has Uncached (r j) ≡ true → ⊥) i
-        (λ q. conflict (h .own i .S4 m (counted-open Uncached (r i) q))
+        (λ q. conflict (h .own i .markedOpenCaches m (counted-open Uncached (r i) q))
         (not-true (r i .caching) (and-right (isOpen (r i)) _ q)))
-        (λ j e q. h .apart i j e .S3 m (inl (counted-open Uncached (r j) q))) j)))
+        (λ j e q. h .apart i j e .markedExcludes m (inl (counted-open Uncached (r j) q))) j)))
 
     -- what is kept was there
     had : keepsPermission mode (r i) ≡ true → permissionAtGrant n r i mode ≡ true → mayCache (client i) ≡ true
@@ -145,14 +145,14 @@ module _
     permitted =
         record {
           unwritten = λ p t e w. split (keepsPermission mode (r i))
-              (λ keeps. h .apart t i (other-sym i t e) .S5 w (had keeps p))
+              (λ keeps. h .apart t i (other-sym i t e) .writerBarsCaching w (had keeps p))
               (λ asks. conflict p (is-denied-beside-writers n r i mode asks (counts Writing t e w)));
           alone = λ p w t e o. split (keepsPermission mode (r i))
-              (λ keeps. h .apart i t e .S2 (had keeps p) (keeper-writes mode (r i) keeps w) o)
+              (λ keeps. h .apart i t e .cachingWriterAlone (had keeps p) (keeper-writes mode (r i) keeps w) o)
               (λ asks. conflict p
               (is-denied-to-writers n r i mode asks (asker-writes mode (r i) asks w) (counts Open t e o)));
           marked = λ m. split (keepsPermission mode (r i))
-              (λ keeps. is-kept n r i mode keeps ∙ h .own i .S4 m (keeper-open mode (r i) keeps))
+              (λ keeps. is-kept n r i mode keeps ∙ h .own i .markedOpenCaches m (keeper-open mode (r i) keeps))
               (λ asks. is-given n r i mode asks (no-others Writing m) (no-others Open m) (no-uncached m));
           writing = λ p w. is-kept n r i mode (writer-keeps mode (r i) w) ∙ p;
         }

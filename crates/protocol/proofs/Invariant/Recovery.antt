@@ -23,7 +23,7 @@ use Rattle.protocol.proofs.Invariant.Flags.{conflict, split, change}
 use Rattle.protocol.proofs.Invariant.Last.{last-none, last-one, last-same}
 use Rattle.protocol.proofs.Invariant.Change.{marked-is-client}
 
--- the table after a crash, which nobody has told anything
+-- the table after a crash, which nobody has heard anything
 crashed-table :
     (n : ℕ) (v : Version) (client : ℕ → ClientFile)
     → n ≤ nobody
@@ -45,7 +45,7 @@ crash-kept n v k bound h =
       sound = h .sound;
       table = crashed-table n (v .entry .version) (v .client) bound;
       calls = length-replicate n 0;
-      B1 = le-ltb nobody n bound;
+      noneWaits = le-ltb nobody n bound;
       before = h .table;
       version = refl;
     }
@@ -60,7 +60,7 @@ crash-again-kept n v k reported row bound h =
       sound = h .sound;
       table = crashed-table n (v .entry .version) (v .client) bound;
       calls = length-replicate n 0;
-      B1 = le-ltb nobody n bound;
+      noneWaits = le-ltb nobody n bound;
       before = h .before;
       version = h .version;
     }
@@ -69,46 +69,46 @@ module _
     {n : ℕ}
     {version : Version}
     {client : ℕ → ClientFile}
-    {told : ℕ → Bool}
+    {heard : ℕ → Bool}
     (c : Clients n version client)
     (e : Entry)
-    (h : Agrees n (e .records) (e .last) client told)
+    (h : Agrees n (e .records) (e .last) client heard)
   where
     -- the last writer after the report of client i: where i is marked no other client is, so that none is lost
-    last-told :
+    last-heard :
         (i : ℕ)
         → i < n
-        → LastWriter n (reportedEntry e i (client i) .last) client (at i true told)
-    last-told i below =
+        → LastWriter n (reportedEntry e i (client i) .last) client (at i true heard)
+    last-heard i below =
         split (client i .marked)
         (λ m. let is : reportedEntry e i (client i) .last ≡ i = cc in
-        rw is (last-one i below m (λ s away x. c .apart i s away .S3 m (inr x))))
+        rw is (last-one i below m (λ s away x. c .apart i s away .markedExcludes m (inr x))))
         (λ unmarked. let is : reportedEntry e i (client i) .last ≡ e .last = cc in
         rw is (last-same (h .lastWriter)
-        (change (λ s b. cond b true (told s) ≡ true → client s .marked ≡ true
-        → (told s ≡ true) × (client s .marked ≡ true)) i
+        (change (λ s b. cond b true (heard s) ≡ true → client s .marked ≡ true
+        → (heard s ≡ true) × (client s .marked ≡ true)) i
         (λ _ m. absurd (conflict m unmarked)) (λ _ _ t m. (t, m)))
         (λ _ m. m)))
 
     -- the table after it
-    told-by :
+    heard-by :
         (i : ℕ)
         → i < n
-        → Agrees n (reportedEntry e i (client i) .records) (reportedEntry e i (client i) .last) client (at i true told)
-    told-by i below =
+        → Agrees n (reportedEntry e i (client i) .records) (reportedEntry e i (client i) .last) client (at i true heard)
+    heard-by i below =
         let fits : i < length (e .records) = subst (λ m. i < m) (sym (h .size)) below in
         record {
           size = length-set (e .records) i _ ∙ h .size;
-          known = change (λ s b. cond b true (told s) ≡ true
+          known = change (λ s b. cond b true (heard s) ≡ true
               → recordAt (reportedEntry e i (client i)) s ≡ client s .opens) i
               (λ _. getD-set-same (e .records) i _ notOpen fits)
               (λ s away t. getD-set-other (e .records) i s _ notOpen (eqb-false s i away) ∙ h .known s t);
-          lastWriter = last-told i below;
+          lastWriter = last-heard i below;
         }
 
-    -- once all clients have told it, the table agrees with everybody
-    told-all : ((s : ℕ) → s < n → told s ≡ true) → Agrees n (e .records) (e .last) client everybody
-    told-all all =
+    -- once all clients have heard it, the table agrees with everybody
+    heard-all : ((s : ℕ) → s < n → heard s ≡ true) → Agrees n (e .records) (e .last) client everybody
+    heard-all all =
         record {
           size = h .size;
           known = λ s _. split (ltb s n)
@@ -127,9 +127,9 @@ pub report-kept :
 report-kept n v k i reported row h below =
     record {
       sound = h .sound;
-      table = told-by (h .sound .clients) (v .entry) (h .table) i below;
+      table = heard-by (h .sound .clients) (v .entry) (h .table) i below;
       calls = h .calls;
-      B1 = h .B1;
+      noneWaits = h .noneWaits;
       before = h .before;
       version = h .version;
     }
@@ -163,11 +163,11 @@ pub end-kept :
     → ((i : ℕ) → i < n → reported i ≡ true)
     → Running n v k × (rowOf (v .entry) ≡ row) × (waits n (v .entry) ≡ false)
 end-kept n v k reported row h all =
-    let table = told-all (h .sound .clients) (v .entry) (h .table) all in
+    let table = heard-all (h .sound .clients) (v .entry) (h .table) all in
     let records = same-records table (h .before) in
     let last = same-last table (h .before) in
     let version = h .version in (
-      record { sound = h .sound; table = table; calls = h .calls; waiting = λ w. absurd (conflict w (h .B1)) },
+      record { sound = h .sound; table = table; calls = h .calls; waiting = λ w. absurd (conflict w (h .noneWaits)) },
       (λ i. record { records = records i; version = sym version i; last = last i }),
-      h .B1,
+      h .noneWaits,
     )

@@ -18,7 +18,7 @@ use Rattle.access.specs.Access as parts
 use Rattle.access.specs.Access.{unlessRefused, storedIf}
 use Rattle.service.specs.declared.service.Service.{Service}
 use Rattle.service.specs.declared.outcome.Outcome.{Outcome}
-use Rattle.service.specs.Places.{clientAt, reportedAt, blockAt, copyAt, heldAt, dirtyAt}
+use Rattle.service.specs.Contents.{clientAt, reportedAt, blockAt, copyAt, heldAt, dirtyAt}
 use Rattle.service.specs.Refusal.{refusalOf}
 use Rattle.service.specs.Next.{fetches, valueRead}
 use Rattle.service.specs.Answer.{noCalls}
@@ -129,16 +129,16 @@ module _ (s : Service) (i f b v : ℕ) where
   abbrev writeRefused : ℕ → ℕ → ℕ → ℕ
   writeRefused j g c = firstOf (writeTests (s .server .recovering) (reportedAt s j) (clientAt s j g) i f b)
 
-  abbrev cached : ℕ → ℕ → Bool
-  cached j g = clientAt s j g .opens .caching
+  abbrev caches : ℕ → ℕ → Bool
+  caches j g = clientAt s j g .opens .caching
 
   abbrev writeWith : ℕ → ℕ → ℕ → ℕ → Outcome
   writeWith j g c k =
       withArrays s
-      (storedIf (eqb k 0 && not (cached j g)) (place g c) v (s .server .blocks))
-      (storedIf (eqb k 0 && cached j g) (cell j g c) v (s .copies))
-      (storedIf (eqb k 0 && cached j g) (cell j g c) true (s .held))
-      (storedIf (eqb k 0 && cached j g) (cell j g c) true (s .dirty))
+      (storedIf (eqb k 0 && not (caches j g)) (place g c) v (s .server .blocks))
+      (storedIf (eqb k 0 && caches j g) (cell j g c) v (s .copies))
+      (storedIf (eqb k 0 && caches j g) (cell j g c) true (s .held))
+      (storedIf (eqb k 0 && caches j g) (cell j g c) true (s .dirty))
       (unlessRefused k Done)
 
   pub write-arm :
@@ -150,7 +150,7 @@ module _ (s : Service) (i f b v : ℕ) where
       access s (Write i f b v) i f b writeRefused writeWith (λ j g c e. rw e) (λ j g c e e′. rw (e, e′)) (λ j g c e e′ e″. rw (e, e′, e″))
       refl
       (λ j g c k h. rw h)
-      (λ e. split (cached i f) (λ q. rw (e, q)) (λ q. rw (e, q)))
+      (λ e. split (caches i f) (λ q. rw (e, q)) (λ q. rw (e, q)))
       ∙ same-arrays s (sym (r .serverAfter)) (sym (r .copiesAfter)) (sym (r .heldAfter)) (sym (r .dirtyAfter)) (sym (r .answer))
 
 module _ (s : Service) (i f b : ℕ) where

@@ -1,4 +1,4 @@
--- An answer, put together from its parts: the callback is answered at both ends, and the waiting open is granted if that was the last
+-- An answer, put together from its parts: the callback is answered at both sides, and the waiting open is granted if that was the last
 -- answer. Assumes nothing.
 use Prim.Native.Nat.{ℕ, _*_, _%_, _<_}
 use mathlib.Core.Path.{_≡_, refl, sym, ap, ap₂, fun-ext, _∙_}
@@ -19,12 +19,12 @@ use Rattle.protocol.specs.Sizes.{clients, files, blocks, slot, place, cell}
 use Rattle.protocol.specs.Callback.{writesBack, invalidates}
 use Rattle.protocol.specs.Entry.{waits, callTo, callsOut, grantOf, grantedEntry, answeredEntry}
 use Rattle.protocol.specs.Client.{grantedClient, keepsBlocks, answeredClient, kept, sent}
-use Rattle.ends.specs.declared.ends.Ends.{Ends}
-use Rattle.ends.specs.declared.ends.CallAnswer.{CallAnswer}
-use Rattle.ends.specs.Ends.{unchangedEnds, grantedEnds, answerRefusal, answerCall, grantsWaiter, grantWaiter}
+use Rattle.opening.specs.declared.opening.Change.{Change}
+use Rattle.opening.specs.declared.opening.CallAnswer.{CallAnswer}
+use Rattle.opening.specs.Opening.{unchanged, grantedChange, answerRefusal, answerCall, grantsWaiter, grantWaiter}
 use Rattle.service.specs.declared.service.Service.{Service}
 use Rattle.service.specs.declared.outcome.Outcome.{Outcome}
-use Rattle.service.specs.Places.{noEntry, noClient, entryAt, clientIn, clientAt, withEntry}
+use Rattle.service.specs.Contents.{noEntry, noClient, entryAt, clientIn, clientAt, withEntry}
 use Rattle.service.specs.Refusal.{refusalOf}
 use Rattle.service.specs.Next.{callAnswered}
 use Rattle.service.specs.Answer.{noCalls}
@@ -44,7 +44,7 @@ called-waits e i h = split (waits clients e) (λ q. q) (λ q. absurd (true≢fal
 waiter-waits :
     (x : Entry) (own : ClientFile) (kind : ℕ) (r : Reply)
     → eqb (callsOut clients x) 0 ≡ false
-    → grantWaiter x own kind r ≡ unchangedEnds x own r
+    → grantWaiter x own kind r ≡ unchanged x own r
 unfolding grantWaiter
 waiter-waits x own kind r e = passes (grantsWaiter x kind) _ _ (rw (e, and-false, and-false))
 
@@ -54,18 +54,18 @@ waiter-granted :
     → waits clients x ≡ true
     → eqb (callsOut clients x) 0 ≡ true
     → grantWaiter x own kind r
-    ≡ grantedEnds x own (x .waiter) (x .mode) (grantOf clients x (x .waiter) (x .mode))
+    ≡ grantedChange x own (x .waiter) (x .mode) (grantOf clients x (x .waiter) (x .mode))
     (AnsweredGrant (x .waiter) (grantOf clients x (x .waiter) (x .mode)))
 unfolding grantWaiter
 waiter-granted x own kind r k w e = picks (grantsWaiter x kind) _ _ (rw (k, e, w))
 
--- The outcome of the parts: the answer a of client j on file g, and the ends e of the waiting client w. `base` and `to` say where a
+-- The outcome of the parts: the answer a of client j on file g, and the change e of the waiting client w. `base` and `to` say where a
 -- client's copies and a file's blocks begin, and `clean` keeps the dirty flags.
 module _ (s : Service) (base : ℕ → ℕ → ℕ) (to : ℕ → ℕ) (j g : ℕ) (a : CallAnswer) where
   abbrev ownStored : List ClientFile
   ownStored = set (s .clients) (slot j g) (a .own)
 
-  abbrev pub withGrant : ℕ → Ends → Bool → Outcome
+  abbrev pub withGrant : ℕ → Change → Bool → Outcome
   withGrant w e clean =
       record {
         service =
@@ -86,11 +86,11 @@ module _ (s : Service) (base : ℕ → ℕ → ℕ) (to : ℕ → ℕ) (j g : �
         calls = noCalls;
       }
 
-  abbrev waiterEnds : ℕ → Ends
-  waiterEnds w = grantWaiter (a .entry) (clientIn ownStored w g) (a .kind) (a .reply)
+  abbrev waiterChange : ℕ → Change
+  waiterChange w = grantWaiter (a .entry) (clientIn ownStored w g) (a .kind) (a .reply)
 
   abbrev pub withAnswerAt : Outcome
-  withAnswerAt = withGrant (a .entry .waiter % clients) (waiterEnds (a .entry .waiter % clients)) (eqb (a .kind) 0)
+  withAnswerAt = withGrant (a .entry .waiter % clients) (waiterChange (a .entry .waiter % clients)) (eqb (a .kind) 0)
 
 abbrev pub withAnswer : Service → ℕ → ℕ → CallAnswer → Outcome
 withAnswer s j g a = withAnswerAt s (λ i f. slot i f * blocks) (λ f. f * blocks) j g a
@@ -176,7 +176,7 @@ module _ (s : Service) (i f : ℕ) where
   abbrev placeBase : ℕ → ℕ
   placeBase y = place y 0
 
-  abbrev nearWith : ℕ → Ends → Bool → Outcome
+  abbrev nearWith : ℕ → Change → Bool → Outcome
   nearWith w e clean = withGrant s cellBase placeBase i f answeredCall w e clean
 
   abbrev waiter : ℕ
@@ -190,28 +190,28 @@ module _ (s : Service) (i f : ℕ) where
     not-last :
         eqb (callsOut clients entryAfter) 0 ≡ false
         → (w : ℕ)
-        → acceptedWith entryAfter ≡ nearWith w (waiterEnds s cellBase placeBase i f answeredCall w) (eqb kindAt 0)
+        → acceptedWith entryAfter ≡ nearWith w (waiterChange s cellBase placeBase i f answeredCall w) (eqb kindAt 0)
     not-last e w =
         ap (acceptedIf entryAfter) e
         ∙ sym
-        (ap (λ (x : Ends). nearWith w x (eqb kindAt 0)) (waiter-waits entryAfter (waitingOwn w) kindAt Answered e)
-        ∙ ap (nearWith w (unchangedEnds entryAfter (waitingOwn w) Answered)) called
+        (ap (λ (x : Change). nearWith w x (eqb kindAt 0)) (waiter-waits entryAfter (waitingOwn w) kindAt Answered e)
+        ∙ ap (nearWith w (unchanged entryAfter (waitingOwn w) Answered)) called
         ∙ rw (set-getD (ownStored s cellBase placeBase i f answeredCall) (slot w f) noClient))
 
-    abbrev grantedToWaiter : Ends
+    abbrev grantedToWaiter : Change
     grantedToWaiter =
-        grantedEnds entryAfter (waitingOwn waiter) waiter (entryAfter .mode) (grantOfWaiter entryAfter)
+        grantedChange entryAfter (waitingOwn waiter) waiter (entryAfter .mode) (grantOfWaiter entryAfter)
         (AnsweredGrant waiter (grantOfWaiter entryAfter))
 
     -- the waiting open is granted
     last :
         eqb (callsOut clients entryAfter) 0 ≡ true
         → waits clients (entryAt s f) ≡ true
-        → acceptedWith entryAfter ≡ nearWith waiter (waiterEnds s cellBase placeBase i f answeredCall waiter) (eqb kindAt 0)
+        → acceptedWith entryAfter ≡ nearWith waiter (waiterChange s cellBase placeBase i f answeredCall waiter) (eqb kindAt 0)
     last e q =
         ap (acceptedIf entryAfter) e
         ∙ sym
-        (ap (λ (x : Ends). nearWith waiter x (eqb kindAt 0)) (waiter-granted entryAfter (waitingOwn waiter) kindAt Answered called q e)
+        (ap (λ (x : Change). nearWith waiter x (eqb kindAt 0)) (waiter-granted entryAfter (waitingOwn waiter) kindAt Answered called q e)
         ∙ ap (nearWith waiter grantedToWaiter) called
         ∙ rw set-set)
 
@@ -227,7 +227,7 @@ module _ (s : Service) (i f : ℕ) where
         (λ e.
         let q : waits clients (entryAt s f) ≡ true = called-waits (entryAt s f) i called in
         last called e q
-        ∙ ap (λ (w : ℕ). nearWith w (waiterEnds s cellBase placeBase i f answeredCall w) (eqb kindAt 0))
+        ∙ ap (λ (w : ℕ). nearWith w (waiterChange s cellBase placeBase i f answeredCall w) (eqb kindAt 0))
         (sym (mod-eq-of-lt (ltb-true waiter clients q))))
         (λ e. not-last called e (waiter % clients))
 

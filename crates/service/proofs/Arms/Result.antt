@@ -14,9 +14,9 @@ use Rattle.protocol.specs.declared.step.Step.the-variants.{Open, Close, Read, W
 use Rattle.protocol.specs.Sizes.{clients, files, blocks, slot}
 use Rattle.protocol.specs.Callback.{writesBack, invalidates}
 use Rattle.protocol.specs.Client.{kept, sent}
-use Rattle.ends.specs.declared.ends.Ends.{Ends}
-use Rattle.ends.specs.declared.ends.CallAnswer.{CallAnswer}
-use Rattle.ends.specs.Ends.{grantWaiter}
+use Rattle.opening.specs.declared.opening.Change.{Change}
+use Rattle.opening.specs.declared.opening.CallAnswer.{CallAnswer}
+use Rattle.opening.specs.Opening.{grantWaiter}
 use Rattle.protocol.specs.Lists.{firstOf}
 use Rattle.access.specs.Access as parts
 use Rattle.access.specs.Access.{unlessRefused}
@@ -24,13 +24,13 @@ use Rattle.service.specs.declared.server.Server.{Server}
 use Rattle.service.specs.declared.server.Served.{Served}
 use Rattle.service.specs.declared.service.Service.{Service}
 use Rattle.service.specs.declared.outcome.Outcome.{Outcome}
-use Rattle.service.specs.Places.{entryAt, clientIn, clientAt, reportedAt, withEntry}
+use Rattle.service.specs.Contents.{entryAt, clientIn, clientAt, reportedAt, withEntry}
 use Rattle.service.specs.Refusal.{endTests, refusalOf}
 use Rattle.service.specs.Next.{crashed, reported, ended}
 use Rattle.service.specs.Answer.{noCalls}
 use Rattle.service.specs.Served.{served, reportServed, endServed, reportsAfterEnd}
 use Rattle.service.specs.Step.{stepOf}
-use Rattle.service.proofs.Arms.{split, picks, passes, withEnds, withPair, step-refused, accepted, step-accepted}
+use Rattle.service.proofs.Arms.{split, picks, passes, withChange, withPair, step-refused, accepted, step-accepted}
 use Rattle.service.proofs.Arms.OpenClose.{openAt, closeAt, open-arm, close-arm}
 use Rattle.service.proofs.Arms.Access.{withArrays, read-arm, write-arm, flush-arm}
 use Rattle.service.proofs.Arms.Answer.{answerAt, withGrant, withAnswer, answer-arm}
@@ -56,7 +56,7 @@ same-outcome :
     → outcomeOf v cs c h d r l ≡ outcomeOf v′ cs′ c′ h′ d′ r′ l′
 same-outcome p q x y z u w = cc
 
-module _ (s : Service) (x : Step) (m : Mode) (i f : ℕ) (e : Ends) where
+module _ (s : Service) (x : Step) (m : Mode) (i f : ℕ) (e : Change) where
   pub open-result :
       (copies : List ℕ) (held dirty : List Bool)
       → x ≡ Open m i f
@@ -74,7 +74,7 @@ module _ (s : Service) (x : Step) (m : Mode) (i f : ℕ) (e : Ends) where
       ≡ stepOf s x
   open-result copies held dirty q d c h y =
       same-outcome refl refl c h y refl refl
-      ∙ sym (ap (stepOf s) q ∙ open-arm s m i f ∙ ap (withEnds s (i % clients) (f % files)) (sym d))
+      ∙ sym (ap (stepOf s) q ∙ open-arm s m i f ∙ ap (withChange s (i % clients) (f % files)) (sym d))
 
   pub close-result :
       x ≡ Close m i f
@@ -119,7 +119,7 @@ module _ (s : Service) (x : Step) (i f b : ℕ) (reply : Reply) where
       → outcomeOf (withBlocks (s .server) server) (s .clients) (s .copies) (s .held) dirty reply noCalls ≡ stepOf s x
   flush-result server dirty q r = sym (ap (stepOf s) q ∙ flush-arm s i f b reply server dirty r)
 
-module _ (s : Service) (x : Step) (i f : ℕ) (a : CallAnswer) (e : Ends) where
+module _ (s : Service) (x : Step) (i f : ℕ) (a : CallAnswer) (e : Change) where
   -- where the answering client's side of the file stands, and the waiting client's
   abbrev mine : ℕ
   mine = slot (i % clients) (f % files)
@@ -160,8 +160,8 @@ module _ (s : Service) (x : Step) (i f : ℕ) (a : CallAnswer) (e : Ends) where
       ∙ answer-arm s i f long
       ∙ ap (withAnswer s (i % clients) (f % files)) (sym d)
       ∙ ap
-      (λ (ends : Ends).
-      withGrant s (λ j g′. slot j g′ * blocks) (λ g′. g′ * blocks) (i % clients) (f % files) a (a .entry .waiter % clients) ends
+      (λ (change : Change).
+      withGrant s (λ j g′. slot j g′ * blocks) (λ g′. g′ * blocks) (i % clients) (f % files) a (a .entry .waiter % clients) change
       (eqb (a .kind) 0))
       (sym g))
 

@@ -29,7 +29,7 @@ fn first_lines(input: &[u8], lines: usize) -> &[u8] {
 
 fn is_partly_answered(service: &Service) -> bool {
     let mut entries = service.server.entries.iter();
-    entries.any(|entry| entry.waiting.is_some() && State::of(entry) == State::WriteShared)
+    entries.any(|entry| entry.waiting.read().is_some() && State::of(entry) == State::WriteShared)
 }
 
 fn is_partly_closed(service: &Service, step: &Step) -> bool {

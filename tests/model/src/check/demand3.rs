@@ -47,7 +47,7 @@ impl Demand3 {
         if self.before_recovery != Some(StateTable::of(&service.server)) {
             return Some(Breach::TableNotRestored { line });
         }
-        let waits = service.server.entries.iter().any(|entry| entry.waiting.is_some());
+        let waits = service.server.entries.iter().any(|entry| entry.waiting.read().is_some());
         waits.then_some(Breach::OpenWaitsAfterRecovery { line })
     }
 }

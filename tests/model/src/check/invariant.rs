@@ -29,7 +29,7 @@ type Clause = fn(&FileView) -> bool;
 pub const CLAUSES: [(&str, Clause); 21] = [
     ("A1", |file| file.recovering() || file.each(|s| file.record_agrees(s))),
     ("A2", |file| file.recovering() || file.each(|s| file.last_writer(s) == file.marked(s))),
-    ("B1", |file| file.running() || file.entry.waiting.is_none()),
+    ("B1", |file| file.running() || file.entry.waiting.read().is_none()),
     ("B2", |file| file.running() || file.each(|s| implies(file.reported(s), file.record_agrees(s)))),
     ("B3", |file| {
         file.running()
@@ -47,7 +47,7 @@ pub const CLAUSES: [(&str, Clause); 21] = [
     }),
     ("S4", |file| file.each(|s| implies(file.marked(s) && file.open(s), file.caches(s)))),
     ("S5", |file| file.pairs(|s, t| implies(file.writes(t), !file.caches(s)))),
-    ("L1", |file| file.each(|s| file.label(s) <= file.entry.version)),
+    ("L1", |file| file.each(|s| file.label(s) <= file.version())),
     ("L2", |file| file.each(|s| implies(file.caches(s) || file.marked(s), file.current(s)))),
     ("L3", |file| {
         file.each(|t| implies(file.writes(t) && file.current(t), file.caches(t)))
@@ -61,9 +61,9 @@ pub const CLAUSES: [(&str, Clause); 21] = [
         let clean = |b| file.each(|s| !file.dirty(s, b));
         (0..BLOCKS).all(|b| implies(clean(b), file.entry.blocks[b] == file.memory[b]))
     }),
-    ("WS", |file| file.entry.waiting.is_none_or(|open| file.callbacks_suffice(&open))),
+    ("WS", |file| file.entry.waiting.read().is_none_or(|open| file.callbacks_suffice(&open))),
     ("W6", |file| {
-        file.entry.waiting.is_none_or(|open| implies(open.mode == Mode::Write, file.entry.version < u32::MAX))
+        file.entry.waiting.read().is_none_or(|open| implies(open.mode == Mode::Write, file.version() < u32::MAX))
     }),
 ];
 
@@ -97,8 +97,12 @@ impl FileView<'_> {
         self.entry.records[s] == self.clients[s].record
     }
 
+    fn version(&self) -> u32 {
+        self.entry.version.read()
+    }
+
     fn last_writer(&self, s: usize) -> bool {
-        self.entry.last_writer == Some(s)
+        self.entry.last_writer.read() == Some(s)
     }
 
     fn reported(&self, s: usize) -> bool {
@@ -126,7 +130,7 @@ impl FileView<'_> {
     }
 
     fn current(&self, s: usize) -> bool {
-        self.label(s) == self.entry.version
+        self.label(s) == self.version()
     }
 
     fn held(&self, s: usize, b: usize) -> bool {
@@ -142,7 +146,7 @@ impl FileView<'_> {
     }
 
     fn agrees_with(&self, table: &TableEntry) -> bool {
-        table.version == self.entry.version
+        table.version == self.version()
             && self.each(|s| table.records[s] == self.clients[s].record)
             && self.each(|s| (table.last_writer == Some(s)) == self.marked(s))
     }

@@ -16,7 +16,7 @@ pub struct StateTable {
 
 impl TableEntry {
     fn of(entry: &Entry) -> Self {
-        TableEntry { records: entry.records, version: entry.version, last_writer: entry.last_writer }
+        TableEntry { records: entry.records, version: entry.version.read(), last_writer: entry.last_writer.read() }
     }
 }
 

@@ -24,6 +24,10 @@ impl Tally {
         self.waits
     }
 
+    pub fn grants_after_waits(&self) -> u64 {
+        self.grants_after_waits
+    }
+
     pub fn recoveries(&self) -> u64 {
         self.recoveries
     }

@@ -121,8 +121,12 @@ pub fn aims_for(stage: &Stage, turns: bool) -> &'static Aims {
     let server = &stage.service.server;
     if server.recovering {
         if server.reported == ClientSet::ALL { &ALL_REPORTED } else { &RECOVERING }
-    } else if stage.any(|entry| entry.waiting.is_some()) {
-        if stage.any(|entry| entry.waiting.is_some() && is_broken_off(entry)) { &PARTLY_ANSWERED } else { &WAITING }
+    } else if stage.any(|entry| entry.waiting.read().is_some()) {
+        if stage.any(|entry| entry.waiting.read().is_some() && is_broken_off(entry)) {
+            &PARTLY_ANSWERED
+        } else {
+            &WAITING
+        }
     } else if stage.any(is_broken_off) {
         &BROKEN_OFF
     } else if stage.any(|entry| State::of(entry) == State::WriteShared) {

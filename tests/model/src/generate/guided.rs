@@ -44,7 +44,7 @@ impl Guided {
         if let Some(step) = self.tide.as_mut().and_then(|tide| tide.step(&mut self.stage)) {
             return step;
         }
-        let at_rest = !self.stage.service.server.recovering && !self.stage.any(|entry| entry.waiting.is_some());
+        let at_rest = !self.stage.service.server.recovering && !self.stage.any(|entry| entry.waiting.read().is_some());
         if at_rest && self.stage.rng.one_in(SCENE) {
             self.begin_broken_off_invalidation();
         }

@@ -1,31 +1,17 @@
-//! Listings as document 01 prints them: input left, output right, then the summary.
+//! Step files and listings played from a fresh service.
 
-use model::{Document01, replay};
+mod listing;
 
-pub type Listing<'a> = &'a [(&'a str, &'a str)];
+use model::{Document01, Service, replay};
 
-/// Plays the left sides; the output must be the right sides, each after its line number, and the summary.
+use listing::{Listing, check_from};
+
+pub use listing::RECOVERY;
+
 pub fn check(listing: Listing, summary: &[&str]) {
-    let input: String = listing.iter().map(|(step, _)| format!("{step}\n")).collect();
-    let said = listing.iter().enumerate().map(|(line, (_, said))| format!("{} {said}\n", line + 1));
-    let expected: String = said.chain(summary.iter().map(|line| format!("{line}\n"))).collect();
-    assert_eq!(played(&input), expected);
+    check_from(&mut Service::fresh(), listing, summary);
 }
 
 pub fn played(input: impl AsRef<[u8]>) -> String {
     String::from_utf8(replay::<Document01>(input.as_ref(), &mut ())).expect("the output is ASCII")
 }
-
-/// A crash, the reports of all eight and the end.
-pub const RECOVERY: [(&str, &str); 10] = [
-    ("XX", "K"),
-    ("RP 0", "K"),
-    ("RP 1", "K"),
-    ("RP 2", "K"),
-    ("RP 3", "K"),
-    ("RP 4", "K"),
-    ("RP 5", "K"),
-    ("RP 6", "K"),
-    ("RP 7", "K"),
-    ("EN", "K"),
-];

@@ -15,19 +15,26 @@ invalidates-requires c κs = tt
 drop-copies-unless-requires : tie.Need-drop-copies-unless-requires
 drop-copies-unless-requires c κs = search needs
 
+asks-nothing-requires : tie.Need-asks-nothing-requires
+asks-nothing-requires c κs = tt
+
 clean-unless-requires : tie.Need-clean-unless-requires
 clean-unless-requires c κs = search needs
 
 returns : tie.Need-returns
 returns c =
-    let dropped = c .before .before in
+    let asked = c .before .before in
+    let dropped = asked .before in
     let sorted = dropped .before .before .before in
     let sent = sorted .before in
-    let told = sent .before .before .before .before in (
-      rw (← (told .writes-back .ensures)) (sent .send-if .ensures),
+    let known = sent .before .before .before .before in (
+      rw (← (known .writes-back .ensures)) (sent .send-if .ensures),
       (
         rw (← (sorted .invalidates .ensures)) (dropped .drop-copies-unless .ensures .0),
-        (rw (← (sorted .invalidates .ensures)) (dropped .drop-copies-unless .ensures .1), c .clean-unless .ensures),
+        (
+          rw (← (sorted .invalidates .ensures)) (dropped .drop-copies-unless .ensures .1),
+          rw (← (asked .asks-nothing .ensures)) (c .clean-unless .ensures),
+        ),
       ),
     )
 
@@ -39,5 +46,6 @@ answer-blocks-spec =
     send-if-requires
     invalidates-requires
     drop-copies-unless-requires
+    asks-nothing-requires
     clean-unless-requires
     returns)

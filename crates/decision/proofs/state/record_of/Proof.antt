@@ -2,7 +2,7 @@
 use mathlib.Core.Path.{sym}
 use borrow.Author.Needs.{needs}
 use Rattle.records.specs.Record.{notOpen}
-use Rattle.protocol.proofs.Places.{getD-past}
+use Rattle.protocol.proofs.Beyond.{getD-past}
 use Rattle.decision.proofs.state.record_of.Statement.{statement}
 use Rattle.decision.proofs.state.record_of.Tie as tie
 

@@ -1,17 +1,75 @@
--- `play_turn` meets its contract: its parts give what `Turning` asks for. Assumes nothing.
-use Prim.Native.Nat.{ℕ, _≤_}
-use mathlib.Core.Path.{_≡_, sym, ap, _∙_}
-use mathlib.Core.Bool.{not}
+-- `play_turn` meets its contract: its parts give what the definitions put together. Assumes nothing.
+use Prim.Native.Nat.{ℕ, _-_, _≤_}
+use mathlib.Core.Path.{_≡_, refl, sym, ap, _∙_}
+use mathlib.Core.Bool.{Bool, not}
+use mathlib.Core.List.{List}
 use native.Mathlib.Omega.{arith}
-use lib.ListN.{length, take}
-use lib.Seq.{length-take-le}
+use lib.ListN.{length, take, drop}
+use lib.Seq.{length-take-le, paste}
 use denote.Ref.{now}
 use borrow.Author.Needs.{needs}
-use Rattle.player.specs.Turn.{Turned}
-use Rattle.player.proofs.Playing.{same-length as still-long}
-use Rattle.player.proofs.Turning.{used-most, rest-most, turned}
+use Rattle.service.specs.declared.service.Service.{Service}
+use Rattle.lines.specs.declared.lines.Progress.{Progress}
+use Rattle.player.specs.declared.turn.Turn.{Turn}
+use Rattle.lines.specs.Lines.{canReply, lineProgress, linesWritten}
+use Rattle.player.specs.Turn.{least, keptOf, turnOf, bufferAfter}
+use Rattle.player.proofs.Turning.{take-least, length-take-least, used-most, rest-most, rest-inside, buffer-long, out-long}
 use Rattle.player.proofs.turn.play_turn.Statement.{statement}
 use Rattle.player.proofs.turn.play_turn.Tie as tie
+
+-- what the parts give, one after the other
+pub record Parts (s : Service) (n : ℕ) (buffer : List ℕ) (filled : ℕ) (out : List ℕ)
+    (m : ℕ) (p : Progress) (out′ : List ℕ) : Type 0 where
+  pub counted : m ≡ least filled (length buffer)
+  pub progress : p ≡ lineProgress s n (take m buffer) out
+  pub writes : out′ ≡ linesWritten s n (take m buffer) out
+  pub fits : p .written ≤ length out
+
+module _
+    (s : Service) (n : ℕ) (buffer : List ℕ) (filled : ℕ) (out : List ℕ) (m : ℕ) (p : Progress) (out′ : List ℕ)
+    (w : Parts s n buffer filled out m p out′) where
+  abbrev bytes : List ℕ
+  bytes = take filled buffer
+
+  same-bytes : take m buffer ≡ bytes
+  same-bytes = ap (λ (k : ℕ). take k buffer) (w .counted) ∙ take-least filled buffer
+
+  is-progress : p ≡ lineProgress s n bytes out
+  is-progress = w .progress ∙ ap (λ (l : List ℕ). lineProgress s n l out) same-bytes
+
+  is-written : out′ ≡ linesWritten s n bytes out
+  is-written = w .writes ∙ ap (λ (l : List ℕ). linesWritten s n l out) same-bytes
+
+  count : m ≡ length bytes
+  count = w .counted ∙ sym (length-take-least filled buffer)
+
+  used-inside : p .used ≤ m
+  used-inside =
+      omega (arith, count, ap (λ (x : Progress). x .used) is-progress, used-most s n buffer filled out)
+
+  module _ (can : Bool) (rest : ℕ) (canned : can ≡ canReply (length out) (p .written) (p .number)) (kept : rest ≡ keptOf can (m - p .used)) where
+    is-turn :
+        record { service = p .service; number = p .number; rest = rest; written = p .written; paused = not can }
+        ≡ turnOf s n bytes out
+    is-turn = rw (kept, canned, count, is-progress)
+
+    rest-part : rest ≤ m - p .used
+    rest-part =
+        omega
+        (arith, count, ap (λ (x : Turn). x .rest) is-turn, ap (λ (x : Progress). x .used) is-progress, rest-most s n buffer filled out)
+
+    is-moved : paste buffer 0 (drop (p .used) buffer) rest ≡ bufferAfter s n buffer bytes out
+    is-moved =
+        ap (λ (x : Progress). paste buffer 0 (drop (x .used) buffer) rest) is-progress
+        ∙ ap (λ (x : Turn). paste buffer 0 (drop (lineProgress s n bytes out .used) buffer) (x .rest)) is-turn
+
+    is-left : rest ≤ length buffer
+    is-left = omega (arith, ap (λ (x : Turn). x .rest) is-turn, rest-inside s n buffer filled out)
+
+  pub same-out : length out′ ≡ length out
+  same-out =
+      ap length is-written
+      ∙ out-long s n buffer filled out (omega (arith, w .fits, ap (λ (x : Progress). x .written) is-progress))
 
 least-requires : tie.Need-least-requires
 least-requires c κs = tt
@@ -21,77 +79,98 @@ slice-reshare-prefix-play-lines c = search needs
 
 slice-aggregate-play-lines : tie.Need-slice-aggregate-play-lines
 slice-aggregate-play-lines c =
-    let told = c .before in
-    sym (length-take-le (told .least .result) (now (told .before .before .before .args .buffer)) (told .least .ensures .1))
+    let counted = c .before in
+    sym (length-take-le (counted .least .result) (now (counted .before .before .before .args .buffer)) (counted .least .ensures .1))
 
 play-lines-requires : tie.Need-play-lines-requires
 play-lines-requires c κs = tt
 
-can-tell-requires : tie.Need-can-tell-requires
-can-tell-requires c κs = tt
+-- what is known once the bytes are played
+module _ (d : tie.After-play-lines) where
+  abbrev counted : tie.After-least
+  counted = d .before .before .before
+
+  abbrev start : tie.Start
+  start = counted .before .before .before
+
+  parts :
+      Parts (start .args .service) (start .args .number) (now (start .args .buffer)) (start .args .filled) (now (start .args .out))
+      (counted .least .result) (d .play-lines .result) (d .play-lines .last .1 .1 .1 .0)
+  parts =
+      let lines = d .play-lines in
+      record {
+        counted = counted .least .ensures .0;
+        progress = lines .ensures .0;
+        writes = lines .ensures .1 .0;
+        fits = lines .ensures .1 .1;
+      }
+
+can-reply-requires : tie.Need-can-reply-requires
+can-reply-requires c κs = tt
 
 sub-kept-of : tie.Need-sub-kept-of
-sub-kept-of c =
-    let a = c .before .before .before .before .before .before .before .before .before .args in
-    let least = c .before .before .before .before .before .before .least in
-    let played = c .before .before .before .play-lines in
-    used-most (a .service) (a .number) (now (a .buffer)) (a .filled) (now (a .out)) (least .result) (played .result) _ (least .ensures .0) (played .ensures)
+sub-kept-of c = used-inside _ _ _ _ _ _ _ _ (parts (c .before .before .before))
 
 kept-of-requires : tie.Need-kept-of-requires
 kept-of-requires c κs = tt
 
 move-down-requires : tie.Need-move-down-requires
 move-down-requires c κs =
-    let a = c .before .before .before .before .before .before .before .before .before .before .before .args in
-    let least = c .before .before .before .before .before .before .before .before .least in
-    let played = c .before .before .before .before .before .play-lines in
-    let m = least .result in
-    let part = used-most (a .service) (a .number) (now (a .buffer)) (a .filled) (now (a .out)) m (played .result) _ (least .ensures .0) (played .ensures) in
+    let d = c .before .before .before .before .before in
+    let w = parts d in
+    let part = used-inside _ _ _ _ _ _ _ _ w in
     let rest =
-    rest-most (a .service) (a .number) (now (a .buffer)) (a .filled) (now (a .out)) m (played .result) _ (least .ensures .0) (played .ensures)
-    (c .before .before .can-tell .result)
-    (c .before .kept-of .result)
-    (c .before .before .can-tell .ensures)
+    rest-part _ _ _ _ _ _ _ _ w (c .before .before .can-reply .result) (c .before .kept-of .result)
+    (c .before .before .can-reply .ensures ∙ ap (λ (k : ℕ). canReply k (d .play-lines .result .written) (d .play-lines .result .number)) (same-out _ _ _ _ _ _ _ _ w))
     (c .before .kept-of .ensures) in
-    omega (arith, part, rest, least .ensures .1)
+    omega (arith, part, rest, counted d .least .ensures .1)
 
--- what the turn leaves
-result : (c : tie.After-after)
-    → Turned (c .before .before .before .before .before .before .before .before .before .before .before .before .before .before .before .args .service) (c .before .before .before .before .before .before .before .before .before .before .before .before .before .before .before .args .number) (now (c .before .before .before .before .before .before .before .before .before .before .before .before .before .before .before .args .buffer)) (c .before .before .before .before .before .before .before .before .before .before .before .before .before .before .before .args .filled) (now (c .before .before .before .before .before .before .before .before .before .before .before .before .before .before .before .args .out))
-    (record {
-      service = c .before .before .before .before .before .before .before .before .before .play-lines .result .service;
-      number = c .before .before .before .before .before .before .before .before .before .play-lines .result .number;
-      rest = c .before .before .before .before .before .kept-of .result;
-      written = c .before .before .before .before .before .before .before .before .before .play-lines .result .written;
-      paused = not (c .before .before .before .before .before .before .can-tell .result);
-    })
-    (c .before .before .before .move-down .last .0)
-    (c .before .before .before .before .before .before .before .before .before .play-lines .last .1 .1 .1 .0)
-result c =
-    let a = c .before .before .before .before .before .before .before .before .before .before .before .before .before .before .before .args in
-    let least = c .before .before .before .before .before .before .before .before .before .before .before .before .least in
-    let played = c .before .before .before .before .before .before .before .before .before .play-lines in
-    turned (a .service) (a .number) (now (a .buffer)) (a .filled) (now (a .out)) (least .result) (played .result) _ (least .ensures .0) (played .ensures)
-    (c .before .before .before .before .before .before .can-tell .result)
-    (c .before .before .before .before .before .kept-of .result)
-    (c .before .before .before .before .before .before .can-tell .ensures)
-    (c .before .before .before .before .before .kept-of .ensures)
-    _
-    (c .before .before .before .move-down .ensures)
+-- what is known once the rest is moved
+module _ (c : tie.After-after) where
+  abbrev lines-at : tie.After-play-lines
+  lines-at = c .before .before .before .before .before .before .before .before .before
+
+  abbrev can-at : tie.After-can-reply
+  can-at = c .before .before .before .before .before .before
+
+  abbrev kept-at : tie.After-kept-of
+  kept-at = c .before .before .before .before .before
+
+  abbrev a : tie.Start
+  a = start lines-at
+
+  can-is :
+      can-at .can-reply .result
+      ≡ canReply (length (now (a .args .out))) (lines-at .play-lines .result .written) (lines-at .play-lines .result .number)
+  can-is =
+      can-at .can-reply .ensures
+      ∙ ap (λ (k : ℕ). canReply k (lines-at .play-lines .result .written) (lines-at .play-lines .result .number))
+      (same-out _ _ _ _ _ _ _ _ (parts lines-at))
+
+  is-left-so :
+      c .before .before .before .move-down .last .0
+      ≡ bufferAfter (a .args .service) (a .args .number) (now (a .args .buffer)) (take (a .args .filled) (now (a .args .buffer))) (now (a .args .out))
+  is-left-so =
+      c .before .before .before .move-down .ensures
+      ∙ is-moved _ _ _ _ _ _ _ _ (parts lines-at) (can-at .can-reply .result) (kept-at .kept-of .result) can-is (kept-at .kept-of .ensures)
 
 same-length : tie.Need-same-length
-same-length c = result c .size
+same-length c =
+    let a = start (lines-at c) .args in
+    ap length (is-left-so c) ∙ buffer-long (a .service) (a .number) (now (a .buffer)) (a .filled) (now (a .out))
 
 same-length-2 : tie.Need-same-length-2
-same-length-2 c =
-    let a = c .before .before .before .before .before .before .before .before .before .before .before .before .before .before .before .args in
-    let played = c .before .before .before .before .before .before .before .before .before .play-lines in
-    let p = played .result in
-    still-long (a .service) (a .number) (take (c .before .before .before .before .before .before .before .before .before .before .before .before .least .result) (now (a .buffer))) (now (a .out)) (p .service) (p .number) (p .used) (p .written) _
-    (played .ensures .part)
+same-length-2 c = same-out _ _ _ _ _ _ _ _ (parts (lines-at c))
 
 returns : tie.Need-returns
-returns c = result c
+returns c =
+    let w = parts (lines-at c) in
+    let can = can-at c .can-reply .result in
+    let rest = kept-at c .kept-of .result in
+    let kept = kept-at c .kept-of .ensures in (
+      is-turn _ _ _ _ _ _ _ _ w can rest (can-is c) kept,
+      (is-left-so c, (is-written _ _ _ _ _ _ _ _ w, (w .fits, is-left _ _ _ _ _ _ _ _ w can rest (can-is c) kept))),
+    )
 
 pub play-turn-spec : {M : Type 1} → statement M
 play-turn-spec =
@@ -101,7 +180,7 @@ play-turn-spec =
     slice-reshare-prefix-play-lines
     slice-aggregate-play-lines
     play-lines-requires
-    can-tell-requires
+    can-reply-requires
     sub-kept-of
     kept-of-requires
     move-down-requires

@@ -1,11 +1,11 @@
--- `no_step_at` meets its contract: the search from any place that it comes to finds what the search from the first place finds.
+-- `no_step_at` meets its contract: the search from any offset that it comes to finds what the search from the first offset finds.
 -- Assumes nothing.
 use Prim.Native.Nat.{_-_}
 use mathlib.Core.Path.{_≡_, refl, sym, _∙_}
 use lib.ListN.{length}
 use borrow.Author.Needs.{needs}
 use Rattle.stepfile.specs.Input.{noStepAt}
-use Rattle.reader.proofs.LineEnds.{search-end, search-lf, search-other}
+use Rattle.reader.proofs.LineFeeds.{search-none, search-lf, search-other}
 use Rattle.reader.proofs.line.no_step_at.Statement.{statement}
 use Rattle.reader.proofs.line.no_step_at.Tie as tie
 
@@ -26,7 +26,7 @@ loop-again c =
     test .before .loop .inv ∙ search-other _ _ (test .loop-test .taken) (c .if1 .left)
 
 returns-2 : tie.Need-returns-2 Inv-loop μ-loop
-returns-2 c = search-end _ _ (c .loop-test .left) ∙ sym (c .before .loop .inv)
+returns-2 c = search-none _ _ (c .loop-test .left) ∙ sym (c .before .loop .inv)
 
 pub no-step-at-spec : {M : Type 1} → statement M
 no-step-at-spec =

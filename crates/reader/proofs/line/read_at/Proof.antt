@@ -1,9 +1,9 @@
--- `read_at` meets its contract: a step with LF after it is a line, and where there is none at the place the line is no step. Assumes
+-- `read_at` meets its contract: a step with LF after it is a line, and where there is none at the offset the line is no step. Assumes
 -- nothing.
 use mathlib.Core.Path.{_∙_}
 use borrow.Author.Needs.{needs}
 use denote.Ref.{now}
-use Rattle.reader.proofs.LineEnds.{reads-missing, reads-short, reads-longer, reads-line}
+use Rattle.reader.proofs.LineFeeds.{reads-missing, reads-short, reads-longer, reads-line}
 use Rattle.reader.proofs.line.read_at.Statement.{statement}
 use Rattle.reader.proofs.line.read_at.Tie as tie
 

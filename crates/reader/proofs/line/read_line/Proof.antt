@@ -1,6 +1,6 @@
 -- `read_line` meets its contract: the step takes all of the line, or the line is no step. Assumes nothing.
 use borrow.Author.Needs.{needs}
-use Rattle.reader.proofs.Ends.{line-missing, line-longer, line-whole}
+use Rattle.reader.proofs.Whole.{line-missing, line-longer, line-whole}
 use Rattle.reader.proofs.line.read_line.Statement.{statement}
 use Rattle.reader.proofs.line.read_line.Tie as tie
 

@@ -1,11 +1,11 @@
--- `digits_from` meets its contract: from any place that the loop comes to, with the number so far, the digits give what they give from
--- the first place. Assumes nothing.
+-- `digits_from` meets its contract: from any offset that the loop comes to, with the number so far, the digits give what they give from
+-- the first offset. Assumes nothing.
 use Prim.Native.Nat.{_-_}
 use mathlib.Core.Path.{_≡_, refl, _∙_}
 use lib.ListN.{length, drop}
 use borrow.Author.Needs.{needs}
 use Rattle.stepfile.specs.Grammar.{digitsOn}
-use Rattle.reader.proofs.Numbers.{digits-end, digits-below, digits-above, digits-over, digits-more, past-tenth, past-largest, within-largest}
+use Rattle.reader.proofs.Numbers.{digits-stop, digits-below, digits-above, digits-over, digits-more, past-tenth, past-largest, within-largest}
 use Rattle.reader.proofs.number.digits_from.Statement.{statement}
 use Rattle.reader.proofs.number.digits_from.Tie as tie
 
@@ -55,7 +55,7 @@ loop-again c =
     (within-largest _ _ _ (tenth .before .wide .ensures) (tenth .if3 .left) (c .if4 .left)))
 
 returns-5 : tie.Need-returns-5 Inv-loop μ-loop
-returns-5 c = c .before .loop .inv ∙ digits-end _ _ _ (c .loop-test .left)
+returns-5 c = c .before .loop .inv ∙ digits-stop _ _ _ (c .loop-test .left)
 
 pub digits-from-spec : {M : Type 1} → statement M
 digits-from-spec =

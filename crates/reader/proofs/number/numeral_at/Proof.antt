@@ -1,12 +1,12 @@
 -- `numeral_at` meets its contract, by the first byte. Assumes nothing.
 use mathlib.Core.Path.{_∙_}
 use borrow.Author.Needs.{needs}
-use Rattle.reader.proofs.Numbers.{numeral-end, numeral-zero, numeral-below, numeral-above, numeral-digit}
+use Rattle.reader.proofs.Numbers.{numeral-stop, numeral-zero, numeral-below, numeral-above, numeral-digit}
 use Rattle.reader.proofs.number.numeral_at.Statement.{statement}
 use Rattle.reader.proofs.number.numeral_at.Tie as tie
 
 returns : tie.Need-returns
-returns c = numeral-end _ _ (c .if1 .taken)
+returns c = numeral-stop _ _ (c .if1 .taken)
 
 returns-2 : tie.Need-returns-2
 returns-2 c = numeral-zero _ _ (c .before .before .if1 .left) (c .if2 .taken)

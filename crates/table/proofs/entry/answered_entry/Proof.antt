@@ -6,8 +6,10 @@ use Rattle.table.proofs.entry.answered_entry.Tie as tie
 
 returns : tie.Need-returns
 returns c =
-    let b = c .before .before in
+    let stored = c .before .before in
+    let b = stored .before in
     rw (
+      stored .with-record .ensures,
       b .either .ensures,
       b .before .uncached .ensures,
       b .before .before .invalidates .ensures,
@@ -17,8 +19,10 @@ returns c =
 
 returns-2 : tie.Need-returns-2
 returns-2 c =
-    let b = c .before .before in
+    let stored = c .before .before in
+    let b = stored .before in
     rw (
+      stored .with-record .ensures,
       b .either .ensures,
       b .before .uncached .ensures,
       b .before .before .invalidates .ensures,
@@ -30,7 +34,6 @@ pub answered-entry-spec : {M : Type 1} → statement M
 answered-entry-spec =
     tie.close
     (tie.spec
-    (search needs)
     (search needs)
     (search needs)
     (search needs)

@@ -1,31 +1,32 @@
 -- `calls_out` meets its contract: after i clients the sum is how many of them have still to answer.
 -- Assumes nothing.
 use Prim.Native.Nat.{_-_}
-use mathlib.Core.Path.{ap}
+use mathlib.Core.Path.{ap, _∙_}
+use mathlib.Core.Bool.{not}
 use native.Mathlib.Omega.{arith}
-use lib.Dec.{ltb}
 use borrow.Author.Needs.{needs}
+use Rattle.protocol.specs.Callback.{asksNothing}
 use Rattle.protocol.specs.Entry.{callTo}
 use Rattle.protocol.proofs.Counting.{Counted, counted-none, counted-next, counted-fits, counted-all}
 use Rattle.table.proofs.entry.calls_out.Statement.{statement}
 use Rattle.table.proofs.entry.calls_out.Tie as tie
 
 abbrev Inv-loop : tie.InvT-loop
-Inv-loop entry count₀ i₀ count i = Counted 8 (λ k. ltb 0 (callTo 8 entry k)) count i
+Inv-loop entry count₀ i₀ count i = Counted 8 (λ k. not (asksNothing (callTo 8 entry k))) count i
 
 abbrev μ-loop : tie.MeasureT-loop
 μ-loop entry count₀ i₀ count i = 8 - i
 
 add-count : tie.Need-add-count Inv-loop μ-loop
 add-count c =
-    let t = c .before .before in
-    let calls = ap (ltb 0) (c .before .call-to .ensures) in
+    let t = c .before .before .before in
+    let calls = ap not (c .before .asks-nothing .ensures ∙ ap asksNothing (c .before .before .call-to .ensures)) in
     omega (arith, counted-fits (t .before .loop .inv) (t .loop-test .taken) calls (c .one-if .ensures))
 
 loop-again : tie.Need-loop-again Inv-loop μ-loop
 loop-again c =
-    let t = c .before .before in
-    let calls = ap (ltb 0) (c .before .call-to .ensures) in
+    let t = c .before .before .before in
+    let calls = ap not (c .before .asks-nothing .ensures ∙ ap asksNothing (c .before .before .call-to .ensures)) in
     counted-next (t .before .loop .inv) (t .loop-test .taken) calls (c .one-if .ensures)
 
 pub calls-out-spec : {M : Type 1} → statement M
@@ -35,6 +36,7 @@ calls-out-spec =
     Inv-loop
     μ-loop
     (λ c. counted-none)
+    (search needs)
     (search needs)
     (search needs)
     add-count

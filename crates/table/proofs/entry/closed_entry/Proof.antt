@@ -4,16 +4,21 @@ use Rattle.table.proofs.entry.closed_entry.Statement.{statement}
 use Rattle.table.proofs.entry.closed_entry.Tie as tie
 
 returns : tie.Need-returns
-returns c = rw (c .before .before .closed .ensures, ← c .before .leaves-last-writer .ensures, c .if1 .taken)
+returns c =
+    let asked = c .before in
+    let stored = asked .before in
+    rw (stored .with-record .ensures, stored .before .closed .ensures, ← asked .leaves-last-writer .ensures, c .if1 .taken)
 
 returns-2 : tie.Need-returns-2
-returns-2 c = rw (c .before .before .closed .ensures, ← c .before .leaves-last-writer .ensures, c .if1 .left)
+returns-2 c =
+    let asked = c .before in
+    let stored = asked .before in
+    rw (stored .with-record .ensures, stored .before .closed .ensures, ← asked .leaves-last-writer .ensures, c .if1 .left)
 
 pub closed-entry-spec : {M : Type 1} → statement M
 closed-entry-spec =
     tie.close
     (tie.spec
-    (search needs)
     (search needs)
     (search needs)
     (search needs)

@@ -1,29 +1,32 @@
 -- `count_calls` meets its contract: after i places the sum is how many of them call. Assumes nothing.
 use Prim.Native.Nat.{_-_}
-use mathlib.Core.Path.{refl}
+use mathlib.Core.Path.{ap}
+use mathlib.Core.Bool.{not}
 use native.Mathlib.Omega.{arith}
-use lib.Dec.{ltb}
 use lib.ListN.{getD}
 use borrow.Author.Needs.{needs}
+use Rattle.protocol.specs.Callback.{asksNothing}
 use Rattle.protocol.proofs.Counting.{Counted, counted-none, counted-next, counted-fits, counted-all}
 use Rattle.table.proofs.entry.count_calls.Statement.{statement}
 use Rattle.table.proofs.entry.count_calls.Tie as tie
 
 abbrev Inv-loop : tie.InvT-loop
-Inv-loop calls count₀ i₀ count i = Counted 8 (λ k. ltb 0 (getD calls k 0)) count i
+Inv-loop calls count₀ i₀ count i = Counted 8 (λ k. not (asksNothing (getD calls k 0))) count i
 
 abbrev μ-loop : tie.MeasureT-loop
 μ-loop calls count₀ i₀ count i = 8 - i
 
 add-count : tie.Need-add-count Inv-loop μ-loop
 add-count c =
-    let t = c .before in
-    omega (arith, counted-fits (t .before .loop .inv) (t .loop-test .taken) refl (c .one-if .ensures))
+    let t = c .before .before in
+    let calls = ap not (c .before .asks-nothing .ensures) in
+    omega (arith, counted-fits (t .before .loop .inv) (t .loop-test .taken) calls (c .one-if .ensures))
 
 loop-again : tie.Need-loop-again Inv-loop μ-loop
 loop-again c =
-    let t = c .before in
-    counted-next (t .before .loop .inv) (t .loop-test .taken) refl (c .one-if .ensures)
+    let t = c .before .before in
+    let calls = ap not (c .before .asks-nothing .ensures) in
+    counted-next (t .before .loop .inv) (t .loop-test .taken) calls (c .one-if .ensures)
 
 pub count-calls-spec : {M : Type 1} → statement M
 count-calls-spec =
@@ -32,6 +35,7 @@ count-calls-spec =
     Inv-loop
     μ-loop
     (λ c. counted-none)
+    (search needs)
     (search needs)
     (search needs)
     add-count

@@ -14,6 +14,7 @@ granted-entry-spec =
     (search needs)
     (search needs)
     (search needs)
-    (search needs)
-    (λ c. rw (c .before .before .opened .ensures, c .enum-told .given .1))
-    (λ c. rw (c .before .before .opened .ensures, c .enum-told2 .given .1)))
+    (λ c. let stored = c .before .before in
+    rw (stored .with-record .ensures, stored .before .opened .ensures, c .enum-told .given .1))
+    (λ c. let stored = c .before .before in
+    rw (stored .with-record .ensures, stored .before .opened .ensures, c .enum-told2 .given .1)))

@@ -59,6 +59,5 @@ reported-entry-spec =
     returns
     (search needs)
     (search needs)
-    (search needs)
-    (λ c. rw (c .if2 .taken))
-    (λ c. rw (c .if2 .left)))
+    (λ c. rw (c .before .with-record .ensures, c .if2 .taken))
+    (λ c. rw (c .before .with-record .ensures, c .if2 .left)))

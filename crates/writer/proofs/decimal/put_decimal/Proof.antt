@@ -6,7 +6,7 @@ use lib.ListN.{length, length-set}
 use borrow.Author.Needs.{needs}
 use denote.Ref.{now}
 use Rattle.stepfile.specs.Text.{decimal}
-use Rattle.writer.proofs.Backwards.{Partly, begins, further, kept, further-two, goes-on-two, ends, ends-two}
+use Rattle.writer.proofs.Backwards.{Partly, begins, further, kept, further-two, goes-on-two, ends, last-two}
 use Rattle.writer.proofs.decimal.put_decimal.Statement.{statement}
 use Rattle.writer.proofs.decimal.put_decimal.Tie as tie
 
@@ -37,8 +37,8 @@ sub-i c =
 write-first : tie.Need-slice-write-out-2 Inv-loop μ-loop
 write-first c = simp length-set (omega arith)
 
-write-first-end : tie.Need-slice-write-out-4 Inv-loop μ-loop
-write-first-end c = simp length-set (omega arith)
+write-first-stop : tie.Need-slice-write-out-4 Inv-loop μ-loop
+write-first-stop c = simp length-set (omega arith)
 
 loop-again : tie.Need-loop-again Inv-loop μ-loop
 loop-again c =
@@ -58,7 +58,7 @@ returns c =
     let at-loop = two .before .before in
     let counted = at-loop .before .digits .ensures in (
       rw (c .before .digit3 .ensures, c .digit4 .ensures, counted .0)
-          (ends-two _ _ _ _ _ _ (room (at-loop .before)) (at-loop .loop .inv .0) (two .if1 .taken) (two .before .loop-test .left)),
+          (last-two _ _ _ _ _ _ (room (at-loop .before)) (at-loop .loop .inv .0) (two .if1 .taken) (two .before .loop-test .left)),
       omega (arith, counted .1),
     )
 
@@ -95,7 +95,7 @@ put-decimal-spec =
     (search needs)
     (search needs)
     (search needs)
-    write-first-end
+    write-first-stop
     same-length
     returns
     (search needs)

@@ -9,22 +9,26 @@ use Rattle.writer.proofs.reply.put_call.Statement.{statement}
 use Rattle.writer.proofs.reply.put_call.Tie as tie
 
 returns : tie.Need-returns
-returns c = (wrote-as (sym (when _ _ (eq-eqb _ 0 (c .if1 .taken)))) (wrote-none _ _ (omega arith)), search needs)
+returns c = (wrote-as (sym (when _ _ (eq-eqb _ 0 (c .match .keys1)))) (wrote-none _ _ (omega arith)), search needs)
 
 returns-2 : tie.Need-returns-2
-returns-2 c = (
-  wrote-as (sym (unless _ _ (ne-eqb _ 0 (c .before .before .before .before .before .before .before .before .before .before .before .before .if1 .left))))
-      (wrote-then (c .before .before .before .before .before .before .before .before .before .before .put-argument .ensures .0) (wrote-then (c .before .before .before .before .before .before .put-byte .ensures .0) (c .before .before .put-decimal .ensures .0))),
-  search needs,
-)
+returns-2 c =
+    let kind = c .before .before in
+    let colon = kind .before .before .before .before in
+    let client = colon .before .before .before .before in (
+      wrote-as (sym (unless _ _ (ne-eqb _ 0 (client .before .before .match .rest .1))))
+          (wrote-then (client .put-argument .ensures .0)
+          (wrote-then (colon .put-byte .ensures .0) (kind .put-decimal .ensures .0))),
+      search needs,
+    )
 
 pub put-call-spec : {M : Type 1} → statement M
 put-call-spec =
     tie.close
     (tie.spec
+    (search needs)
+    (search needs)
+    (search needs)
     returns
-    (search needs)
-    (search needs)
-    (search needs)
     (search needs)
     returns-2)

@@ -12,7 +12,7 @@ unfolding summaryText
 returns c =
     let lines = c .before .before in
     let heading = lines .before .before .before .before in (
-      wrote-then (wrote-as (ap headingText (heading .before .count-told .ensures)) (heading .put-heading .ensures .0)) (lines .put-files .ensures .0),
+      wrote-then (wrote-as (ap headingText (heading .before .count-listed .ensures)) (heading .put-heading .ensures .0)) (lines .put-files .ensures .0),
       omega (arith, heading .put-heading .ensures .1, lines .put-files .ensures .1),
     )
 

@@ -86,7 +86,7 @@ rule_faults! {
         fn answer_at_server(entry: &mut Entry, client: usize, kind: Kind) {
             let before = entry.records;
             entry.callback_answered(client, kind);
-            let Some(waiting) = entry.waiting else { return };
+            let Some(waiting) = entry.waiting.read() else { return };
             if !waiting.callbacks.is_empty() {
                 entry.records = before;
             } else if kind.invalidates() {
@@ -99,9 +99,7 @@ rule_faults! {
     open_granted_with_the_first_reply {
         fn answer_at_server(entry: &mut Entry, client: usize, kind: Kind) {
             entry.callback_answered(client, kind);
-            if let Some(waiting) = &mut entry.waiting {
-                waiting.callbacks = Callbacks::NONE;
-            }
+            entry.waiting.callbacks = Callbacks::NONE;
         }
     }
 }

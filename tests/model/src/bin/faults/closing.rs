@@ -1,6 +1,6 @@
 //! Faults of closing: who becomes the last writer, and what a close takes away.
 
-use model::{ClientFile, Copies, Entry, Mode};
+use model::{ClientField, ClientFile, Copies, Entry, Mode};
 
 use crate::fault::rule_faults;
 
@@ -16,7 +16,7 @@ rule_faults! {
     last_writer_only_at_final_close {
         fn close_at_server(entry: &mut Entry, client: usize, mode: Mode) {
             if entry.records[client].close(mode) && !entry.records[client].is_open() {
-                entry.last_writer = Some(client);
+                entry.last_writer = ClientField::of(client);
             }
         }
         fn close_at_client(file: &mut ClientFile, mode: Mode) {
@@ -30,7 +30,7 @@ rule_faults! {
             let writers = entry.records[client].writers;
             entry.close(client, mode);
             if mode == Mode::Write && writers == 1 {
-                entry.last_writer = Some(client);
+                entry.last_writer = ClientField::of(client);
             }
         }
     }
@@ -39,7 +39,7 @@ rule_faults! {
             let caching = entry.records[client].may_cache;
             entry.close(client, mode);
             if mode == Mode::Write && caching {
-                entry.last_writer = Some(client);
+                entry.last_writer = ClientField::of(client);
             }
         }
     }
@@ -51,8 +51,8 @@ rule_faults! {
     last_writer_cleared_by_its_read_close {
         fn close_at_server(entry: &mut Entry, client: usize, mode: Mode) {
             entry.close(client, mode);
-            if mode == Mode::Read && entry.last_writer == Some(client) {
-                entry.last_writer = None;
+            if mode == Mode::Read && entry.last_writer.read() == Some(client) {
+                entry.last_writer = ClientField::NONE;
             }
         }
     }

@@ -84,7 +84,7 @@ rule_faults! {
             file.copies.held[block] = false;
         }
     }
-    /// Wish 4 asks for it, at both ends; the base does not.
+    /// A flush leaves the flag, also when no dirty block is left.
     flush_of_last_dirty_block_clears_the_flag {
         fn flush(file: &mut ClientFile, block: usize, server: &mut [u64; BLOCKS]) {
             file.flush(block, server);

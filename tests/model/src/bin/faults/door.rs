@@ -26,7 +26,7 @@ rule_faults! {
     waiting_opener_opens_again {
         fn may_open(service: &Service, mode: Mode, client: u64, file: u64) -> Admission {
             sparing(service.may_open(mode, client, file), Refusal::OpenWaits, || {
-                service.server.entries[file as usize].waiting.is_some_and(|open| open.opener as u64 == client)
+                service.server.entries[file as usize].waiting.read().is_some_and(|open| open.opener as u64 == client)
             })
         }
     }
@@ -183,7 +183,7 @@ rule_faults! {
     flush_refused_while_an_open_waits {
         fn may_flush(service: &Service, client: u64, file: u64, block: u64) -> Admission {
             service.may_flush(client, file, block)?;
-            let waits = service.server.entries[file as usize].waiting.is_some();
+            let waits = service.server.entries[file as usize].waiting.read().is_some();
             if waits { Err(Refusal::OpenWaits) } else { Ok(()) }
         }
     }
@@ -239,7 +239,7 @@ rule_faults! {
     recovering_told_without_a_crash {
         fn may_write(service: &Service, client: u64, file: u64, block: u64) -> Admission {
             service.may_write(client, file, block)?;
-            if service.server.entries[file as usize].version > 2 { Err(Refusal::Recovering) } else { Ok(()) }
+            if service.server.entries[file as usize].version.read() > 2 { Err(Refusal::Recovering) } else { Ok(()) }
         }
     }
 }

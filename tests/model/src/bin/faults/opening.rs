@@ -5,7 +5,7 @@ use model::{Callbacks, ClientFile, ClientSet, Copies, Entry, Grant, Kind, Mode, 
 use crate::fault::rule_faults;
 
 fn last_writer(entry: &Entry) -> ClientSet {
-    entry.last_writer.map_or(ClientSet::NONE, ClientSet::only)
+    entry.last_writer.read().map_or(ClientSet::NONE, ClientSet::only)
 }
 
 /// The right grant, but with the copies that the client had before.
@@ -16,7 +16,7 @@ fn grant_keeping_copies(file: &mut ClientFile, mode: Mode, grant: &Grant) {
 }
 
 rule_faults! {
-    /// Document 004's text allows it.
+    /// A copy check that forgets the mode.
     previous_copy_kept_at_read_open {
         fn grant_at_client(file: &mut ClientFile, mode: Mode, grant: &Grant) {
             if grant.may_cache && file.cached_version == grant.previous {
@@ -189,7 +189,7 @@ rule_faults! {
     /// A reviewer's second try.
     caching_permitted_at_first_only {
         fn permission_at_grant(entry: &Entry, opener: usize, mode: Mode) -> bool {
-            entry.version == 1 && entry.permission_at_grant(opener, mode)
+            entry.version.read() == 1 && entry.permission_at_grant(opener, mode)
         }
     }
     caching_always_permitted {
@@ -223,23 +223,23 @@ rule_faults! {
 
     version_raised_at_request {
         fn wait(entry: &mut Entry, waiting: WaitingOpen) {
-            entry.waiting = Some(waiting);
-            entry.version += u32::from(waiting.mode == Mode::Write);
+            entry.waiting = waiting.into();
+            entry.version.0 += u32::from(waiting.mode == Mode::Write);
         }
         fn grant_at_server(entry: &mut Entry, opener: usize, mode: Mode, may_cache: bool) -> Grant {
-            entry.version -= u32::from(entry.waiting.is_some() && mode == Mode::Write);
+            entry.version.0 -= u32::from(entry.waiting.read().is_some() && mode == Mode::Write);
             entry.grant(opener, mode, may_cache)
         }
     }
     version_kept_at_repeated_write_open {
         fn grant_at_server(entry: &mut Entry, opener: usize, mode: Mode, may_cache: bool) -> Grant {
-            entry.version -= u32::from(entry.records[opener].writers > 0 && mode == Mode::Write);
+            entry.version.0 -= u32::from(entry.records[opener].writers > 0 && mode == Mode::Write);
             entry.grant(opener, mode, may_cache)
         }
     }
     version_raised_at_read_open {
         fn grant_at_server(entry: &mut Entry, opener: usize, mode: Mode, may_cache: bool) -> Grant {
-            entry.version += u32::from(mode == Mode::Read);
+            entry.version.0 += u32::from(mode == Mode::Read);
             entry.grant(opener, mode, may_cache)
         }
     }
@@ -267,7 +267,7 @@ rule_faults! {
     }
     table_changes_at_request {
         fn wait(entry: &mut Entry, waiting: WaitingOpen) {
-            entry.waiting = Some(waiting);
+            entry.waiting = waiting.into();
             for client in waiting.callbacks.clients().members() {
                 entry.records[client].may_cache &= waiting.callbacks.kind(client) == Some(Kind::WriteBack);
             }

@@ -1,6 +1,9 @@
 //! Faults of crash, report and end.
 
-use model::{Admission, BLOCKS, Client, ClientFile, ClientSet, Entry, Record, Refusal, Server, Service};
+use model::{
+    Admission, BLOCKS, Client, ClientField, ClientFile, ClientSet, Entry, Record, Refusal, Server, Service,
+    VersionField,
+};
 
 use crate::fault::rule_faults;
 
@@ -45,7 +48,7 @@ rule_faults! {
     }
     crash_forgets_versions {
         fn crash(service: &mut Service) {
-            crash_keeping(service, |entry, _| entry.version = 1);
+            crash_keeping(service, |entry, _| entry.version = VersionField(1));
         }
     }
     crash_forgets_blocks {
@@ -105,7 +108,7 @@ rule_faults! {
     }
     report_without_flag_clears_the_last_writer {
         fn report(entry: &mut Entry, client: usize, file: &ClientFile) {
-            entry.last_writer = None;
+            entry.last_writer = ClientField::NONE;
             entry.report(client, file.record, file.last_writer_flag);
         }
     }

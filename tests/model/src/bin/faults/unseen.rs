@@ -79,14 +79,18 @@ rule_faults! {
         fn report(entry: &mut Entry, client: usize, file: &ClientFile) {
             let last_writer = entry.last_writer;
             entry.report(client, file.record, file.last_writer_flag);
-            entry.last_writer = last_writer.or(entry.last_writer);
+            if last_writer.read().is_some() {
+                entry.last_writer = last_writer;
+            }
         }
     }
     write_back_clears_only_the_clients_own_last_writer("a client called to write back is the last writer or none is") {
         fn answer_at_server(entry: &mut Entry, client: usize, kind: Kind) {
-            let other = entry.last_writer.filter(|&last_writer| last_writer != client);
+            let last_writer = entry.last_writer;
             entry.callback_answered(client, kind);
-            entry.last_writer = other;
+            if last_writer.read() != Some(client) {
+                entry.last_writer = last_writer;
+            }
         }
     }
 }

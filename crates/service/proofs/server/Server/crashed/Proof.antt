@@ -6,7 +6,7 @@ use Rattle.protocol.specs.declared.entry.Entry.{Entry}
 use Rattle.protocol.specs.Sizes.{clients}
 use Rattle.protocol.specs.Entry.{crashedEntry}
 use Rattle.protocol.proofs.Storing.{Stored, stored-none, stored-more, stored-all}
-use Rattle.service.specs.Places.{noEntry, entryIn}
+use Rattle.service.specs.Contents.{noEntry, entryIn}
 use Rattle.service.proofs.Turns.{not-yet, crashed-whole}
 use Rattle.service.proofs.server.Server.crashed.Statement.{statement}
 use Rattle.service.proofs.server.Server.crashed.Tie as tie

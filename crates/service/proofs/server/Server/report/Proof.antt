@@ -1,5 +1,5 @@
 -- `Server::report` meets its contract: refused or done. Assumes nothing.
-use Rattle.ends.proofs.Ended.{client-there}
+use Rattle.opening.proofs.Opened.{client-there}
 use Rattle.service.proofs.Serving.{served-refused, served-done}
 use borrow.Author.Needs.{needs}
 use Rattle.service.proofs.server.Server.report.Statement.{statement}

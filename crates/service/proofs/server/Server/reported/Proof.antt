@@ -5,7 +5,7 @@ use borrow.Author.Needs.{needs}
 use Rattle.protocol.specs.declared.entry.Entry.{Entry}
 use Rattle.protocol.specs.Entry.{reportedEntry}
 use Rattle.protocol.proofs.Storing.{Stored, stored-none, stored-more, stored-all}
-use Rattle.service.specs.Places.{noEntry, entryIn, clientIn}
+use Rattle.service.specs.Contents.{noEntry, entryIn, clientIn}
 use Rattle.service.proofs.Turns.{not-yet, reported-whole}
 use Rattle.service.proofs.server.Server.reported.Statement.{statement}
 use Rattle.service.proofs.server.Server.reported.Tie as tie

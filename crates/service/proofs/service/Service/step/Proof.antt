@@ -22,9 +22,9 @@ returns c =
     let opened = c .before .before .before .before .before .before .before in
     let known = opened .before .before .before .before .step .given in
     let a = opened .before .before .before .before .before .before .before .before .before .before .before .args in
-    open-result (a .self) (a .step) (known .0 .0) (known .0 .1 .0) (known .0 .1 .1 .0) (opened .open-ends .result) _ _ _
+    open-result (a .self) (a .step) (known .0 .0) (known .0 .1 .0) (known .0 .1 .1 .0) (opened .open-file .result) _ _ _
     (known .1)
-    (opened .open-ends .ensures)
+    (opened .open-file .ensures)
     (c .drop-file-unless .ensures .0)
     (c .drop-file-unless .ensures .1 .0)
     (c .drop-file-unless .ensures .1 .1)
@@ -34,9 +34,9 @@ returns-2 c =
     let closed = c .before .before in
     let known = closed .before .before .before .before .step2 .given in
     let a = closed .before .before .before .before .before .before .before .before .before .before .before .args in
-    close-result (a .self) (a .step) (known .0 .0) (known .0 .1 .0) (known .0 .1 .1 .0) (closed .close-ends .result)
+    close-result (a .self) (a .step) (known .0 .0) (known .0 .1 .0) (known .0 .1 .1 .0) (closed .close-file .result)
     (known .1)
-    (closed .close-ends .ensures)
+    (closed .close-file .ensures)
 
 returns-3 : tie.Need-returns-3
 returns-3 c =
@@ -122,8 +122,8 @@ mul-own c = search needs
 array-copy-out-own : tie.Need-array-copy-out-own
 array-copy-out-own c = search needs
 
-open-ends-requires : tie.Need-open-ends-requires
-open-ends-requires c κs = tt
+open-file-requires : tie.Need-open-file-requires
+open-file-requires c κs = tt
 
 mul-entry-after : tie.Need-mul-entry-after
 mul-entry-after c = search needs
@@ -164,8 +164,8 @@ mul-own-2 c = search needs
 array-copy-out-own-2 : tie.Need-array-copy-out-own-2
 array-copy-out-own-2 c = search needs
 
-close-ends-requires : tie.Need-close-ends-requires
-close-ends-requires c κs = tt
+close-file-requires : tie.Need-close-file-requires
+close-file-requires c κs = tt
 
 mul-entry-after-2 : tie.Need-mul-entry-after-2
 mul-entry-after-2 c = search needs
@@ -331,7 +331,7 @@ step-spec =
     element-copy-out-entry
     mul-own
     array-copy-out-own
-    open-ends-requires
+    open-file-requires
     mul-entry-after
     element-set-from-entry-after
     mul-clients
@@ -345,7 +345,7 @@ step-spec =
     element-copy-out-entry-2
     mul-own-2
     array-copy-out-own-2
-    close-ends-requires
+    close-file-requires
     mul-entry-after-2
     element-set-from-entry-after-2
     mul-clients-2

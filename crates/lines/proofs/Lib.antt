@@ -1,0 +1,4 @@
+-- The laws behind the loop over a buffer.
+pub mod Resting
+pub mod Reaching
+pub mod Playing

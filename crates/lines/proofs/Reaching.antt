@@ -1,0 +1,169 @@
+-- How far an input is played: the definition `lineProgress` stops past a line, with the reply lines, the service and the number that the
+-- transcript gives. Assumes nothing.
+use Prim.Native.Nat.{ℕ, _+_, _-_, _≤_, _<_}
+use mathlib.Core.Path.{_≡_, refl, sym, ap, subst, _∙_}
+use mathlib.Core.Bool.{true, false}
+use mathlib.Core.List.{List, [], _∷_, _++_, append-assoc, nil≢cons}
+use native.Mathlib.Omega.{arith}
+use lib.ListN.{length, take, drop, length-append, take-append-drop}
+use lib.Seq.{length-take-le, take-at, drop-at}
+use Rattle.service.specs.declared.service.Service.{Service}
+use Rattle.records.proofs.Choosing.{when, unless, split, conflict}
+use Rattle.stepfile.specs.Grammar.{Reading, found, nothing}
+use Rattle.stepfile.specs.Input.{firstLine, wholeLines}
+use Rattle.stepfile.specs.Played.{replyLine, serviceAfter}
+use Rattle.stepfile.specs.Transcript.{lines, transcript, after, BreaksLine}
+use Rattle.stepfile.proofs.FirstLines.{FirstLine, first-line, whole-first, whole-none}
+use Rattle.stepfile.proofs.Splitting.{NoLF, breaks-none, breaks-line, count-more}
+use Rattle.stepfile.proofs.Transcripts.{after-more, transcript-more}
+use Rattle.lines.specs.declared.lines.Progress.{Progress}
+use Rattle.lines.specs.Lines.{transcriptOf, afterInput, canReply, stopped, progressOf, lineProgress}
+use Rattle.lines.proofs.Resting.{no-lf}
+
+-- the line that starts at a offset, and the offset past its LF
+pub record LineAt (input : List ℕ) (used : ℕ) (line : List ℕ) (next : ℕ) : Type 0 where
+  pub none : NoLF line
+  pub upto : take next input ≡ take used input ++ (line ++ (10 ∷ []))
+  pub onward : wholeLines (drop used input) ≡ line ∷ wholeLines (drop next input)
+  pub later : used < next
+  pub inside : next ≤ length input
+
+module _ (input : List ℕ) (used : ℕ) (h : used ≤ length input) (l r : List ℕ) (next : ℕ) (offset : used + length l + 1 ≡ next) where
+  pub line-at : firstLine (drop used input) ≡ found l r → LineAt input used l next
+  line-at q =
+      let fl = first-line (drop used input) l r q in
+      let a = take used input in
+      let whole : input ≡ (a ++ (l ++ (10 ∷ []))) ++ r =
+      sym (take-append-drop used input)
+      ∙ ap (λ d. a ++ d) (fl .text)
+      ∙ ap (λ d. a ++ d) (sym (append-assoc l (10 ∷ []) r))
+      ∙ sym (append-assoc a (l ++ (10 ∷ [])) r) in
+      let long : length (a ++ (l ++ (10 ∷ []))) ≡ next =
+      length-append a (l ++ (10 ∷ []))
+      ∙ omega (arith, length-take-le used input h, length-append l (10 ∷ []), offset) in
+      let past : drop next input ≡ r = ap (drop next) whole ∙ drop-at (a ++ (l ++ (10 ∷ []))) r next long in
+      record {
+        none = fl .none;
+        upto = ap (take next) whole ∙ take-at (a ++ (l ++ (10 ∷ []))) r next long;
+        onward = whole-first (drop used input) l r fl ∙ ap (λ d. l ∷ wholeLines d) (sym past);
+        later = omega arith;
+        inside = omega (arith, ap length whole, length-append (a ++ (l ++ (10 ∷ []))) r, long);
+      }
+
+-- the first of the whole lines from a offset on
+first-whole : (input : List ℕ) (used : ℕ) → used ≤ length input → (l : List ℕ) (ls : List (List ℕ))
+    → wholeLines (drop used input) ≡ l ∷ ls → LineAt input used l (used + length l + 1)
+first-whole input used h l ls e = from (firstLine (drop used input)) refl
+  where
+    from : (t : Reading (List ℕ)) → firstLine (drop used input) ≡ t → LineAt input used l (used + length l + 1)
+    from (found x r) q =
+        let f : x ∷ wholeLines r ≡ l ∷ ls = sym (whole-first (drop used input) x r (first-line (drop used input) x r q)) ∙ e in
+        let same : x ≡ l = cc in
+        line-at input used h l r (used + length l + 1) refl (q ∙ ap (λ k. found k r) same)
+    from nothing q =
+        let f : [] ≡ l ∷ ls = sym (whole-none (drop used input) (no-lf (drop used input) q)) ∙ e in
+        absurd (nil≢cons f)
+
+-- the input is played up to a offset where a line starts: t is the service there, the next line has the number, and the reply lines have so
+-- many bytes
+pub record At (s : Service) (n : ℕ) (input : List ℕ) (t : Service) (number used to : ℕ) : Type 0 where
+  pub inside : used ≤ length input
+  pub breaks : BreaksLine (take used input)
+  pub numbers : number ≡ n + length (lines (take used input))
+  pub service : t ≡ afterInput s (take used input)
+  pub size : to ≡ length (transcriptOf s n (take used input))
+
+module _ (s : Service) (n : ℕ) (input : List ℕ) where
+  -- before the first line
+  pub at-start : At s n input s n 0 0
+  unfolding lines transcript after
+  at-start = record { inside = omega arith; breaks = breaks-none; numbers = omega arith; service = refl; size = refl }
+
+  -- past another line
+  module _ (t : Service) (number used to : ℕ) (w : At s n input t number used to) (l : List ℕ) (next : ℕ) (at : LineAt input used l next) where
+    abbrev a : List ℕ
+    a = take used input
+
+    -- the reply line that the transcript has
+    reply-line : replyLine t number l ≡ replyLine (afterInput s a) (n + length (lines a)) l
+    reply-line = ap (λ (k : ℕ). replyLine t k l) (w .numbers) ∙ ap (λ (x : Service). replyLine x (n + length (lines a)) l) (w .service)
+
+    pub transcript-next : transcriptOf s n a ++ replyLine t number l ≡ transcriptOf s n (take next input)
+    transcript-next =
+        ap (λ (x : List ℕ). transcriptOf s n a ++ x) reply-line
+        ∙ sym (transcript-more replyLine serviceAfter s n a l (w .breaks) (at .none))
+        ∙ ap (transcriptOf s n) (sym (at .upto))
+
+    pub at-next : At s n input (serviceAfter t l) (number + 1) next (to + length (replyLine t number l))
+    at-next =
+        record {
+          inside = at .inside;
+          breaks = rw (at .upto) (breaks-line a l (w .breaks));
+          numbers =
+              ap (λ (k : ℕ). k + 1) (w .numbers)
+              ∙ omega (arith, ap (λ (x : List ℕ). length (lines x)) (at .upto), count-more a l (w .breaks) (at .none));
+          service =
+              ap (λ (x : Service). serviceAfter x l) (w .service)
+              ∙ sym (after-more serviceAfter s a l (w .breaks) (at .none))
+              ∙ ap (afterInput s) (sym (at .upto));
+          size =
+              ap (λ (k : ℕ). k + length (replyLine t number l)) (w .size)
+              ∙ sym (length-append (transcriptOf s n a) (replyLine t number l))
+              ∙ ap length transcript-next;
+        }
+
+  -- one line more, by the definition
+  pub progress-next : (room : ℕ) (l : List ℕ) (ls : List (List ℕ)) (t : Service) (number used to : ℕ)
+      → canReply room to number ≡ true
+      → progressOf room (l ∷ ls) t number used to
+      ≡ progressOf room ls (serviceAfter t l) (number + 1) (used + length l + 1) (to + length (replyLine t number l))
+  unfolding progressOf
+  progress-next room l ls t number used to can = when _ _ can
+
+  -- it stops where no other line can be replied to, and where there is none
+  pub progress-full : (room : ℕ) (ls : List (List ℕ)) (t : Service) (number used to : ℕ)
+      → canReply room to number ≡ false
+      → progressOf room ls t number used to ≡ stopped t number used to
+  unfolding progressOf
+  progress-full room [] t number used to cannot = refl
+  progress-full room (l ∷ ls) t number used to cannot = unless _ _ cannot
+
+  pub progress-none : (room : ℕ) (t : Service) (number used to : ℕ) → progressOf room [] t number used to ≡ stopped t number used to
+  unfolding progressOf
+  progress-none room t number used to = refl
+
+  -- where the play stops, and why
+  pub record Stop (out : List ℕ) (p : Progress) : Type 0 where
+    pub at : At s n input (p .service) (p .number) (p .used) (p .written)
+    pub none : canReply (length out) (p .written) (p .number) ≡ true → NoLF (drop (p .used) input)
+
+  no-whole : (d : List ℕ) → wholeLines d ≡ [] → NoLF d
+  no-whole d e = from (firstLine d) refl
+    where
+      from : (t : Reading (List ℕ)) → firstLine d ≡ t → NoLF d
+      from (found l r) q =
+          absurd (nil≢cons (sym e ∙ whole-first d l r (first-line d l r q)))
+      from nothing q = no-lf d q
+
+  stop-from : (out : List ℕ) (ls : List (List ℕ)) (t : Service) (number used to : ℕ)
+      → At s n input t number used to
+      → wholeLines (drop used input) ≡ ls
+      → Stop out (progressOf (length out) ls t number used to)
+  stop-from out [] t number used to w e =
+      subst (Stop out) (sym (progress-none (length out) t number used to)) (record { at = w; none = λ can. no-whole (drop used input) e })
+  stop-from out (l ∷ ls) t number used to w e =
+      split (canReply (length out) to number)
+      (λ can.
+      let line = first-whole input used (w .inside) l ls e in
+      let f : l ∷ wholeLines (drop (used + length l + 1) input) ≡ l ∷ ls = sym (line .onward) ∙ e in
+      let rest : wholeLines (drop (used + length l + 1) input) ≡ ls = cc in
+      subst (Stop out) (sym (progress-next (length out) l ls t number used to can))
+      (stop-from out ls (serviceAfter t l) (number + 1) (used + length l + 1) (to + length (replyLine t number l))
+      (at-next t number used to w l (used + length l + 1) line)
+      rest))
+      (λ cannot.
+      subst (Stop out) (sym (progress-full (length out) (l ∷ ls) t number used to cannot))
+      (record { at = w; none = λ can. conflict can cannot }))
+
+  pub stop : (out : List ℕ) → Stop out (lineProgress s n input out)
+  stop out = stop-from out (wholeLines input) s n 0 0 at-start refl

@@ -1,0 +1,2 @@
+-- What playing a buffer of lines leaves.
+pub mod Lines

@@ -1,0 +1,47 @@
+-- Playing the whole lines of a buffer: where the play stops, and what it leaves.
+use Prim.Native.Nat.{ℕ, _+_}
+use mathlib.Core.Bool.{Bool, cond, _&&_}
+use mathlib.Core.List.{List, [], _∷_}
+use lib.Dec.{leb, ltb}
+use lib.ListN.{length, take}
+use Rattle.service.specs.declared.service.Service.{Service}
+use Rattle.stepfile.specs.Input.{wholeLines}
+use Rattle.stepfile.specs.Transcript.{lines, transcript, after}
+use Rattle.stepfile.specs.Played.{replyLine, serviceAfter}
+use Rattle.writer.specs.Buffer.{written, lineRoom}
+use Rattle.lines.specs.declared.lines.Progress.{Progress}
+
+-- the last number that a line can have
+abbrev pub lastNumber : ℕ
+lastNumber = 18446744073709551615
+
+-- the reply lines of an input from service s on, its first line numbered n, and the service after it
+abbrev pub transcriptOf : Service → ℕ → List ℕ → List ℕ
+transcriptOf s n input = transcript replyLine serviceAfter s n (lines input)
+
+abbrev pub afterInput : Service → List ℕ → Service
+afterInput s input = after serviceAfter s (lines input)
+
+-- whether another line can be replied to: there is room for its reply line, and another number after its own
+abbrev pub canReply : ℕ → ℕ → ℕ → Bool
+canReply room to number = leb (to + lineRoom) room && ltb number lastNumber
+
+-- the play stands before a line with this number: so many bytes of the input are used, and so many are written
+abbrev pub stopped : Service → ℕ → ℕ → ℕ → Progress
+stopped s number used to = record { service = s; number = number; used = used; written = to }
+
+-- Lines are played one after the other as long as another can be replied to.
+unfoldable pub progressOf : ℕ → List (List ℕ) → Service → ℕ → ℕ → ℕ → Progress
+progressOf room [] s n used to = stopped s n used to
+progressOf room (l ∷ ls) s n used to =
+    cond (canReply room to n)
+    (progressOf room ls (serviceAfter s l) (n + 1) (used + length l + 1) (to + length (replyLine s n l)))
+    (stopped s n used to)
+
+-- how far an input is played into a buffer
+abbrev pub lineProgress : Service → ℕ → List ℕ → List ℕ → Progress
+lineProgress s n input out = progressOf (length out) (wholeLines input) s n 0 0
+
+-- the buffer after it: the reply lines of the part that was played, from its start on
+abbrev pub linesWritten : Service → ℕ → List ℕ → List ℕ → List ℕ
+linesWritten s n input out = written out 0 (transcriptOf s n (take (lineProgress s n input out .used) input))

@@ -1,0 +1,6 @@
+// The loop over a buffer: its whole lines played from a service, and their reply lines written.
+mod lines;
+
+pub use lines::Progress;
+pub use lines::can_reply;
+pub use lines::play_lines;

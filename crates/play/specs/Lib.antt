@@ -1,0 +1,2 @@
+-- What the arguments of the program mean.
+pub mod Options

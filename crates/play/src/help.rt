@@ -1,0 +1,51 @@
+// What `--help` and `--version` print.
+use crate::errors::fail_output;
+use libc::STDOUT_FILENO;
+
+const VERSION: [u8; 11] = *b"play 0.1.0\n";
+
+pub fn print_version() {
+    print(&VERSION);
+}
+
+pub fn print_help() {
+    print(
+        b"Usage: play [--help] [--version] [--] [FILE..]\n\
+          \n\
+          Plays step files. Each FILE is played on a fresh file service: every line gets a\n\
+          reply, and a summary of the service's files comes last. With no FILE, or where\n\
+          FILE is -, standard input is played.\n\
+          \n\
+          \x20 --help       print this text, and play nothing\n\
+          \x20 --version    print the version, and play nothing\n\
+          \x20 --           end the options: what follows are names of files\n\
+          \n\
+          Steps, one to a line. C is a client, F a file, B a block, V a value:\n\
+          \x20 OR C F      open for reading        OW C F      open for writing\n\
+          \x20 CR C F      close for reading       CW C F      close for writing\n\
+          \x20 RD C F B    read a block            WR C F B V  write a block\n\
+          \x20 FL C F B    flush a dirty block     AN C F      answer a callback\n\
+          \x20 XX          crash the server        RP C        report after a crash\n\
+          \x20 EN          end the recovery\n\
+          \n\
+          Replies, each after the number of its line:\n\
+          \x20 G LATEST PREVIOUS PERMISSION         the open is granted\n\
+          \x20 W C:KIND ..                          the open waits for these callbacks:\n\
+          \x20                                      1 write-back, 2 invalidate, 3 both\n\
+          \x20 A [C LATEST PREVIOUS PERMISSION]     answered; if it was the last answer, the\n\
+          \x20                                      open of client C is granted\n\
+          \x20 V VALUE                              the value read\n\
+          \x20 K                                    done\n\
+          \x20 N NUMBER                             refused, and why\n\
+          \n\
+          Summary: `files` and a count, then for each file F STATE VERSION LAST-WRITER.\n\
+          \n\
+          Errors go to standard error. docs/STEPFILE.md is the manual.\n",
+    );
+}
+
+fn print(text: &[u8]) {
+    if !io::write_all(STDOUT_FILENO, text) {
+        fail_output();
+    }
+}

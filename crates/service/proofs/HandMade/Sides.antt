@@ -1,0 +1,138 @@
+-- Hand-made states in which the two sides of a file differ, and the flags of a copy: rows of docs/DECISIONS.md, "Hand-made
+-- states", by evaluation. Assumes nothing.
+use Prim.Native.Nat.{ℕ}
+use mathlib.Core.Path.{_≡_, refl}
+use mathlib.Core.Bool.{true, false}
+use Rattle.records.specs.declared.record.ClientRecord.{ClientRecord}
+use Rattle.records.specs.declared.record.Mode.the-variants.{Read}
+use Rattle.protocol.specs.declared.reply.Reply.the-variants.{Granted, Value, Refused}
+use Rattle.protocol.specs.Sizes.{nobody}
+use Rattle.protocol.specs.Lists.{count, stored}
+use Rattle.records.specs.Record.{notOpen}
+use Rattle.protocol.specs.State.{stateOf}
+use Rattle.protocol.specs.Permission.{permissionAtGrant}
+use Rattle.protocol.specs.Entry.{waitingEntry}
+use Rattle.service.specs.declared.service.Service.{Service}
+use Rattle.service.specs.Step.{stepOf}
+use Rattle.service.specs.Fresh.{fresh}
+use Rattle.service.proofs.Run.{OR, CR, CW, RD, WR, FL, AN, grant, grantUncached}
+use Rattle.service.proofs.Making.{opens, reading, readingUncached, writing, writingUncached, side, entry, kinds}
+use Rattle.service.proofs.Making.{withFile, withSide, withCopy, inRecovery}
+use Rattle.service.proofs.Making.{reply, entryAfter, sideAfter, copyAfter, blockAfter}
+
+-- "The two sides apart", "The last writer", "A close at a side whose count is 0", "The permission that a kept grant
+-- tells where the two sides differ", "Permission at a client that is not open": the server's record of client 0, and its
+-- own
+abbrev sides : ClientRecord → ClientRecord → Service
+sides known own = withSide 0 (side own false 1) (withFile (entry 1 known notOpen nobody))
+
+abbrev idle : Service
+idle = withCopy 7 true false (sides notOpen (opens 0 0 true))
+
+pub record Apart : Type 0 where
+  -- callbacks and grants go by the server's record
+  pub tableCalls : stepOf (sides writing notOpen) (OR 1 0) .calls ≡ kinds 3 0
+  pub tableGrants : reply (sides notOpen writing) (OR 1 0) ≡ Granted (grant 1 0)
+  -- reads, writes and refusals 11 to 13 go by the client's own
+  pub ownRead : reply (sides writing notOpen) (RD 0 0 0) ≡ Refused 11
+  pub ownWrite : reply (sides writing reading) (WR 0 0 0 5) ≡ Refused 11
+  pub ownClose : reply (sides writing reading) (CW 0 0) ≡ Refused 11
+  pub ownFull : reply (sides notOpen (opens 255 0 true)) (OR 0 0) ≡ Refused 12
+  pub ownRoom : reply (sides (opens 255 0 true) notOpen) (OR 0 0) ≡ Granted (grant 1 0)
+  pub ownClean : reply (sides writing writing) (FL 0 0 0) ≡ Refused 13
+  pub ownCached : copyAfter (sides notOpen writing) (WR 0 0 0 5) ≡ (5, true, true)
+  pub ownUncached : blockAfter (sides writing writingUncached) (WR 0 0 0 5) ≡ 5
+  -- a close makes the last writer by the server's record, and the flag by the client's
+  pub lastByTable : entryAfter (sides writing writingUncached) (CW 0 0) ≡ entry 1 notOpen notOpen 0
+  pub lastUnflagged : sideAfter (sides writing writingUncached) (CW 0 0) 0 ≡ side notOpen false 1
+  pub noLastByTable : entryAfter (sides writingUncached writing) (CW 0 0) ≡ entry 1 notOpen notOpen nobody
+  pub noLastFlagged : sideAfter (sides writingUncached writing) (CW 0 0) 0 ≡ side notOpen true 1
+  -- at a close a count of 0 stays 0 and leaves no last writer, and a record that is not open has no permission
+  pub closed0 : entryAfter (sides notOpen writing) (CW 0 0) ≡ entry 1 notOpen notOpen nobody
+  pub closed0Side : sideAfter (sides notOpen writing) (CW 0 0) 0 ≡ side notOpen true 1
+  pub closed0Permission : entryAfter (sides (opens 0 0 true) reading) (CR 0 0) ≡ entry 1 notOpen notOpen nobody
+  -- a kept grant tells the server's permission, and the client takes it, with its label and its copy
+  pub keptUncached : reply (sides readingUncached reading) (OR 0 0) ≡ Granted (grantUncached 1 0)
+  pub keptUncachedSide : sideAfter (sides readingUncached reading) (OR 0 0) 0 ≡ side (opens 2 0 false) false 0
+  pub keptUncachedCopy : copyAfter (withCopy 7 true false (sides readingUncached reading)) (OR 0 0) ≡ (0, false, false)
+  pub kept : reply (sides reading readingUncached) (OR 0 0) ≡ Granted (grant 1 0)
+  pub keptSide : sideAfter (sides reading readingUncached) (OR 0 0) 0 ≡ side (opens 2 0 true) false 1
+  -- permission without an open gives nothing: 11 while the server runs, 5 while it recovers
+  pub idleRunning : reply idle (RD 0 0 0) ≡ Refused 11
+  pub idleRecovering : reply (inRecovery true false idle) (RD 0 0 0) ≡ Refused 5
+
+pub apart : Apart
+unfolding fresh stepOf stateOf permissionAtGrant count stored
+apart =
+    record {
+      tableCalls = refl;
+      tableGrants = refl;
+      ownRead = refl;
+      ownWrite = refl;
+      ownClose = refl;
+      ownFull = refl;
+      ownRoom = refl;
+      ownClean = refl;
+      ownCached = refl;
+      ownUncached = refl;
+      lastByTable = refl;
+      lastUnflagged = refl;
+      noLastByTable = refl;
+      noLastFlagged = refl;
+      closed0 = refl;
+      closed0Side = refl;
+      closed0Permission = refl;
+      keptUncached = refl;
+      keptUncachedSide = refl;
+      keptUncachedCopy = refl;
+      kept = refl;
+      keptSide = refl;
+      idleRunning = refl;
+      idleRecovering = refl;
+    }
+
+-- "Dirty but not held", "Dirty at an invalidation alone", "Dirty at a client that is not open", "Held without
+-- permission"
+abbrev unheld : ℕ → Service
+unheld kind =
+    withCopy 7 false true
+    (withSide 0 (side writing false 1)
+    (withFile (waitingEntry (entry 1 writing notOpen nobody) 1 Read (kinds kind 0))))
+
+abbrev uncached : Service
+uncached = withCopy 7 true false (sides readingUncached readingUncached)
+
+pub record Blocks : Type 0 where
+  -- a flush and a write-back send a dirty block that is not held, and leave it clean and not held
+  pub flushed : blockAfter (unheld 1) (FL 0 0 0) ≡ 7
+  pub flushedCopy : copyAfter (unheld 1) (FL 0 0 0) ≡ (7, false, false)
+  pub sent : blockAfter (unheld 1) (AN 0 0) ≡ 7
+  pub sentCopy : copyAfter (unheld 1) (AN 0 0) ≡ (7, false, false)
+  -- a read fetches over it and holds it, and it stays dirty
+  pub fetched : reply (unheld 1) (RD 0 0 0) ≡ Value 0
+  pub fetchedCopy : copyAfter (unheld 1) (RD 0 0 0) ≡ (0, true, true)
+  -- kind 2 drops a dirty block and sends nothing
+  pub dropped : blockAfter (unheld 2) (AN 0 0) ≡ 0
+  pub droppedCopy : copyAfter (unheld 2) (AN 0 0) ≡ (0, false, false)
+  -- a flush looks at the dirty flag alone: the client need not be open
+  pub flushedClosed : blockAfter (withCopy 7 true true fresh) (FL 0 0 0) ≡ 7
+  -- a copy held without permission is not read, and stays
+  pub unread : reply uncached (RD 0 0 0) ≡ Value 0
+  pub unreadCopy : copyAfter uncached (RD 0 0 0) ≡ (7, true, false)
+
+pub blocks : Blocks
+unfolding fresh stepOf stateOf permissionAtGrant count stored
+blocks =
+    record {
+      flushed = refl;
+      flushedCopy = refl;
+      sent = refl;
+      sentCopy = refl;
+      fetched = refl;
+      fetchedCopy = refl;
+      dropped = refl;
+      droppedCopy = refl;
+      flushedClosed = refl;
+      unread = refl;
+      unreadCopy = refl;
+    }

@@ -1,0 +1,140 @@
+//! What holds of every step from every service, hand-made or not.
+
+use model::{
+    CLIENTS, Callbacks, ClientField, Document01, Entry, FILES, Outcome, Service, Step, VersionField, WaitField,
+};
+
+use crate::{plain, refusals};
+
+/// A step, and the service before and after it.
+pub struct Taken {
+    pub before: Service,
+    pub step: Step,
+    pub outcome: Outcome,
+    pub after: Service,
+}
+
+impl Taken {
+    pub fn from(before: Service, step: Step) -> Self {
+        let mut after = before.clone();
+        let outcome = after.take::<Document01>(&step);
+        Taken { before, step, outcome, after }
+    }
+
+    /// The refusal's number.
+    fn refusal(&self) -> Option<usize> {
+        match self.outcome {
+            Outcome::Refused(refusal) => Some(refusal.number()),
+            _ => None,
+        }
+    }
+
+    /// The opener that is granted in this step, and its file.
+    fn granted(&self) -> Option<(usize, usize)> {
+        let (client, file) = self.step.existing_place()?;
+        match self.outcome {
+            Outcome::Granted(_) => Some((client, file)),
+            Outcome::Replied(granted) => granted.map(|(opener, _)| (opener, file)),
+            _ => None,
+        }
+    }
+
+    fn touches(&self, client: usize, file: usize) -> bool {
+        self.step.existing_place() == Some((client, file)) || self.granted() == Some((client, file))
+    }
+}
+
+/// Gives the first promise that this step breaks.
+pub fn broken(taken: &Taken) -> Option<&'static str> {
+    PROMISES.iter().find(|(_, holds)| !holds(taken)).map(|(promise, _)| *promise)
+}
+
+type Promise = fn(&Taken) -> bool;
+
+const PROMISES: [(&str, Promise); 10] = [
+    ("refusals are tested in number order, lowest first", |taken| {
+        taken.refusal() == refusals::lowest(&taken.before, &taken.step)
+    }),
+    ("a refused step leaves server and clients as they came", |taken| {
+        taken.refusal().is_none() || taken.after == taken.before
+    }),
+    ("an accepted step does what document 01 says of it", |taken| {
+        let mut after = taken.before.clone();
+        taken.refusal().is_some() || (plain::accept(&mut after, &taken.step) == taken.outcome && after == taken.after)
+    }),
+    ("a step gets a reply of its own form", has_its_form),
+    ("at a crash, a report and an end nothing at a client changes", |taken| {
+        taken.step.existing_place().is_some() || taken.after.clients == taken.before.clients
+    }),
+    ("versions and blocks survive a crash; the rest does not", |taken| {
+        let survives = |(after, before): (&Entry, &Entry)| {
+            *after == Entry { version: before.version, blocks: before.blocks, ..Entry::fresh() }
+        };
+        let (server, before) = (&taken.after.server, &taken.before.server);
+        taken.step != Step::Crash || server.recovering && server.entries.iter().zip(&before.entries).all(survives)
+    }),
+    ("a step on a file leaves the other files and the other clients alone", leaves_the_rest_alone),
+    ("a read, a write and a flush leave the table as it is", leaves_the_table),
+    ("after a grant no open waits and no callback is out", |taken| {
+        taken.granted().is_none_or(|(_, file)| taken.after.server.entries[file].waiting == WaitField::NONE)
+    }),
+    ("a client field of 8 or more reads as none, a version of 0 as 1, a kind above 3 as no callback", |taken| {
+        let plain = Taken::from(as_read(&taken.before), taken.step);
+        plain.outcome == taken.outcome && as_read(&plain.after) == as_read(&taken.after)
+    }),
+];
+
+/// "G latest previous permission; or W and each call; or V value; or N refusal; or A, followed, if an open was granted,
+/// by its station and its G fields; else K."
+fn has_its_form(taken: &Taken) -> bool {
+    match (taken.step, taken.outcome) {
+        (_, Outcome::Refused(_)) => taken.step != Step::Crash,
+        (Step::Open { .. }, Outcome::Granted(grant)) => grant.previous + 1 == grant.latest,
+        (Step::Open { client, .. }, Outcome::Waits(Callbacks(kinds))) => {
+            kinds != [0; CLIENTS] && kinds[client as usize] == 0 && kinds.iter().all(|&kind| kind <= 3)
+        }
+        (Step::Reply { .. }, Outcome::Replied(None)) => true,
+        (Step::Reply { .. }, Outcome::Replied(Some((opener, grant)))) => {
+            opener < CLIENTS && grant.previous + 1 == grant.latest
+        }
+        (Step::Read { .. }, Outcome::Value(_)) => true,
+        (Step::Open { .. } | Step::Reply { .. } | Step::Read { .. }, _) => false,
+        (_, outcome) => outcome == Outcome::Done,
+    }
+}
+
+fn leaves_the_rest_alone(taken: &Taken) -> bool {
+    let Some((_, file)) = taken.step.existing_place() else { return true };
+    let (before, after) = (&taken.before, &taken.after);
+    let same_entry = |other| after.server.entries[other] == before.server.entries[other];
+    let same_end = |client: usize, file: usize| after.clients[client].files[file] == before.clients[client].files[file];
+    (0..FILES).all(|other| other == file || same_entry(other))
+        && (0..CLIENTS).all(|client| (0..FILES).all(|file| taken.touches(client, file) || same_end(client, file)))
+        && (after.server.recovering, after.server.reported) == (before.server.recovering, before.server.reported)
+}
+
+fn leaves_the_table(taken: &Taken) -> bool {
+    let (Step::Read { file, .. } | Step::Write { file, .. } | Step::Flush { file, .. }) = taken.step else {
+        return true;
+    };
+    let Some(before) = taken.before.server.entries.get(file as usize) else { return true };
+    let after = &taken.after.server.entries[file as usize];
+    *after == Entry { blocks: after.blocks, ..before.clone() }
+}
+
+/// The same service with every field stored as it reads.
+fn as_read(service: &Service) -> Service {
+    let mut read = service.clone();
+    for entry in &mut read.server.entries {
+        entry.version = VersionField(entry.version.0.max(1));
+        if entry.last_writer.0 >= 8 {
+            entry.last_writer = ClientField::NONE;
+        }
+        let WaitField { opener, callbacks, .. } = &mut entry.waiting;
+        callbacks.0.iter_mut().filter(|kind| **kind > 3).for_each(|kind| *kind = 0);
+        if opener.0 >= 8 {
+            entry.waiting = WaitField::NONE;
+        }
+    }
+    read
+}

@@ -1,0 +1,171 @@
+//! Random services with every sort of field, and random steps on them with numbers in and out of range.
+
+use std::ops::Range;
+
+use model::check::{Tally, Witness};
+use model::generate::Rng;
+use model::{
+    BLOCKS, CLIENTS, Callbacks, ClientField, ClientFile, ClientSet, Copies, Document01, FILES, Mode, Record, Refusal,
+    Service, Step, VersionField, WaitField, replay_from,
+};
+
+use crate::plain;
+use crate::promises::{Taken, broken};
+
+/// Takes so many steps from the service of each seed, under every promise; tells what they met.
+fn hold(seeds: Range<u64>, steps: usize) -> Tally {
+    let mut tally = Tally::default();
+    for seed in seeds {
+        let mut maker = Maker { rng: Rng::new(seed) };
+        let mut service = maker.service();
+        for _ in 0..steps {
+            let step = maker.step(&service);
+            let taken = Taken::from(service, step);
+            assert_eq!(broken(&taken), None, "seed {seed}: {:?} gets {:?}", taken.step, taken.outcome);
+            tally.after(&taken.after, &taken.step, &taken.outcome);
+            tally.answered(&taken.outcome);
+            service = taken.after;
+        }
+        let summary = replay_from::<Document01>(&mut service, b"", &mut ());
+        assert_eq!(String::from_utf8_lossy(&summary), plain::summary(&service.server), "seed {seed}");
+    }
+    tally
+}
+
+#[test]
+fn random_services_keep_every_promise() {
+    let tally = hold(0..20_000, 8);
+    use Refusal::*;
+    let met = |refusal| tally.refused(refusal) > 50;
+    assert!([NoSuchClient, NoSuchFile, NoSuchBlock, Recovering, NotRecovering, AlreadyReported].into_iter().all(met));
+    assert!([ReportsMissing, OpenWaits, NoCallback, NotOpen, CountAtLimit, NotDirty].into_iter().all(met));
+    assert!(met(VersionAtLimit) && tally.waits() > 1000 && tally.grants_after_waits() > 500);
+    assert!(tally.recoveries() > 100);
+}
+
+/// Run it with `--release` and `--ignored`.
+#[test]
+#[ignore = "takes a minute"]
+fn many_random_services_keep_every_promise() {
+    hold(1_000_000..1_500_000, 8);
+}
+
+/// The files that are made by hand; the others are fresh.
+const MADE: [usize; 3] = [0, 1, FILES - 1];
+
+struct Maker {
+    rng: Rng,
+}
+
+impl Maker {
+    fn service(&mut self) -> Service {
+        let mut service = Service::fresh();
+        service.server.recovering = self.rng.one_in(4);
+        service.server.reported = self.reported();
+        for file in MADE {
+            self.make(&mut service, file);
+        }
+        service
+    }
+
+    fn reported(&mut self) -> ClientSet {
+        match self.rng.below(4) {
+            0 => ClientSet::NONE,
+            1 => ClientSet::ALL,
+            _ => (0..CLIENTS).fold(ClientSet::NONE, |set, client| if self.coin() { set.with(client) } else { set }),
+        }
+    }
+
+    fn make(&mut self, service: &mut Service, file: usize) {
+        let spread = *self.rng.pick(&[1, 3, 8, 8]);
+        let entry = &mut service.server.entries[file];
+        entry.version = VersionField(*self.rng.pick(&[0, 0, 1, 2, 7, u32::MAX - 1, u32::MAX]));
+        entry.last_writer = self.client_field();
+        entry.waiting = self.wait();
+        entry.blocks = std::array::from_fn(|_| self.value());
+        for client in 0..CLIENTS {
+            let record = self.record(spread);
+            entry.records[client] = record;
+            let own = if self.rng.one_in(4) { self.record(spread) } else { record };
+            service.clients[client].files[file] = self.end(own, entry.version.read());
+        }
+    }
+
+    /// A client or a number that reads as none.
+    fn client_field(&mut self) -> ClientField {
+        ClientField(if self.coin() { self.rng.below(CLIENTS) as u8 } else { *self.rng.pick(&[8, 9, 15, 128, 255]) })
+    }
+
+    fn wait(&mut self) -> WaitField {
+        let opener = if self.rng.one_in(3) { ClientField::NONE } else { self.client_field() };
+        let kinds: &[u8] = if self.coin() { &[0, 0, 0, 0, 0, 0, 1, 2, 3, 4] } else { &[0, 1, 2, 3, 4, 7, 129, 255] };
+        WaitField { opener, mode: self.mode(), callbacks: Callbacks([(); CLIENTS].map(|()| *self.rng.pick(kinds))) }
+    }
+
+    /// One client in so many is open; most that are may cache.
+    fn record(&mut self, spread: usize) -> Record {
+        if !self.rng.one_in(spread) {
+            return Record { may_cache: self.rng.one_in(6), ..Record::default() };
+        }
+        Record { readers: self.count(), writers: self.count(), may_cache: !self.rng.one_in(5) }
+    }
+
+    fn count(&mut self) -> u8 {
+        *self.rng.pick(&[0, 0, 0, 1, 1, 2, 254, 255])
+    }
+
+    /// A client's end of a file at this version.
+    fn end(&mut self, record: Record, version: u32) -> ClientFile {
+        let cached_version = *self.rng.pick(&[0, 1, version - 1, version, version.saturating_add(1)]);
+        let copies = Copies {
+            values: std::array::from_fn(|_| self.value()),
+            held: std::array::from_fn(|_| self.coin()),
+            dirty: std::array::from_fn(|_| self.coin()),
+        };
+        ClientFile { record, last_writer_flag: self.rng.one_in(3), cached_version, copies }
+    }
+
+    fn step(&mut self, service: &Service) -> Step {
+        let (mode, client, file, block) = (self.mode(), self.number(CLIENTS), self.file(), self.number(BLOCKS));
+        match self.rng.below(33) {
+            0..9 => Step::Open { mode, client, file },
+            9..13 => Step::Close { mode, client, file },
+            13..20 => Step::Reply { client: self.called(service, file).unwrap_or(client), file },
+            20..23 => Step::Read { client, file, block },
+            23..26 => Step::Write { client, file, block, value: self.value() },
+            26..28 => Step::Flush { client, file, block },
+            28 => Step::Crash,
+            29 => Step::End,
+            _ => Step::Report { client },
+        }
+    }
+
+    /// Half of the time a client that is called on this file, if any is.
+    fn called(&mut self, service: &Service, file: u64) -> Option<u64> {
+        let waiting = service.server.entries.get(file as usize)?.waiting.read()?;
+        let called: Vec<usize> = waiting.callbacks.clients().members().collect();
+        (self.coin() && !called.is_empty()).then(|| *self.rng.pick(&called) as u64)
+    }
+
+    fn file(&mut self) -> u64 {
+        if self.rng.one_in(20) { self.number(FILES) } else { *self.rng.pick(&MADE) as u64 }
+    }
+
+    /// A number below the limit, or now and then one at it or above.
+    fn number(&mut self, limit: usize) -> u64 {
+        let beyond = [0, 1, limit as u64, 256, 1 << 32, u64::MAX - limit as u64].map(|more| limit as u64 + more);
+        if self.rng.one_in(16) { *self.rng.pick(&beyond) } else { self.rng.below(limit) as u64 }
+    }
+
+    fn mode(&mut self) -> Mode {
+        *self.rng.pick(&[Mode::Read, Mode::Write])
+    }
+
+    fn value(&mut self) -> u64 {
+        *self.rng.pick(&[0, 1, 2, 3, u64::MAX])
+    }
+
+    fn coin(&mut self) -> bool {
+        self.rng.one_in(2)
+    }
+}

@@ -1,0 +1,118 @@
+//! "Who can cause a refusal", read once more and apart from the model: the numbers that each step tests, and what each
+//! number says of a service and a step.
+
+use model::{ClientFile, Entry, Mode, Record, Service, Step};
+
+/// The lowest number of the step's list that holds.
+pub fn lowest(service: &Service, step: &Step) -> Option<usize> {
+    tested(step).iter().copied().find(|&number| holds(number, service, step))
+}
+
+/// "Open tests 2, 3, 5, 9, 12, 14; close 2, 3, 5, 9, 11; read and write 2, 3, 4, 5, 11; flush 2, 3, 4, 5, 13; reply 2, 3,
+/// 5, 10; report 2, 6, 7; end 6, 8; crash none."
+fn tested(step: &Step) -> &'static [usize] {
+    match step {
+        Step::Open { .. } => &[2, 3, 5, 9, 12, 14],
+        Step::Close { .. } => &[2, 3, 5, 9, 11],
+        Step::Read { .. } | Step::Write { .. } => &[2, 3, 4, 5, 11],
+        Step::Flush { .. } => &[2, 3, 4, 5, 13],
+        Step::Reply { .. } => &[2, 3, 5, 10],
+        Step::Report { .. } => &[2, 6, 7],
+        Step::End => &[6, 8],
+        Step::Crash => &[],
+    }
+}
+
+/// A number above 4 is asked for only where 2, 3 and 4 do not hold.
+fn holds(number: usize, service: &Service, step: &Step) -> bool {
+    let Numbers { client, file, block } = Numbers::of(step);
+    let at = || Place::of(service, client as usize, file as usize);
+    match number {
+        2 => client > 7,
+        3 => file > 31,
+        4 => block > 3,
+        5 => service.server.recovering && recovery_stops(service, step, &at(), block as usize),
+        6 => !service.server.recovering,
+        7 => service.server.reported.contains(client as usize),
+        8 => (0..8).any(|client| !service.server.reported.contains(client)),
+        9 => at().entry.waiting.opener.0 < 8,
+        10 => !at().is_called(client as usize),
+        11 => !is_open_as_needed(&at().own.record, step),
+        12 => count(&at().own.record, mode(step)) == 255,
+        13 => !at().own.copies.dirty[block as usize],
+        14 => mode(step) == Mode::Write && at().entry.version.0 == 4_294_967_295,
+        _ => unreachable!("no step tests {number}"),
+    }
+}
+
+/// The numbers of a step; 0 where it has none.
+struct Numbers {
+    client: u64,
+    file: u64,
+    block: u64,
+}
+
+impl Numbers {
+    fn of(step: &Step) -> Self {
+        let (client, file, block) = match *step {
+            Step::Open { client, file, .. } | Step::Close { client, file, .. } => (client, file, 0),
+            Step::Reply { client, file } => (client, file, 0),
+            Step::Read { client, file, block } | Step::Flush { client, file, block } => (client, file, block),
+            Step::Write { client, file, block, .. } => (client, file, block),
+            Step::Report { client } => (client, 0, 0),
+            Step::Crash | Step::End => (0, 0, 0),
+        };
+        Numbers { client, file, block }
+    }
+}
+
+/// A file at the server and at the client of the step.
+struct Place<'a> {
+    entry: &'a Entry,
+    own: &'a ClientFile,
+}
+
+impl<'a> Place<'a> {
+    fn of(service: &'a Service, client: usize, file: usize) -> Self {
+        Place { entry: &service.server.entries[file], own: &service.clients[client].files[file] }
+    }
+
+    fn is_called(&self, client: usize) -> bool {
+        self.entry.waiting.opener.0 < 8 && (1..=3).contains(&self.entry.waiting.callbacks.0[client])
+    }
+}
+
+/// "For reads and writes 5 holds during recovery if the station has reported, or if the step needs the server: a read
+/// unless the station is open, may cache and holds the block; a write unless it has writers and may cache. For the other
+/// steps 5 holds throughout recovery."
+fn recovery_stops(service: &Service, step: &Step, at: &Place, block: usize) -> bool {
+    let Record { readers, writers, may_cache } = at.own.record;
+    match *step {
+        Step::Read { client, .. } => {
+            let served = (readers > 0 || writers > 0) && may_cache && at.own.copies.held[block];
+            service.server.reported.contains(client as usize) || !served
+        }
+        Step::Write { client, .. } => service.server.reported.contains(client as usize) || !(writers > 0 && may_cache),
+        _ => true,
+    }
+}
+
+/// "11 not open in the mode needed (a read needs either)."
+fn is_open_as_needed(own: &Record, step: &Step) -> bool {
+    match step {
+        Step::Read { .. } => own.readers > 0 || own.writers > 0,
+        Step::Write { .. } => own.writers > 0,
+        _ => count(own, mode(step)) > 0,
+    }
+}
+
+fn mode(step: &Step) -> Mode {
+    match *step {
+        Step::Open { mode, .. } | Step::Close { mode, .. } => mode,
+        _ => unreachable!("{step:?} has no mode"),
+    }
+}
+
+fn count(record: &Record, mode: Mode) -> u8 {
+    if mode == Mode::Read { record.readers } else { record.writers }
+}
