@@ -1,34 +1,29 @@
 -- `answered_entry` meets its contract: a callback that invalidates takes the permission, and one that writes back takes
 -- the last writer. Assumes nothing.
+use mathlib.Core.Path.{_≡_}
 use borrow.Author.Needs.{needs}
+use Rattle.protocol.specs.Entry.{answeredEntry}
 use Rattle.table.proofs.entry.answered_entry.Statement.{statement}
 use Rattle.table.proofs.entry.answered_entry.Tie as tie
 
-returns : tie.Need-returns
-returns c =
-    let stored = c .before .before in
-    let b = stored .before in
+-- the records, with the client's as its answer leaves it
+records-after : (c : tie.After-with-record)
+    → (let a = c .before .before .before .before .before .before .args in
+    c .with-record .result ≡ answeredEntry (a .t1) (a .client) (a .kind) .records)
+records-after c =
+    let own = c .before in
     rw (
-      stored .with-record .ensures,
-      b .either .ensures,
-      b .before .uncached .ensures,
-      b .before .before .invalidates .ensures,
-      ← c .before .writes-back .ensures,
-      c .if1 .taken,
+      c .with-record .ensures,
+      own .either .ensures,
+      own .before .uncached .ensures,
+      own .before .before .invalidates .ensures,
     )
 
+returns : tie.Need-returns
+returns c = rw (records-after (c .before .before), ← c .before .writes-back .ensures, c .if1 .taken)
+
 returns-2 : tie.Need-returns-2
-returns-2 c =
-    let stored = c .before .before in
-    let b = stored .before in
-    rw (
-      stored .with-record .ensures,
-      b .either .ensures,
-      b .before .uncached .ensures,
-      b .before .before .invalidates .ensures,
-      ← c .before .writes-back .ensures,
-      c .if1 .left,
-    )
+returns-2 c = rw (records-after (c .before .before), ← c .before .writes-back .ensures, c .if1 .left)
 
 pub answered-entry-spec : {M : Type 1} → statement M
 answered-entry-spec =
