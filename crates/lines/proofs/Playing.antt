@@ -32,7 +32,7 @@ abbrev isLine : Read → Bool
 isLine (Line p next) = true
 isLine Part = false
 
--- a line that was read at a offset
+-- a line that was read at an offset
 pub record ReadLine (input : List ℕ) (used : ℕ) (p : Parsed) (next : ℕ) : Type 0 where
   pub line : List ℕ
   pub gives : parseLine line ≡ p
@@ -76,8 +76,8 @@ module _ (room to number : ℕ) (can : canReply room to number ≡ true) where
   pub has-number : number < lastNumber
   has-number = ltb-true number lastNumber (and-right (leb (to + lineRoom) room) (ltb number lastNumber) can)
 
--- What the loop has done when it stands before a line: the reply lines so far are written, and the rest of the input gives what the whole
--- was to give.
+-- What the loop has done when it stands before a line: the reply lines so far are written, and the rest of the input
+-- gives what the whole was to give.
 pub record Reached (s : Service) (n : ℕ) (input out : List ℕ) (t : Service) (number used to : ℕ) (out′ : List ℕ) : Type 0 where
   pub at : At s n input t number used to
   pub writes : Wrote out 0 (transcriptOf s n (take used input)) out′ to

@@ -1,5 +1,5 @@
--- How far an input is played: the definition `lineProgress` stops past a line, with the reply lines, the service and the number that the
--- transcript gives. Assumes nothing.
+-- How far an input is played: the definition `lineProgress` stops past a line, with the reply lines, the service and
+-- the number that the transcript gives. Assumes nothing.
 use Prim.Native.Nat.{ℕ, _+_, _-_, _≤_, _<_}
 use mathlib.Core.Path.{_≡_, refl, sym, ap, subst, _∙_}
 use mathlib.Core.Bool.{true, false}
@@ -20,7 +20,7 @@ use Rattle.lines.specs.declared.lines.Progress.{Progress}
 use Rattle.lines.specs.Lines.{transcriptOf, afterInput, canReply, stopped, progressOf, lineProgress}
 use Rattle.lines.proofs.Resting.{no-lf}
 
--- the line that starts at a offset, and the offset past its LF
+-- the line that starts at an offset, and the offset past its LF
 pub record LineAt (input : List ℕ) (used : ℕ) (line : List ℕ) (next : ℕ) : Type 0 where
   pub none : NoLF line
   pub upto : take next input ≡ take used input ++ (line ++ (10 ∷ []))
@@ -50,7 +50,7 @@ module _ (input : List ℕ) (used : ℕ) (h : used ≤ length input) (l r : List
         inside = omega (arith, ap length whole, length-append (a ++ (l ++ (10 ∷ []))) r, long);
       }
 
--- the first of the whole lines from a offset on
+-- the first of the whole lines from an offset on
 first-whole : (input : List ℕ) (used : ℕ) → used ≤ length input → (l : List ℕ) (ls : List (List ℕ))
     → wholeLines (drop used input) ≡ l ∷ ls → LineAt input used l (used + length l + 1)
 first-whole input used h l ls e = from (firstLine (drop used input)) refl
@@ -64,8 +64,8 @@ first-whole input used h l ls e = from (firstLine (drop used input)) refl
         let f : [] ≡ l ∷ ls = sym (whole-none (drop used input) (no-lf (drop used input) q)) ∙ e in
         absurd (nil≢cons f)
 
--- the input is played up to a offset where a line starts: t is the service there, the next line has the number, and the reply lines have so
--- many bytes
+-- the input is played up to an offset where a line starts: t is the service there, the next line has the number, and the
+-- reply lines have so many bytes
 pub record At (s : Service) (n : ℕ) (input : List ℕ) (t : Service) (number used to : ℕ) : Type 0 where
   pub inside : used ≤ length input
   pub breaks : BreaksLine (take used input)

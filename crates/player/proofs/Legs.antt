@@ -1,5 +1,5 @@
--- A turn of the program: what it writes, and what will be written of the rest, are what is played of its bytes and of all that follows; the
--- session and the buffer that it leaves are sound. Assumes nothing.
+-- A turn of the program: what it writes, and what will be written of the rest, are what is played of its bytes and of
+-- all that follows; the session and the buffer that it leaves are sound. Assumes nothing.
 use Prim.Native.Nat.{ℕ, _+_, _≤_, _<_}
 use mathlib.Core.Path.{_≡_, refl, sym, ap, subst, _∙_}
 use mathlib.Core.Bool.{Bool, true, false, not, _&&_, _||_}
@@ -70,7 +70,8 @@ over-wants-none false over e = rw e
 paused-wants-none : (paused over : Bool) → paused ≡ true → not (paused || over) ≡ false
 paused-wants-none paused over e = rw e
 
--- where a session whose input is over has another turn than its last, it is paused; where it is not paused and not at its last, it reads
+-- where a session whose input is over has another turn than its last, it is paused; where it is not paused and not at
+-- its last, it reads
 still-paused : (paused over : Bool) → (over && not paused) ≡ false → over ≡ true → paused ≡ true
 still-paused true over e f = refl
 still-paused false over e f = conflict (and-true over f) e
@@ -83,8 +84,8 @@ still-reads : (paused over : Bool) → (over && not paused) ≡ false → paused
 still-reads paused true e f = conflict (rw f) e
 still-reads paused false e f = refl
 
--- What stands between two turns: a session that is to read has the start of one line, for which there is room; one whose input is over has
--- whole lines, and nothing once they are played.
+-- What stands between two turns: a session that is to read has the start of one line, for which there is room; one
+-- whose input is over has whole lines, and nothing once they are played.
 pub record Sound (σ : Session) (kept : List ℕ) : Type 0 where
   pub reading : wantsInput σ ≡ true → NoLF kept × (σ .rest ≤ 87)
   pub whole : σ .over ≡ true → Terminated kept

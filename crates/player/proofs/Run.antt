@@ -1,5 +1,5 @@
--- The whole run: from a fresh session on, what the program writes until the session is done is the played file of what it read, however the
--- input was cut into pieces, and whether its last line has its LF or not. Assumes nothing.
+-- The whole run: from a fresh session on, what the program writes until the session is done is the played file of what
+-- it read, however the input was cut into pieces, and whether its last line has its LF or not. Assumes nothing.
 use Prim.Native.Nat.{ℕ}
 use mathlib.Core.Path.{_≡_, refl, sym, ap, _∙_}
 use mathlib.Core.Bool.{true, false}

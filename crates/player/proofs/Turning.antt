@@ -1,5 +1,5 @@
--- What a turn leaves: whatever follows its bytes in the input, the transcript of all of it is what the turn wrote, and then the transcript
--- of the bytes that it kept and what follows; so with the service. Assumes nothing.
+-- What a turn leaves: whatever follows its bytes in the input, the transcript of all of it is what the turn wrote, and
+-- then the transcript of the bytes that it kept and what follows; so with the service. Assumes nothing.
 use Prim.Native.Nat.{ℕ, _+_, _-_, _≤_, _<_}
 use mathlib.Core.Path.{_≡_, refl, sym, ap, _∙_}
 use mathlib.Core.Bool.{Bool, true, false, not, true≢false}

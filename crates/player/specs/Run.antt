@@ -25,8 +25,8 @@ left σ g = bufferLeft σ (length (g .piece)) (g .buffer) (g .out)
 abbrev pub wrote : Session → Leg → List ℕ
 wrote σ g = take (turned σ g .written) (outLeft σ (length (g .piece)) (g .buffer) (g .out))
 
--- The program takes a turn of a session that is not done: the piece that it read stands after the rest, and it read none where the session
--- wants none. The buffers have room for a line of 87 bytes and its LF, and for the summary.
+-- The program takes a turn of a session that is not done: the piece that it read stands after the rest, and it read
+-- none where the session wants none. The buffers have room for a line of 87 bytes and its LF, and for the summary.
 pub record Takes (σ : Session) (buffer : List ℕ) (g : Leg) : Type 0 where
   pub going : σ .done ≡ false
   pub reading : wantsInput σ ≡ false → g .piece ≡ []

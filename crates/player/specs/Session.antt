@@ -1,5 +1,5 @@
--- A session: one input from its first byte to the summary. The program reads, lets the session take a turn, and writes what the turn left
--- in the output buffer; all else is decided here.
+-- A session: one input from its first byte to the summary. The program reads, lets the session take a turn, and writes
+-- what the turn left in the output buffer; all else is decided here.
 use Prim.Native.Nat.{ℕ, _+_}
 use mathlib.Core.Bool.{Bool, false, cond, not, _&&_, _||_}
 use mathlib.Core.List.{List}
@@ -31,8 +31,8 @@ isLastTurn σ = σ .over && not (σ .paused)
 abbrev pub readsNothing : Bool → ℕ → Bool
 readsNothing paused got = not paused && eqb got 0
 
--- The buffer that the turn plays, and how many bytes of it: the rest and what was read, at most what the buffer has; at the end of the
--- input the rest and LF.
+-- The buffer that the turn plays, and how many bytes of it: the rest and what was read, at most what the buffer has; at
+-- the end of the input the rest and LF.
 abbrev pub turnBuffer : Bool → ℕ → ℕ → List ℕ → List ℕ
 turnBuffer paused rest got buffer = cond (readsNothing paused got) (completedBuffer buffer rest) buffer
 
@@ -84,8 +84,8 @@ closed σ out =
       written = cond (leb summaryRoom (length out)) (length (summaryOf σ)) 0;
     }
 
--- What a turn leaves: the session and how much was written, the buffer, and the output buffer. `got` is what the read gave, and counts
--- only where the session wants input.
+-- What a turn leaves: the session and how much was written, the buffer, and the output buffer. `got` is what the read
+-- gave, and counts only where the session wants input.
 abbrev pub advanced : Session → ℕ → List ℕ → List ℕ → Advance
 advanced σ got buffer out = cond (isLastTurn σ) (closed σ out) (afterTurn σ got (turnBytes σ got buffer) out)
 

@@ -12,13 +12,13 @@ use Rattle.lines.specs.Lines.{canReply, lineProgress}
 abbrev pub least : ℕ → ℕ → ℕ
 least a b = cond (ltb a b) a b
 
--- How many of the bytes that are left are kept for the next turn: all of them; of a line that has no LF yet 87 at most, since a line of
--- that length is no step, whatever follows.
+-- How many of the bytes that are left are kept for the next turn: all of them; of a line that has no LF yet 87 at most,
+-- since a line of that length is no step, whatever follows.
 abbrev pub keptOf : Bool → ℕ → ℕ
 keptOf isOneLine left = cond isOneLine (least left 87) left
 
--- A turn from service s on over these bytes into a buffer, the first line numbered n. It pauses exactly where no other line can be
--- replied to; where one can, what is left has no whole line.
+-- A turn from service s on over these bytes into a buffer, the first line numbered n. It pauses exactly where no other
+-- line can be replied to; where one can, what is left has no whole line.
 abbrev pub turnOf : Service → ℕ → List ℕ → List ℕ → Turn
 turnOf s n bytes out =
     let p = lineProgress s n bytes out in

@@ -4,7 +4,8 @@ ghost use mathlib.Core.Path.{_≡_};
 ghost use Prim.Native.Nat.{_+_, _≤_};
 ghost use lib.ListN.{length};
 ghost use Rattle.player.specs.Turn.{least as smaller};
-ghost use Rattle.player.specs.Session.{freshSession, turnBuffer, filled, closed, advanced, bufferLeft, outLeft, lastOut};
+ghost use Rattle.player.specs.Session.{freshSession, turnBuffer, filled, closed, lastOut};
+ghost use Rattle.player.specs.Session.{advanced, bufferLeft, outLeft};
 use crate::turn::complete_line;
 use crate::turn::least;
 use crate::turn::play_turn;
@@ -48,8 +49,8 @@ impl Session {
         }
     }
 
-    // Takes a turn. A session that is neither paused nor over wants a read into the buffer after the rest, which gave so
-    // many bytes, 0 at the end of the input; otherwise no read is wanted, and the number is not looked at.
+    // Takes a turn. A session that is neither paused nor over wants a read into the buffer after the rest, which gave
+    // so many bytes, 0 at the end of the input; otherwise no read is wanted, and the number is not looked at.
     pub fn advance(self, got: usize, buffer: &mut [u8], out: &mut [u8]) -> Advance
         ensures { λ r. ⌜ r ≡ advanced self got (now (buffer .entry)) (now (out .entry)) ⌝ }
         ensures { λ r. ⌜ now (buffer .exit) ≡ bufferLeft self got (now (buffer .entry)) (now (out .entry)) ⌝ }

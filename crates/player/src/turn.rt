@@ -4,7 +4,8 @@ ghost use Prim.Native.Nat.{_+_, _≤_};
 ghost use lib.ListN.{length, take, drop};
 ghost use lib.Seq.{paste};
 ghost use Rattle.lines.specs.Lines.{linesWritten};
-ghost use Rattle.player.specs.Turn.{least as smaller, keptOf, turnOf, bufferAfter, completedBuffer, completedCount};
+ghost use Rattle.player.specs.Turn.{least as smaller, keptOf, turnOf, bufferAfter};
+ghost use Rattle.player.specs.Turn.{completedBuffer, completedCount};
 use lines::can_reply;
 use lines::play_lines;
 use service::Service;
@@ -32,7 +33,8 @@ pub fn play_turn(
     ensures { λ r. ⌜ r ≡ turnOf service number (take filled (now (buffer .entry))) (now (out .entry)) ⌝ }
     ensures { λ r. ⌜ now (buffer .exit)
         ≡ bufferAfter service number (now (buffer .entry)) (take filled (now (buffer .entry))) (now (out .entry)) ⌝ }
-    ensures { λ r. ⌜ now (out .exit) ≡ linesWritten service number (take filled (now (buffer .entry))) (now (out .entry)) ⌝ }
+    ensures { λ r. ⌜ now (out .exit)
+        ≡ linesWritten service number (take filled (now (buffer .entry))) (now (out .entry)) ⌝ }
     ensures { λ r. ⌜ r .written ≤ length (now (out .entry)) ⌝ }
     ensures { λ r. ⌜ r .rest ≤ length (now (buffer .entry)) ⌝ }
 {

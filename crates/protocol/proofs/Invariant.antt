@@ -111,17 +111,17 @@ pub record Sound
   -- D4: where no client has the block dirty, the server's block is the reference memory's number.
   pub cleanIsRight : ((s : ℕ) → dirty s ≡ true → ⊥) → block ≡ k
 
--- A2, B3, B4: the last writer is the marked client, as far as the clients have heard: all of them while the server runs,
+-- A2, B3, B4: the last writer is the marked client, as far as the table has heard them: all clients while the server runs,
 -- those that have reported while it recovers.
 pub record LastWriter (n last : ℕ) (client : ℕ → ClientFile) (heard : ℕ → Bool) : Type 0 where
-  -- Where a client that has heard is marked, it is the last writer.
+  -- Where a client that the table has heard is marked, it is the last writer.
   pub named : (s : ℕ) → heard s ≡ true → client s .marked ≡ true → last ≡ s
   -- Where the last writer is a client, that one is marked.
   pub holder : last < n → client last .marked ≡ true
   -- Where there is none, `nobody` stands for it.
   pub unnamed : n ≤ last → last ≡ nobody
 
--- What a table says of the clients that have heard it.
+-- What a table says of the clients that it has heard.
 pub record Agrees
     (n : ℕ)
     (records : List ClientRecord)
@@ -165,7 +165,7 @@ pub record Waiting
   -- W6: there is a version left for a write open.
   pub versionLeft : (isWrite mode && isLastVersion version) ≡ false
 
--- everybody has heard the table
+-- the table has heard everybody
 abbrev pub everybody : ℕ → Bool
 everybody s = true
 

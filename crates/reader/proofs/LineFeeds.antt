@@ -1,4 +1,4 @@
--- The line at a offset, by what the reader of a step answers there, and the search for LF. Assumes nothing.
+-- The line at an offset, by what the reader of a step answers there, and the search for LF. Assumes nothing.
 use Prim.Native.Nat.{ℕ, suc, _+_, _≤_, _<_}
 use mathlib.Core.Path.{_≡_, refl, sym, _∙_, ap}
 use mathlib.Core.List.{List, [], _∷_}

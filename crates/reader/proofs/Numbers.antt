@@ -1,4 +1,4 @@
--- Reading a number at a offset, a byte at a time: what the grammar gives at a byte that is known. Assumes nothing.
+-- Reading a number at an offset, a byte at a time: what the grammar gives at a byte that is known. Assumes nothing.
 use Prim.Native.Nat.{ℕ, _+_, _-_, _*_, _^_, _≤_, _<_}
 use mathlib.Core.Path.{_≡_, _∙_}
 use mathlib.Core.Bool.{false}

@@ -1,4 +1,4 @@
--- What a reader's answer says of the bytes s: an answer gives a offset in them, and the rest is what stands from that
+-- What a reader's answer says of the bytes s: an answer gives an offset in them, and the rest is what stands from that
 -- offset on.
 use Prim.Native.Nat.{ℕ}
 use mathlib.Core.List.{List}

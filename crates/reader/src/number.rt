@@ -4,7 +4,7 @@ ghost use lib.ListN.{drop};
 ghost use Rattle.stepfile.specs.Grammar.{digitsOn, numeral, argument};
 ghost use Rattle.reader.specs.Offsets.{numberIn};
 
-// What reading a number at a offset finds.
+// What reading a number at an offset finds.
 pub enum Number {
     // The number, and the offset past its last digit.
     Is { value: u64, next: usize },

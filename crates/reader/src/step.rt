@@ -11,7 +11,7 @@ use crate::number::wide;
 use protocol::Step;
 use records::Mode;
 
-// What reading a step at a offset finds: the step, and the offset past its last byte.
+// What reading a step at an offset finds: the step, and the offset past its last byte.
 pub enum Begun {
     Is { step: Step, next: usize },
     Missing,

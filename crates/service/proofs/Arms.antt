@@ -67,7 +67,7 @@ withPair s i f e =
       calls = noCalls;
     }
 
--- change that are refused are stored back as they were
+-- changes that are refused are stored back as they were
 pub refused-pair : (s : Service) (i f k : ℕ) → withPair s i f (refusedChange (entryAt s f) (clientAt s i f) k) ≡ refusedWith s k
 refused-pair s i f k =
     ap₂

@@ -10,7 +10,7 @@ use borrow.Author.Tests.{lt-ltb, le-ltb, le-leb, lt-leb}
 use Rattle.stepfile.specs.Grammar.{found, nothing, isDigit, digitsOn}
 use Rattle.records.proofs.Choosing.{when, unless}
 
--- the byte at a offset, and the offset after it
+-- the byte at an offset, and the offset after it
 pub at-offset : (s : List ℕ) (i : ℕ) → i < length s → drop i s ≡ getD s i 0 ∷ drop (i + 1) s
 at-offset s i h = rw (add-one, drop-cons s i 0)
 

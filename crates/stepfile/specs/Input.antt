@@ -1,4 +1,4 @@
--- The lines of an input that LF ends: all of them, and the one that starts at a offset.
+-- The lines of an input that LF ends: all of them, and the one that starts at an offset.
 use Prim.Native.Nat.{ℕ, _+_}
 use mathlib.Core.Bool.{Bool, true, false, cond}
 use mathlib.Core.List.{List, [], _∷_}

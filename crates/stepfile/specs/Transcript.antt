@@ -5,7 +5,7 @@ use mathlib.Core.Bool.{Bool, true, false}
 use mathlib.Core.List.{List, [], _∷_, _++_}
 use lib.Dec.{eqb}
 
--- A byte before lines: "one step a line, alone by LF or the end of input (nothing after the last LF is no line)". LF
+-- A byte before lines: "one step a line, ended by LF or the end of input (nothing after the last LF is no line)". LF
 -- begins another line, any other byte is the first of the first line.
 abbrev pub before : Bool → ℕ → List (List ℕ) → List (List ℕ)
 before true b ls = [] ∷ ls

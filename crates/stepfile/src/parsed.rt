@@ -7,7 +7,7 @@ pub enum Parsed {
     NoStep,
 }
 
-// What stands at a offset of an input.
+// What stands at an offset of an input.
 pub enum Read {
     // A line: what it gives, and the offset past its LF.
     Line { parsed: Parsed, next: usize },

@@ -1,4 +1,4 @@
-// Bytes and numbers, written into a buffer at a offset. Each function answers the offset past what it wrote.
+// Bytes and numbers, written into a buffer at an offset. Each function answers the offset past what it wrote.
 ghost use Prim.Native.Nat.{_+_, _≤_, _<_};
 ghost use mathlib.Core.Path.{_≡_};
 ghost use mathlib.Core.List.{[], _∷_};

@@ -23,7 +23,7 @@ use Rattle.protocol.proofs.Invariant.Flags.{conflict, split, change}
 use Rattle.protocol.proofs.Invariant.Last.{last-none, last-one, last-same}
 use Rattle.protocol.proofs.Invariant.Change.{marked-is-client}
 
--- the table after a crash, which nobody has heard anything
+-- the table after a crash, which has heard nobody
 crashed-table :
     (n : ℕ) (v : Version) (client : ℕ → ClientFile)
     → n ≤ nobody
@@ -106,7 +106,7 @@ module _
           lastWriter = last-heard i below;
         }
 
-    -- once all clients have heard it, the table agrees with everybody
+    -- once it has heard all clients, the table agrees with everybody
     heard-all : ((s : ℕ) → s < n → heard s ≡ true) → Agrees n (e .records) (e .last) client everybody
     heard-all all =
         record {

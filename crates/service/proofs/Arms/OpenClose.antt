@@ -1,4 +1,4 @@
--- An open and a close, put together from their change. Assumes nothing.
+-- An open and a close, put together from their changes. Assumes nothing.
 use Prim.Native.Nat.{ℕ, _*_, _%_}
 use mathlib.Core.Path.{_≡_, refl, sym, ap, _∙_}
 use mathlib.Core.Bool.{true, false, cond}
@@ -20,7 +20,7 @@ use Rattle.service.specs.Next.{callsNobody, grantFor}
 use Rattle.service.specs.Step.{stepOf}
 use Rattle.service.proofs.Arms.{split, picks, passes, withChangeAt, withChange, withPair, refused-pair, step-refused, accepted, step-accepted, parts-refused, in-range}
 
--- change that are refused with k, where the tests give k
+-- changes that are refused with k, where the tests give k
 open-file-refused :
     (s : Service) (m : Mode) (i f j g k : ℕ)
     → openRefusal (s .server .recovering) (entryAt s g) (clientAt s j g) m i f ≡ k
@@ -40,7 +40,7 @@ close-file-refused s m i f j g k e h =
     passes _ _ _ (ap (λ (n : ℕ). eqb n 0) e ∙ h) ∙ ap (refusedChange (entryAt s g) (clientAt s j g)) e
 
 module _ (s : Service) (m : Mode) (i f : ℕ) where
-  -- the change of the open and of the close, taken at client j and file g
+  -- the changes of the open and of the close, taken at client j and file g
   abbrev pub openAt : ℕ → ℕ → Change
   openAt j g = openChange (s .server .recovering) (entryAt s g) (clientAt s j g) m i f
 

@@ -1,5 +1,6 @@
--- `play_lines` meets its contract: each arm puts together what its parts give, which crate service's `Arms.Result` shows to be the
--- outcome that the definition of a step gives, and replies it; `Playing` adds it to what was known before. Assumes nothing.
+-- `play_lines` meets its contract: each arm puts together what its parts give, which crate service's `Arms.Result`
+-- shows to be the outcome that the definition of a step gives, and writes its reply line; `Playing` adds it to what was
+-- written before. Assumes nothing.
 use Prim.Native.Nat.{ℕ, _+_, _-_, _<_, _≤_}
 use mathlib.Core.Path.{_≡_, refl, sym, ap, _∙_}
 use mathlib.Core.Bool.{Bool}
@@ -85,7 +86,7 @@ module _ (d : Known) where
   is-read : readAt (now (start .args .input)) (at .loop .used) ≡ Line gives next
   is-read = sym (reading .read-at .ensures) ∙ d .before .parsed .given .1
 
-  -- the line is known by its outcome
+  -- the line gets the reply of its outcome
   replies :
       (o : Outcome) (to : ℕ) (out : List ℕ)
       → o ≡ outcomeIn finds gives

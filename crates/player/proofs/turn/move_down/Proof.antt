@@ -1,4 +1,5 @@
--- `move_down` meets its contract: after i turns i bytes have been pasted; a byte is read before its offset is written to. Assumes nothing.
+-- `move_down` meets its contract: after i turns i bytes have been pasted; a byte is read before its offset is written
+-- to. Assumes nothing.
 use Prim.Native.Nat.{ℕ, suc, _+_, _-_, _≤_, _<_}
 use mathlib.Core.Path.{_≡_, refl, sym, ap, _∙_}
 use mathlib.Core.List.{List}

@@ -1,4 +1,4 @@
--- `count_listed` meets its contract: after so many files the sum is how many of them are known. Assumes nothing.
+-- `count_listed` meets its contract: after so many files the sum is how many of them are listed. Assumes nothing.
 use Prim.Native.Nat.{_-_}
 use native.Mathlib.Omega.{arith}
 use lib.ListN.{getD}

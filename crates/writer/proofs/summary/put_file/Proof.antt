@@ -1,4 +1,4 @@
--- `put_file` meets its contract, by whether the file is known. Assumes nothing.
+-- `put_file` meets its contract, by whether the file is listed. Assumes nothing.
 use native.Mathlib.Omega.{arith}
 use borrow.Author.Needs.{needs}
 use Rattle.writer.proofs.Buffers.{wrote-none, wrote-as}

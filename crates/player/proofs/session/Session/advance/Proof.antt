@@ -1,4 +1,5 @@
--- `advance` meets its contract: the last turn writes the summary, any other plays what fills the buffer. Assumes nothing.
+-- `advance` meets its contract: the last turn writes the summary, any other plays what fills the buffer. Assumes
+-- nothing.
 use Prim.Native.Nat.{ℕ, _≤_}
 use mathlib.Core.Path.{_≡_, refl, sym, ap, _∙_}
 use mathlib.Core.Bool.{Bool, true, false, not, _&&_, _||_}
