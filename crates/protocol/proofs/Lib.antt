@@ -3,6 +3,7 @@ pub mod CopyCheck
 pub mod Counting
 pub mod Beyond
 pub mod Storing
+pub mod CallOrder
 pub mod View
 pub mod Promises
 pub mod Invariant
