@@ -1,9 +1,12 @@
 -- The callbacks (document 01: calls) that an open causes: "1 write-back, 2 invalidate, 3 both", 0 for none.
-use Prim.Native.Nat.{ℕ}
+use Prim.Native.Nat.{ℕ, zero, suc, _<_}
+use mathlib.Core.Path.{_≡_}
 use mathlib.Core.Bool.{Bool, cond, _&&_, _||_}
-use mathlib.Core.List.{List}
+use mathlib.Core.List.{List, [], _∷_, _++_}
+use mathlib.Core.List.{List·Memᴰ as Member}
+use mathlib.Core.Logic.{_↔_, _≢_}
 use lib.Dec.{eqb}
-use lib.ListN.{replicate}
+use lib.ListN.{getD, replicate}
 use Rattle.records.specs.declared.record.Mode.{Mode}
 use Rattle.records.specs.declared.record.Mode.the-variants.{Read, Write}
 use Rattle.records.specs.declared.record.ClientRecord.{ClientRecord}
@@ -47,3 +50,26 @@ invalidates kind = eqb kind 2 || eqb kind 3
 
 abbrev pub asksNothing : ℕ → Bool
 asksNothing kind = eqb kind 0
+
+-- the callback to one client, as the client and the kind; none where the kind is 0
+abbrev pub callIf : ℕ → ℕ → List (ℕ × ℕ)
+callIf client kind = cond (asksNothing kind) [] ((client, kind) ∷ [])
+
+-- "They now go out, and are printed, in ascending station number" (document 02, Wish 1): the callbacks to the clients
+-- below n, in the order in which they go out; from a kind for each client, as an outcome holds them.
+unfoldable pub orderedCalls : ℕ → List ℕ → List (ℕ × ℕ)
+orderedCalls zero kinds = []
+orderedCalls (suc n) kinds = orderedCalls n kinds ++ callIf n (getD kinds n 0)
+
+-- What is promised of the list, for any number of clients and any kinds (`in-order`, proofs/CallOrder.antt): each client
+-- is below all that follow, and the list holds exactly the clients that are called, each with its kind.
+abbrev pub Ascending : List (ℕ × ℕ) → Type 0
+Ascending [] = Unit {0}
+Ascending (c ∷ cs) = ((later : ℕ × ℕ) → Member later cs → c .0 < later .0) × Ascending cs
+
+pub record InOrder (n : ℕ) (kinds : List ℕ) : Type 0 where
+  pub ascending : Ascending (orderedCalls n kinds)
+  pub exactly :
+      (client kind : ℕ)
+      → Member (client, kind) (orderedCalls n kinds)
+      ↔ ((client < n) × (kind ≡ getD kinds client 0) × (kind ≢ 0))

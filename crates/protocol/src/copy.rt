@@ -4,9 +4,10 @@ ghost use Rattle.protocol.specs.Copy.{keepsCopy};
 use records::Mode;
 use records::Version;
 
-// Whether a copy with this label is kept by an open in the mode, at the latest version.
+// Whether a copy with this label is kept by an open in the mode, at the latest version. One subtraction serves
+// both modes: proofs/CopyCheck.antt shows that it tests what document 01 says.
 pub fn keeps_copy(mode: Mode, label: Version, latest: Version) -> bool
     ensures { λ r. ⌜ r ≡ keepsCopy mode label latest ⌝ }
 {
-    label.same(latest) | (mode.is_write() & label.same(latest.previous()))
+    label.lags_at_most(mode.allowed_lag(), latest)
 }

@@ -11,6 +11,12 @@ abbrev pub isWrite : Mode → Bool
 isWrite Read = false
 isWrite Write = true
 
+-- "at most 0 for read and 1 for write" (document 02, Wish 3): how many versions a copy that an open in this mode keeps
+-- may be behind the latest
+abbrev pub allowedLag : Mode → ℕ
+allowedLag Read = 0
+allowedLag Write = 1
+
 -- the record of a client that has not opened the file
 abbrev pub notOpen : ClientRecord
 notOpen = record { readers = 0; writers = 0; caching = false }

@@ -1,8 +1,8 @@
 -- "A version of 32 bits (1 at the start)"; 0 labels no copy. "Version numbers are never compared with counts or block
 -- values": these functions alone make, read and compare one.
 use Prim.Native.Nat.{ℕ, _+_, _-_}
-use mathlib.Core.Bool.{Bool, cond}
-use lib.Dec.{eqb}
+use mathlib.Core.Bool.{Bool, cond, _&&_}
+use lib.Dec.{eqb, leb}
 use Rattle.records.specs.declared.version.Version.{Version}
 use Rattle.records.specs.declared.record.Mode.{Mode}
 use Rattle.records.specs.declared.record.Mode.the-variants.{Read, Write}
@@ -27,6 +27,10 @@ sameVersion v w = eqb (numberOf v) (numberOf w)
 -- "at version 1"
 abbrev pub isFirstVersion : Version → Bool
 isFirstVersion v = sameVersion v firstVersion
+
+-- "the label isn't above the latest and latest less label is at most .." (document 02, Wish 3)
+abbrev pub lagsAtMost : ℕ → Version → Version → Bool
+lagsAtMost most label latest = leb (numberOf label) (numberOf latest) && leb (numberOf latest - numberOf label) most
 
 -- "The version is 4,294,967,295"
 abbrev pub isLastVersion : Version → Bool

@@ -2,7 +2,7 @@
 ghost use mathlib.Core.Path.{_≡_};
 ghost use mathlib.Core.Bool.{cond};
 ghost use Prim.Native.Nat.{_-_};
-ghost use Rattle.records.specs.Record.{isWrite, isOpen, countOf, keepsPermission, leavesLastWriter};
+ghost use Rattle.records.specs.Record.{isWrite, allowedLag, isOpen, countOf, keepsPermission, leavesLastWriter};
 ghost use Rattle.records.specs.Record.{raised as raisedCount, opened as openedRecord, closed as closedRecord};
 ghost use Rattle.records.specs.Record.{settled as settledRecord, uncached as uncachedRecord};
 
@@ -19,6 +19,16 @@ impl Mode {
         match self {
             Mode::Read => false,
             Mode::Write => true,
+        }
+    }
+
+    // How many versions a copy that is kept at an open in this mode may be behind the latest.
+    pub fn allowed_lag(self) -> u32
+        ensures { λ r. ⌜ r ≡ allowedLag self ⌝ }
+    {
+        match self {
+            Mode::Read => 0,
+            Mode::Write => 1,
         }
     }
 }

@@ -3,7 +3,7 @@
 ghost use mathlib.Core.Path.{_≡_};
 ghost use mathlib.Core.Bool.{cond};
 ghost use Rattle.records.specs.Version.{noVersion, firstVersion, numberOf, asRead, nextVersion, previousVersion};
-ghost use Rattle.records.specs.Version.{isFirstVersion, isLastVersion, sameVersion, latestAt};
+ghost use Rattle.records.specs.Version.{isFirstVersion, isLastVersion, lagsAtMost, latestAt};
 use crate::record::Mode;
 
 pub struct Version(u32);
@@ -68,10 +68,11 @@ impl Version {
         self.0 == 4294967295
     }
 
-    pub fn same(self, other: Version) -> bool
-        ensures { λ r. ⌜ r ≡ sameVersion self other ⌝ }
+    // Whether this version is not above the latest, and at most so many versions behind it.
+    pub fn lags_at_most(self, most: u32, latest: Version) -> bool
+        ensures { λ r. ⌜ r ≡ lagsAtMost most self latest ⌝ }
     {
-        self.0 == other.0
+        self.0 <= latest.0 && latest.0 - self.0 <= most
     }
 
     // The one version where the test holds, else the other.

@@ -70,12 +70,12 @@ accepts s Crash = refl
 accepts s (Report i) = refl
 accepts s End = refl
 
-accepted : (s : Service) (x : Step) → eqb (refusalOf s x) 0 ≡ true
+pub accepted : (s : Service) (x : Step) → eqb (refusalOf s x) 0 ≡ true
     → stepOf s x ≡ record { service = nextOf s x; reply = replyOf s x; calls = callsOf s x }
 unfolding stepOf
 accepted s x e = rw e
 
-rejected : (s : Service) (x : Step) → eqb (refusalOf s x) 0 ≡ false
+pub rejected : (s : Service) (x : Step) → eqb (refusalOf s x) 0 ≡ false
     → stepOf s x ≡ record { service = s; reply = Refused (refusalOf s x); calls = noCalls }
 unfolding stepOf
 rejected s x e = rw e

@@ -16,6 +16,7 @@ pub mod FileSteps
 pub mod BlockSteps
 pub mod TableSteps
 pub mod Accepted
+pub mod CallOrder
 pub mod Invariant
 pub mod WhileRunning
 pub mod WhileRecovering

@@ -5,6 +5,6 @@ use protocol::Reply;
 pub struct Outcome {
     pub service: Service,
     pub reply: Reply,
-    // The callbacks that the step sends: a kind for each client, 0 for none.
+    // The callbacks that the step sends, by ascending client: a kind for each client, 0 for none.
     pub calls: [u8; 8],
 }

@@ -1,8 +1,9 @@
--- The examples of document 01 and the summary of hand-made entries, by evaluation; the three theorems on steps and
--- their texts (ReadsBack, AsWritten, Longest); and the laws of splitting an input into lines.
+-- The examples of document 01 and the summary of hand-made entries, by evaluation; the order of the callbacks in a line; the
+-- three theorems on steps and their texts (ReadsBack, AsWritten, Longest); and the laws of splitting an input into lines.
 pub mod Lines
 pub mod WholeCase
 pub mod HandMade
+pub mod CallTexts
 pub mod Digits
 pub mod Decimals
 pub mod ReadsBack

@@ -1,7 +1,9 @@
--- The whole case of document 01, byte for byte, from the definitions by evaluation. Assumes nothing.
+-- The whole case of document 01, and an open with three calls, byte for byte, from the definitions by evaluation.
+-- Assumes nothing.
 use mathlib.Core.Path.{_≡_, refl}
 use Rattle.protocol.specs.Lists.{count, stored}
 use Rattle.protocol.specs.State.{stateOf}
+use Rattle.protocol.specs.Callback.{orderedCalls}
 use Rattle.protocol.specs.Permission.{permissionAtGrant}
 use Rattle.service.specs.Step.{stepOf}
 use Rattle.service.specs.Fresh.{fresh}
@@ -17,7 +19,11 @@ pub record WholeCase : Type 0 where
   pub case :
       played (bytes "OW 0 3\nWR 0 3 0 77\nCW 0 3\nOR 1 3\nRD 1 3 0\nAN 0 3\nRD 1 3 0\nOW 2 3\n")
       ≡ bytes "1 G 2 1 1\n2 K\n3 K\n4 W 0:1\n5 N 11\n6 A 1 2 1 1\n7 V 77\n8 W 1:2\nfiles 1\n3 2 2 -\n"
+  -- "in ascending station number" (document 02, Wish 1), in whichever order the stations opened the file
+  pub calls :
+      played (bytes "OR 5 0\nOR 2 0\nOR 7 0\nOW 0 0\n")
+      ≡ bytes "1 G 1 0 1\n2 G 1 0 1\n3 G 1 0 1\n4 W 2:2 5:2 7:2\nfiles 1\n0 4 1 -\n"
 
 pub wholeCase : WholeCase
-unfolding fresh stepOf stateOf permissionAtGrant count stored digitsOf decimal digitsOn numeral argument shapeOf shaped step parseLine valuesText callsText lineText filesText summaryText lines transcript after replyLine serviceAfter played
-wholeCase = record { empty = refl; case = refl }
+unfolding fresh stepOf stateOf orderedCalls permissionAtGrant count stored digitsOf decimal digitsOn numeral argument shapeOf shaped step parseLine valuesText callsText lineText filesText summaryText lines transcript after replyLine serviceAfter played
+wholeCase = record { empty = refl; case = refl; calls = refl }

@@ -5,8 +5,9 @@ ghost use mathlib.Core.Bool.{cond};
 ghost use mathlib.Core.List.{[], _∷_};
 ghost use lib.ListN.{length};
 ghost use Rattle.protocol.specs.Sizes.{clients};
+ghost use Rattle.protocol.specs.Callback.{callIf, orderedCalls};
 ghost use Rattle.protocol.specs.Reply.{grantValues, letterOf};
-ghost use Rattle.stepfile.specs.Line.{callText, callsText, fieldsText, lineText};
+ghost use Rattle.stepfile.specs.Line.{callsText, fieldsText, lineText};
 ghost use Rattle.stepfile.specs.Text.{valuesText};
 ghost use Rattle.writer.specs.Buffer.{Wrote, WroteIfRoom, lineRoom};
 use crate::decimal::put_argument;
@@ -107,10 +108,10 @@ fn permission(caching: bool) -> u64
     if caching { 1 } else { 0 }
 }
 
-// The callbacks, the clients ascending.
+// The callbacks, in the order in which they go out.
 fn put_calls(out: &mut [u8], at: usize, calls: [u8; 8]) -> usize
     requires { ⌜ at + 336 ≤ length (now out) ⌝ }
-    ensures { λ r. ⌜ Wrote (now (out .entry)) at (callsText clients calls) (now (out .exit)) r ⌝ }
+    ensures { λ r. ⌜ Wrote (now (out .entry)) at (callsText (orderedCalls clients calls)) (now (out .exit)) r ⌝ }
     ensures { λ r. ⌜ r ≤ at + 336 ⌝ }
 {
     let mut next = at;
@@ -125,7 +126,7 @@ fn put_calls(out: &mut [u8], at: usize, calls: [u8; 8]) -> usize
 // A callback, if the kind is one.
 fn put_call(out: &mut [u8], at: usize, client: usize, kind: u8) -> usize
     requires { ⌜ at + 42 ≤ length (now out) ⌝ }
-    ensures { λ r. ⌜ Wrote (now (out .entry)) at (callText client kind) (now (out .exit)) r ⌝ }
+    ensures { λ r. ⌜ Wrote (now (out .entry)) at (callsText (callIf client kind)) (now (out .exit)) r ⌝ }
     ensures { λ r. ⌜ r ≤ at + 42 ⌝ }
 {
     match kind {

@@ -111,6 +111,7 @@ impl Text<'_> {
         }
     }
 
+    /// The calls of one open, in ascending station number (document 02, Wish 1).
     fn callbacks(&mut self, callbacks: Callbacks) {
         for client in callbacks.clients().members() {
             self.bytes(&[b' ', b'0' + client as u8, b':', b'0' + callbacks.0[client]]);

@@ -112,7 +112,7 @@ fn reading_12_after_a_broken_off_invalidation() {
 }
 
 #[test]
-fn reading_13_calls_ascend_and_the_last_line_ends_with_lf() {
+fn reading_13_the_last_line_ends_with_lf_and_calls_go_in_station_order() {
     check(
         &[("OR 5 0", "G 1 0 1"), ("OR 2 0", "G 1 0 1"), ("OR 7 0", "G 1 0 1"), ("OW 0 0", "W 2:2 5:2 7:2")],
         &["files 1", "0 4 1 -"],

@@ -4,7 +4,6 @@ use Prim.Native.Nat.{ℕ, _<_, _≤_}
 use mathlib.Core.Path.{_≡_, refl, sym, _∙_, ap, subst, fun-ext}
 use mathlib.Core.Bool.{true, false, cond, not, _&&_}
 use mathlib.Core.List.{List}
-use native.Mathlib.Nat.{le-of-eq}
 use native.Mathlib.Omega.{arith}
 use lib.Dec.{eqb, ltb}
 use lib.ListN.{length, getD, replicate, length-replicate, List·getD-eq-default}
@@ -19,10 +18,11 @@ use Rattle.records.specs.Version.{isLastVersion}
 use Rattle.records.specs.Record.{isWrite}
 use Rattle.protocol.specs.Callback.{callbackDue}
 use Rattle.protocol.specs.Entry.{recordAt, waits, kindOf, callTo, callsOut, callsIn, callsDue}
+use Rattle.protocol.proofs.Storing.{length-stored}
+use Rattle.protocol.proofs.CallOrder.{kind-due}
 use Rattle.protocol.proofs.View.{View, waitingView, grantedView, callAnsweredView, waiterGrantedView}
 use Rattle.protocol.proofs.Invariant.{Waiting, Running}
 use Rattle.protocol.proofs.Invariant.Flags.{split, cases}
-use Rattle.protocol.proofs.Invariant.Lists.{length-stored, getD-stored}
 use Rattle.protocol.proofs.Invariant.Count.{some}
 use Rattle.protocol.proofs.Invariant.Due.{waiting-due}
 use Rattle.protocol.proofs.Invariant.Kind.{same-sends, same-drops}
@@ -86,8 +86,7 @@ module _
 
     due-at : (t : ℕ) → t < n → getD due t 0 ≡ callbackDue n (λ s. v .client s .opens) (v .entry .last) i mode t
     due-at t is =
-        getD-stored n (callbackDue n (recordAt (v .entry)) (v .entry .last) i mode) (replicate n 0) 0 t
-        (le-of-eq (sym (length-replicate n 0))) is
+        kind-due n (recordAt (v .entry)) (v .entry .last) i mode t is
         ∙ ap (λ r. callbackDue n r (v .entry .last) i mode t) (fun-ext (λ s. h .table .known s refl))
 
     due-waiting : Waiting (v .entry .version) (v .client) i mode (λ t. getD due t 0)
