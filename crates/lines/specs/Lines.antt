@@ -11,7 +11,7 @@ use Rattle.stepfile.specs.Played.{replyLine, serviceAfter}
 use Rattle.writer.specs.Buffer.{written, lineRoom}
 use Rattle.lines.specs.declared.lines.Progress.{Progress}
 
--- the last number that a line can have
+-- the largest line number: a line gets a reply only if its number is below, so that there is one for the next
 abbrev pub lastNumber : ℕ
 lastNumber = 18446744073709551615
 
