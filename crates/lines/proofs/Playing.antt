@@ -9,16 +9,14 @@ use lib.ListN.{length, take, drop}
 use borrow.Author.Tests.{leb-true, ltb-true}
 use Rattle.service.specs.declared.service.Service.{Service}
 use Rattle.service.specs.declared.outcome.Outcome.{Outcome}
-use Rattle.service.proofs.Rows.{rows-kept}
 use Rattle.stepfile.specs.declared.parsed.Parsed.{Parsed}
-use Rattle.stepfile.specs.declared.parsed.Parsed.the-variants.{Is, NoStep}
 use Rattle.stepfile.specs.declared.parsed.Read.{Read}
 use Rattle.stepfile.specs.declared.parsed.Read.the-variants.{Line, Part}
 use Rattle.stepfile.specs.Grammar.{Reading, found, nothing, parseLine}
 use Rattle.stepfile.specs.Input.{firstLine, lineRead, readAt, wholeLines}
 use Rattle.stepfile.specs.Line.{lineText}
 use Rattle.stepfile.specs.Played.{outcomeOf, replyLine, serviceAfter}
-use Rattle.stepfile.specs.Transcript.{lines, transcript, after}
+use Rattle.stepfile.specs.Transcript.{lines, transcript}
 use Rattle.records.proofs.Choosing.{and-left, and-right}
 use Rattle.stepfile.proofs.FirstLines.{whole-none}
 use Rattle.writer.specs.Buffer.{written, Wrote, WroteIfRoom, lineRoom}
@@ -57,16 +55,6 @@ no-line input used e = from (firstLine (drop used input)) refl e
     from : (t : Reading (List ℕ)) → firstLine (drop used input) ≡ t → lineRead parseLine used t ≡ Part → wholeLines (drop used input) ≡ []
     from (found l r) q f = absurd (true≢false (ap isLine f))
     from nothing q f = whole-none (drop used input) (no-lf (drop used input) q)
-
--- the table keeps its length
-rows-line : (s : Service) (p : Parsed) → length (outcomeOf s p .service .server .files) ≡ length (s .server .files)
-rows-line s (Is x) = rows-kept s x
-rows-line s NoStep = refl
-
-rows-after : (s : Service) (ls : List (List ℕ)) → length (after serviceAfter s ls .server .files) ≡ length (s .server .files)
-unfolding after serviceAfter
-rows-after s [] = refl
-rows-after s (l ∷ ls) = rows-after (serviceAfter s l) ls ∙ rows-line s (parseLine l)
 
 -- another line can be replied to: there is room for its reply line, and a number for the next
 module _ (room to number : ℕ) (can : canReply room to number ≡ true) where
@@ -137,14 +125,6 @@ module _ (s : Service) (n : ℕ) (input out : List ℕ) where
             ∙ ap (λ (ls : List (List ℕ)). progressOf (length out) ls t number used to) (sym (read .at .onward))
             ∙ w .on;
       }
-
-  -- the table keeps its length
-  pub same-rows :
-      (t : Service) (number used to : ℕ) (out₁ : List ℕ)
-      → Reached s n input out t number used to out₁
-      → length (t .server .files) ≡ length (s .server .files)
-  same-rows t number used to out₁ w =
-      ap (λ (x : Service). length (x .server .files)) (w .at .service) ∙ rows-after s (lines (take used input))
 
   -- fewer bytes are left after it
   pub fewer-left :

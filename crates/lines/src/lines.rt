@@ -3,26 +3,22 @@ ghost use mathlib.Core.Path.{_≡_};
 ghost use Prim.Native.Nat.{_≤_};
 ghost use lib.ListN.{length};
 ghost use Rattle.lines.specs.Lines.{canReply, lineProgress, linesWritten};
-use access::answer_blocks;
-use access::drop_file_unless;
-use access::flush_block;
-use access::read_block;
-use access::unless_refused;
-use access::write_block;
-use opening::answer_call;
-use opening::close_file;
-use opening::grant_waiter;
-use opening::open_file;
+use access::access_block;
+use decision::MAX_CLIENTS;
+use decision::MAX_FILES;
+use file::SharedFile;
+use protocol::Class;
+use protocol::NO_STEP;
 use protocol::Reply;
-use protocol::Step;
 use reader::read_at;
+use service::Server;
 use service::Service;
-use service::end_refusal;
-use service::report_refusal;
-use service::reports_after_end;
 use stepfile::Parsed;
 use stepfile::Read;
-use table::reported_entry;
+use table::Recovery;
+use table::Table;
+use table::Turn;
+use table::crashed_files;
 use writer::LINE_ROOM;
 use writer::write_reply;
 
@@ -56,7 +52,14 @@ pub fn play_lines(service: Service, first: u64, input: &[u8], out: &mut [u8]) ->
     ensures { λ r. ⌜ now (out .exit) ≡ linesWritten service first (now (input .entry)) (now (out .entry)) ⌝ }
     ensures { λ r. ⌜ r .written ≤ length (now (out .entry)) ⌝ }
 {
-    let mut server = service.server;
+    let given = service.sizes;
+    let sizes = given.in_force();
+    let server = service.server;
+    let table = server.table;
+    let mut files = table.files;
+    let mut recovering = table.recovering;
+    let mut reported = table.reported;
+    let mut blocks = server.blocks;
     let mut clients = service.clients;
     let mut copies = service.copies;
     let mut held = service.held;
@@ -72,163 +75,94 @@ pub fn play_lines(service: Service, first: u64, input: &[u8], out: &mut [u8]) ->
         used = next;
         number += 1;
         let Parsed::Is(step) = parsed else {
-            to = write_reply(out, to, line, Reply::Refused(1), [0; 8]);
+            to = write_reply(out, to, line, Reply::Refused(NO_STEP), [0; MAX_CLIENTS]);
             continue;
         };
-        match step {
-            Step::Open { mode, client, file } => {
-                let f = file % 32;
-                let at = client % 8 * 32 + f;
-                let entry = server.files[f];
-                let own = clients[at];
-                let change = open_file(server.recovering, entry, own, mode, client, file);
-                let entry_after = change.entry;
-                let own_after = change.own;
-                let reply = change.reply;
-                let calls = change.calls;
-                server.files[f] = entry_after;
-                clients[at] = own_after;
-                drop_file_unless(change.keep, &mut copies, &mut held, &mut dirty, at * 4);
+        let class = step.class();
+        match class {
+            Class::OnFile { file } => {
+                let f = file % MAX_FILES;
+                let entry = files[f];
+                let sides = clients[f];
+                let shared = SharedFile { entry, sides };
+                let done = shared.step(
+                    sizes,
+                    recovering,
+                    step,
+                    &mut blocks,
+                    &mut copies,
+                    &mut held,
+                    &mut dirty,
+                );
+                let after = done.file;
+                let entry_after = after.entry;
+                let sides_after = after.sides;
+                let reply = done.reply;
+                let calls = done.calls;
+                files[f] = entry_after;
+                clients[f] = sides_after;
                 to = write_reply(out, to, line, reply, calls);
             }
-            Step::Close { mode, client, file } => {
-                let f = file % 32;
-                let at = client % 8 * 32 + f;
-                let entry = server.files[f];
-                let own = clients[at];
-                let change = close_file(server.recovering, entry, own, mode, client, file);
-                let entry_after = change.entry;
-                let own_after = change.own;
-                let reply = change.reply;
-                server.files[f] = entry_after;
-                clients[at] = own_after;
-                to = write_reply(out, to, line, reply, [0; 8]);
-            }
-            Step::Read {
-                client,
-                file,
-                block,
-            } => {
-                let own = clients[client % 8 * 32 + file % 32];
-                let reported = server.reported[client % 8];
-                let reply = read_block(
-                    server.recovering,
-                    reported,
+            Class::OnBlock { client, file } => {
+                let sides = clients[file % MAX_FILES];
+                let own = sides.of[client % MAX_CLIENTS];
+                let has_reported = reported[client % MAX_CLIENTS];
+                let reply = access_block(
+                    sizes,
+                    recovering,
+                    has_reported,
                     own,
-                    client,
-                    file,
-                    block,
-                    &server.blocks,
+                    step,
+                    &mut blocks,
                     &mut copies,
                     &mut held,
+                    &mut dirty,
                 );
-                to = write_reply(out, to, line, reply, [0; 8]);
+                to = write_reply(out, to, line, reply, [0; MAX_CLIENTS]);
             }
-            Step::Write {
-                client,
-                file,
-                block,
-                value,
-            } => {
-                let own = clients[client % 8 * 32 + file % 32];
-                let reported = server.reported[client % 8];
-                let reply = write_block(
-                    server.recovering,
+            Class::OnTable => {
+                let recovery = Recovery {
+                    recovering,
                     reported,
-                    own,
-                    client,
-                    file,
-                    block,
-                    value,
-                    &mut server.blocks,
-                    &mut copies,
-                    &mut held,
-                    &mut dirty,
-                );
-                to = write_reply(out, to, line, reply, [0; 8]);
-            }
-            Step::Flush {
-                client,
-                file,
-                block,
-            } => {
-                let reply = flush_block(
-                    server.recovering,
-                    client,
-                    file,
-                    block,
-                    &copies,
-                    &mut server.blocks,
-                    &mut dirty,
-                );
-                to = write_reply(out, to, line, reply, [0; 8]);
-            }
-            Step::Answer { client, file } => {
-                let f = file % 32;
-                let at = client % 8 * 32 + f;
-                let entry = server.files[f];
-                let own = clients[at];
-                let answer = answer_call(server.recovering, entry, own, client, file);
-                let own_after = answer.own;
-                clients[at] = own_after;
-                answer_blocks(
-                    answer.kind,
-                    &mut copies,
-                    &mut held,
-                    &mut dirty,
-                    at * 4,
-                    &mut server.blocks,
-                    f * 4,
-                );
-                let answered = answer.entry;
-                let answer_reply = answer.reply;
-                let waiter = answered.waiter as usize % 8 * 32 + f;
-                let waiting = clients[waiter];
-                let change = grant_waiter(answered, waiting, answer.kind, answer_reply);
-                let entry_after = change.entry;
-                let waiting_after = change.own;
-                let reply = change.reply;
-                server.files[f] = entry_after;
-                clients[waiter] = waiting_after;
-                drop_file_unless(change.keep, &mut copies, &mut held, &mut dirty, waiter * 4);
-                to = write_reply(out, to, line, reply, [0; 8]);
-            }
-            Step::Crash => {
-                server = server.crashed();
-                to = write_reply(out, to, line, Reply::Done, [0; 8]);
-            }
-            Step::Report { client } => {
-                let given = server.reported;
-                let refusal = report_refusal(server.recovering, given, client);
-                if refusal != 0 {
-                    to = write_reply(out, to, line, Reply::Refused(refusal), [0; 8]);
-                    continue;
+                };
+                let done = recovery.step(sizes, step);
+                let turn = done.turn;
+                match turn {
+                    Turn::Stay => {}
+                    Turn::Crash => {
+                        files = crashed_files(files, sizes);
+                    }
+                    Turn::Report { client } => {
+                        let mut f = 0;
+                        while f < sizes.files {
+                            let entry = files[f];
+                            let sides = clients[f];
+                            let after = entry.reported(client, sides.side(client));
+                            files[f] = after;
+                            f += 1;
+                        }
+                    }
                 }
-                let mut f = 0;
-                while f < 32 {
-                    let own = clients[client * 32 + f];
-                    let entry = server.files[f];
-                    let after = reported_entry(entry, client, own);
-                    server.files[f] = after;
-                    f += 1;
-                }
-                server.reported[client] = true;
-                to = write_reply(out, to, line, Reply::Done, [0; 8]);
-            }
-            Step::End => {
-                let given = server.reported;
-                let refusal = end_refusal(server.recovering, given);
-                let recovering = server.recovering & (refusal != 0);
-                server.recovering = recovering;
-                let reports = reports_after_end(refusal, given);
-                server.reported = reports;
-                to = write_reply(out, to, line, unless_refused(refusal, Reply::Done), [0; 8]);
+                let after = done.recovery;
+                let reports = after.reported;
+                recovering = after.recovering;
+                reported = reports;
+                let reply = done.reply;
+                to = write_reply(out, to, line, reply, [0; MAX_CLIENTS]);
             }
         }
     }
     Progress {
         service: Service {
-            server,
+            sizes: given,
+            server: Server {
+                table: Table {
+                    files,
+                    recovering,
+                    reported,
+                },
+                blocks,
+            },
             clients,
             copies,
             held,

@@ -1,10 +1,13 @@
 -- The whole case of document 01, and an open with three calls, byte for byte, from the definitions by evaluation.
 -- Assumes nothing.
 use mathlib.Core.Path.{_≡_, refl}
-use Rattle.protocol.specs.Lists.{count, stored}
-use Rattle.protocol.specs.State.{stateOf}
-use Rattle.protocol.specs.Callback.{orderedCalls}
-use Rattle.protocol.specs.Permission.{permissionAtGrant}
+use Rattle.decision.specs.Lists.{count, stored}
+use Rattle.decision.specs.State.{stateOf}
+use Rattle.decision.specs.Callback.{orderedCalls}
+use Rattle.decision.specs.Permission.{permissionAtGrant}
+use Rattle.access.specs.BlockStep.{blockStep}
+use Rattle.file.specs.FileStep.{fileStep}
+use Rattle.table.specs.TableStep.{tableStep}
 use Rattle.service.specs.Step.{stepOf}
 use Rattle.service.specs.Fresh.{fresh}
 use Rattle.stepfile.specs.Text.{bytes, decimal, digitsOf, valuesText}
@@ -25,5 +28,5 @@ pub record WholeCase : Type 0 where
       ≡ bytes "1 G 1 0 1\n2 G 1 0 1\n3 G 1 0 1\n4 W 2:2 5:2 7:2\nfiles 1\n0 4 1 -\n"
 
 pub wholeCase : WholeCase
-unfolding fresh stepOf stateOf orderedCalls permissionAtGrant count stored digitsOf decimal digitsOn numeral argument shapeOf shaped step parseLine valuesText callsText lineText filesText summaryText lines transcript after replyLine serviceAfter played
+unfolding fresh stepOf fileStep blockStep tableStep stateOf orderedCalls permissionAtGrant count stored digitsOf decimal digitsOn numeral argument shapeOf shaped step parseLine valuesText callsText lineText filesText summaryText lines transcript after replyLine serviceAfter played
 wholeCase = record { empty = refl; case = refl; calls = refl }

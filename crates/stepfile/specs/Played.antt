@@ -4,7 +4,9 @@ use mathlib.Core.List.{List, _++_}
 use Rattle.protocol.specs.declared.reply.Reply.the-variants.{Refused}
 use Rattle.service.specs.declared.service.Service.{Service}
 use Rattle.service.specs.declared.outcome.Outcome.{Outcome}
-use Rattle.service.specs.Answer.{noCalls}
+use Rattle.decision.specs.Sizes.{defaultSizes}
+use Rattle.file.specs.FileStep.{noCalls}
+use Rattle.service.specs.Contents.{sizesOf, tableIn}
 use Rattle.service.specs.Step.{stepOf}
 use Rattle.service.specs.Fresh.{fresh}
 use Rattle.stepfile.specs.declared.parsed.Parsed.{Parsed}
@@ -26,7 +28,11 @@ replyLine s n l = let o = outcomeOf s (parseLine l) in lineText n (o .reply) (o 
 unfoldable pub serviceAfter : Service → List ℕ → Service
 serviceAfter s l = outcomeOf s (parseLine l) .service
 
+abbrev pub summaryOf : Service → List ℕ
+summaryOf s = summaryText (sizesOf s) (tableIn s .files)
+
 unfoldable pub played : List ℕ → List ℕ
 played input =
     let ls = lines input in
-    transcript replyLine serviceAfter fresh 1 ls ++ summaryText (after serviceAfter fresh ls .server .files)
+    let s = fresh defaultSizes in
+    transcript replyLine serviceAfter s 1 ls ++ summaryOf (after serviceAfter s ls)

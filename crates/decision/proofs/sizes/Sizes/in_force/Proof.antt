@@ -1,0 +1,23 @@
+-- `in_force` meets its contract: each size is as given where it is permitted. Assumes nothing.
+use borrow.Author.Needs.{needs}
+use Rattle.decision.proofs.InForce.{in-force-permitted}
+use Rattle.decision.proofs.sizes.Sizes.in_force.Statement.{statement}
+use Rattle.decision.proofs.sizes.Sizes.in_force.Tie as tie
+
+returns : tie.Need-returns
+returns c =
+    let files = c .before in
+    let clients = files .before in
+    let z = clients .before .args .self in (
+      rw (clients .permitted-or .ensures, files .permitted-or2 .ensures, c .permitted-or3 .ensures),
+      rw (clients .permitted-or .ensures, files .permitted-or2 .ensures, c .permitted-or3 .ensures) (in-force-permitted z),
+    )
+
+pub in-force-spec : {M : Type 1} → statement M
+in-force-spec =
+    tie.close
+    (tie.spec
+    (search needs)
+    (search needs)
+    (search needs)
+    returns)
