@@ -22,6 +22,10 @@ defaultSizes = record { clients = 8; files = 32; blocks = 4 }
 abbrev pub isPermitted : ℕ → ℕ → Bool
 isPermitted most size = leb 1 size && leb size most
 
+abbrev pub arePermitted : Sizes → Bool
+arePermitted z =
+    isPermitted maxClients (z .clients) && (isPermitted maxFiles (z .files) && isPermitted maxBlocks (z .blocks))
+
 -- The sizes that hold: "hand-made ones out of range: each as not given".
 abbrev pub inForce : Sizes → Sizes
 inForce z =

@@ -1,7 +1,7 @@
 // The sizes of a service: how many clients, files, and blocks in each file there are. The arrays have the largest sizes.
 ghost use mathlib.Core.Path.{_≡_};
 ghost use mathlib.Core.Bool.{cond};
-ghost use Rattle.decision.specs.Sizes.{inForce, isPermitted, Permitted};
+ghost use Rattle.decision.specs.Sizes.{defaultSizes, isPermitted, arePermitted, inForce, Permitted};
 
 // The largest sizes.
 pub const MAX_CLIENTS: usize = 8;
@@ -23,15 +23,36 @@ pub struct Sizes {
 }
 
 impl Sizes {
+    // 8 clients, 32 files and 4 blocks, where nothing else is chosen.
+    pub fn default() -> Self
+        ensures { λ r. ⌜ r ≡ defaultSizes ⌝ }
+    {
+        Sizes {
+            clients: 8,
+            files: 32,
+            blocks: 4,
+        }
+    }
+
+    // Whether each size lies inside its range.
+    pub fn are_permitted(self) -> bool
+        ensures { λ r. ⌜ r ≡ arePermitted self ⌝ }
+    {
+        let clients = is_permitted(self.clients, MAX_CLIENTS);
+        let files = is_permitted(self.files, MAX_FILES);
+        clients & (files & is_permitted(self.blocks, MAX_BLOCKS))
+    }
+
     // The sizes that the service goes by.
     pub fn in_force(self) -> Self
         ensures { λ r. ⌜ r ≡ inForce self ⌝ }
         ensures { λ r. ⌜ Permitted r ⌝ }
     {
+        let default = Sizes::default();
         Sizes {
-            clients: permitted_or(self.clients, MAX_CLIENTS, 8),
-            files: permitted_or(self.files, MAX_FILES, 32),
-            blocks: permitted_or(self.blocks, MAX_BLOCKS, 4),
+            clients: permitted_or(self.clients, MAX_CLIENTS, default.clients),
+            files: permitted_or(self.files, MAX_FILES, default.files),
+            blocks: permitted_or(self.blocks, MAX_BLOCKS, default.blocks),
         }
     }
 }

@@ -9,15 +9,18 @@ use decision::MAX_FILES;
 use file::SharedFile;
 use protocol::Class;
 use protocol::NO_STEP;
+use protocol::OUT_OF_RANGE;
 use protocol::Reply;
 use reader::read_at;
+use reader::read_setting;
 use service::Server;
 use service::Service;
 use stepfile::Parsed;
 use stepfile::Read;
+use stepfile::Setting;
 use table::Recovery;
+use table::Sweep;
 use table::Table;
-use table::Turn;
 use table::crashed_files;
 use writer::LINE_ROOM;
 use writer::write_reply;
@@ -46,14 +49,15 @@ pub fn can_reply(room: usize, to: usize, number: u64) -> bool
 }
 
 // Plays the whole lines of the input, the first of them numbered so, and writes their reply lines from the start of
-// out on, as long as another line can be replied to. The service is taken apart once, and no line copies it.
+// out on, as long as another line can be replied to. The service is taken apart once, and no line copies it, save a
+// first line that chooses the sizes.
 pub fn play_lines(service: Service, first: u64, input: &[u8], out: &mut [u8]) -> Progress
     ensures { λ r. ⌜ r ≡ lineProgress service first (now (input .entry)) (now (out .entry)) ⌝ }
     ensures { λ r. ⌜ now (out .exit) ≡ linesWritten service first (now (input .entry)) (now (out .entry)) ⌝ }
     ensures { λ r. ⌜ r .written ≤ length (now (out .entry)) ⌝ }
 {
-    let given = service.sizes;
-    let sizes = given.in_force();
+    let mut given = service.sizes;
+    let mut sizes = given.in_force();
     let server = service.server;
     let table = server.table;
     let mut files = table.files;
@@ -72,10 +76,53 @@ pub fn play_lines(service: Service, first: u64, input: &[u8], out: &mut [u8]) ->
             break;
         };
         let line = number;
+        let at = used;
         used = next;
         number += 1;
         let Parsed::Is(step) = parsed else {
-            to = write_reply(out, to, line, Reply::Refused(NO_STEP), [0; MAX_CLIENTS]);
+            if line != 1 {
+                to = write_reply(out, to, line, Reply::Refused(NO_STEP), [0; MAX_CLIENTS]);
+                continue;
+            }
+            let setting = read_setting(&input[at..next - 1]);
+            match setting {
+                Setting::Are(chosen) => {
+                    let fresh = Service::new(chosen);
+                    let fresh_server = fresh.server;
+                    let fresh_table = fresh_server.table;
+                    let fresh_sizes = fresh.sizes;
+                    let fresh_files = fresh_table.files;
+                    let fresh_reported = fresh_table.reported;
+                    let fresh_blocks = fresh_server.blocks;
+                    let fresh_clients = fresh.clients;
+                    let fresh_copies = fresh.copies;
+                    let fresh_held = fresh.held;
+                    let fresh_dirty = fresh.dirty;
+                    given = fresh_sizes;
+                    sizes = fresh_sizes.in_force();
+                    files = fresh_files;
+                    recovering = fresh_table.recovering;
+                    reported = fresh_reported;
+                    blocks = fresh_blocks;
+                    clients = fresh_clients;
+                    copies = fresh_copies;
+                    held = fresh_held;
+                    dirty = fresh_dirty;
+                    to = write_reply(out, to, line, Reply::Done, [0; MAX_CLIENTS]);
+                }
+                Setting::OutOfRange => {
+                    to = write_reply(
+                        out,
+                        to,
+                        line,
+                        Reply::Refused(OUT_OF_RANGE),
+                        [0; MAX_CLIENTS],
+                    );
+                }
+                Setting::Missing => {
+                    to = write_reply(out, to, line, Reply::Refused(NO_STEP), [0; MAX_CLIENTS]);
+                }
+            }
             continue;
         };
         let class = step.class();
@@ -126,13 +173,13 @@ pub fn play_lines(service: Service, first: u64, input: &[u8], out: &mut [u8]) ->
                     reported,
                 };
                 let done = recovery.step(sizes, step);
-                let turn = done.turn;
-                match turn {
-                    Turn::Stay => {}
-                    Turn::Crash => {
+                let sweep = done.sweep;
+                match sweep {
+                    Sweep::Stay => {}
+                    Sweep::Crash => {
                         files = crashed_files(files, sizes);
                     }
-                    Turn::Report { client } => {
+                    Sweep::Report { client } => {
                         let mut f = 0;
                         while f < sizes.files {
                             let entry = files[f];

@@ -27,7 +27,7 @@ use Rattle.player.proofs.Turning.{take-least, kept-stands, kept-no-lf, 
 
 -- the reply lines of an input and its summary, from a service on
 abbrev pub playedFrom : Service → ℕ → List ℕ → List ℕ
-playedFrom s n bytes = transcriptOf s n bytes ++ summaryOf (afterInput s bytes)
+playedFrom s n bytes = transcriptOf s n bytes ++ summaryOf (afterInput s n bytes)
 
 played-none : (s : Service) (n : ℕ) → playedFrom s n [] ≡ summaryOf s
 unfolding lines transcript after
@@ -36,7 +36,7 @@ played-none s n = refl
 -- inputs with the same lines are played alike
 played-alike : (s : Service) (n : ℕ) (a b : List ℕ) → lines a ≡ lines b → playedFrom s n a ≡ playedFrom s n b
 played-alike s n a b e =
-    ap (λ (ls : List (List ℕ)). transcript replyLine serviceAfter s n ls ++ summaryOf (after serviceAfter s ls)) e
+    ap (λ (ls : List (List ℕ)). transcript replyLine serviceAfter s n ls ++ summaryOf (after serviceAfter s n ls)) e
 
 -- flags of a session
 pub or-left : (a b : Bool) → a ≡ true → (a || b) ≡ true
@@ -195,9 +195,9 @@ module _ (σ : Session) (buffer : List ℕ) (g : Leg) (takes : Takes σ buffer g
         let n = σ .number in
         let later = transcriptOf (turn .service) (turn .number) (turnKept ++ more) in
         ap (λ (x : Service). transcriptOf s n (bytes ++ more) ++ summaryOf x) (turn-service s n b₁ count (g .out) more)
-        ∙ ap (λ (l : List ℕ). l ++ summaryOf (afterInput (turn .service) (turnKept ++ more)))
+        ∙ ap (λ (l : List ℕ). l ++ summaryOf (afterInput (turn .service) (turn .number) (turnKept ++ more)))
         (turn-transcript s n b₁ count (g .out) more)
-        ∙ append-assoc Written later (summaryOf (afterInput (turn .service) (turnKept ++ more)))
+        ∙ append-assoc Written later (summaryOf (afterInput (turn .service) (turn .number) (turnKept ++ more)))
         ∙ ap (λ (l : List ℕ). l ++ playedFrom (turn .service) (turn .number) (turnKept ++ more)) (sym wrote-lines)
         ∙ ap (λ (l : List ℕ). wrote σ g ++ playedFrom (turn .service) (turn .number) (l ++ more)) (sym same-kept)
         ∙ ap (λ (x : Advance). wrote σ g ++ playedFrom (x .session .service) (x .session .number) (kept′ ++ more)) (sym plays)

@@ -41,11 +41,7 @@ impl Session {
         ensures { λ r. ⌜ r ≡ freshSession ⌝ }
     {
         Session {
-            service: Service::new(Sizes {
-                clients: 8,
-                files: 32,
-                blocks: 4,
-            }),
+            service: Service::new(Sizes::default()),
             number: 1,
             rest: 0,
             paused: false,

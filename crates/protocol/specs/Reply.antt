@@ -2,7 +2,6 @@
 use Prim.Native.Nat.{ℕ}
 use mathlib.Core.Bool.{Bool, true, false, cond}
 use mathlib.Core.List.{List, [], _∷_}
-use lib.Dec.{eqb}
 use Rattle.protocol.specs.declared.reply.Grant.{Grant}
 use Rattle.protocol.specs.declared.reply.Reply.{Reply}
 use Rattle.protocol.specs.declared.reply.Reply.the-variants.{Granted, Waiting, Value, Refused, Answered, AnsweredGrant, Done}
@@ -41,7 +40,3 @@ isRefused (Refused k) = true
 isRefused Answered = false
 isRefused (AnsweredGrant i g) = false
 isRefused Done = false
-
--- the reply of a step that is refused with k, or with 0 done so
-abbrev pub unlessRefused : ℕ → Reply → Reply
-unlessRefused k reply = cond (eqb k 0) reply (Refused k)

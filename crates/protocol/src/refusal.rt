@@ -1,8 +1,6 @@
 // Document 01's numbers of refusals. They are tested in number order.
 ghost use mathlib.Core.Path.{_≡_};
 ghost use mathlib.Core.Bool.{cond};
-ghost use Rattle.protocol.specs.Reply.{unlessRefused};
-use crate::reply::Reply;
 
 pub const NO_STEP: u8 = 1;
 
@@ -32,20 +30,11 @@ pub const NOT_DIRTY: u8 = 13;
 
 pub const VERSION_SPENT: u8 = 14;
 
+pub const OUT_OF_RANGE: u8 = 19;
+
 // The number where the test holds, else what the later tests give; 0 is none.
 pub fn refused_if(test: bool, number: u8, later: u8) -> u8
     ensures { λ r. ⌜ r ≡ cond test number later ⌝ }
 {
     if test { number } else { later }
-}
-
-// The reply, unless the step is refused.
-pub fn unless_refused(refusal: u8, reply: Reply) -> Reply
-    ensures { λ r. ⌜ r ≡ unlessRefused refusal reply ⌝ }
-{
-    if refusal == 0 {
-        reply
-    } else {
-        Reply::Refused(refusal)
-    }
 }

@@ -12,8 +12,8 @@ use protocol::Class;
 use protocol::Reply;
 use protocol::Step;
 use table::Recovery;
+use table::Sweep;
 use table::Table;
-use table::Turn;
 use table::crashed_files;
 
 impl Service {
@@ -85,13 +85,13 @@ impl Service {
                     reported,
                 };
                 let done = recovery.step(sizes, step);
-                let turn = done.turn;
-                match turn {
-                    Turn::Stay => {}
-                    Turn::Crash => {
+                let sweep = done.sweep;
+                match sweep {
+                    Sweep::Stay => {}
+                    Sweep::Crash => {
                         files = crashed_files(files, sizes);
                     }
-                    Turn::Report { client } => {
+                    Sweep::Report { client } => {
                         let mut f = 0;
                         while f < sizes.files {
                             let entry = files[f];

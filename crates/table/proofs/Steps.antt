@@ -57,11 +57,11 @@ other-step z v (Report i) h = absurd (not-among others 7 refl h)
 other-step z v End h = absurd (not-among others 8 refl h)
 
 -- a crash and an end are of no client
-pub crash-fits : (z : Sizes) (v : Recovery) → Fits (recoveryStep z v Crash .turn)
+pub crash-fits : (z : Sizes) (v : Recovery) → Fits (recoveryStep z v Crash .sweep)
 unfolding recoveryStep
 crash-fits z v = tt
 
-pub end-fits : (z : Sizes) (v : Recovery) → Fits (recoveryStep z v End .turn)
+pub end-fits : (z : Sizes) (v : Recovery) → Fits (recoveryStep z v End .sweep)
 unfolding recoveryStep
 end-fits z v =
     split (eqb (firstOf (endTests z (v .recovering) (v .reported))) 0) (λ e. rw e tt) (λ e. rw e tt)

@@ -18,13 +18,13 @@ use Rattle.protocol.specs.Client.{sideOf}
 use Rattle.protocol.specs.Refusal.{tested}
 use Rattle.table.specs.declared.recovery.Recovery.{Recovery}
 use Rattle.table.specs.declared.recovery.RecoveryOutcome.{RecoveryOutcome}
-use Rattle.table.specs.declared.recovery.Turn.{Turn}
-use Rattle.table.specs.declared.recovery.Turn.the-variants.{Stay, Crash as Crashes, Report as Reports}
+use Rattle.table.specs.declared.recovery.Sweep.{Sweep}
+use Rattle.table.specs.declared.recovery.Sweep.the-variants.{Stay, Crash as Crashes, Report as Reports}
 use Rattle.table.specs.declared.table.TableOutcome.{TableOutcome}
 use Rattle.table.specs.TableStep.{entryOf, sidesIn, reportTests, endTests}
 
 -- the client of a report is there
-abbrev pub Fits : Turn → Type 0
+abbrev pub Fits : Sweep → Type 0
 Fits Stay = Unit {0}
 Fits Crashes = Unit {0}
 Fits (Reports i) = i < maxClients
@@ -38,28 +38,28 @@ abbrev pub reportedFiles : Sizes → List Entry → List Sides → ℕ → List 
 reportedFiles z entries clients i =
     stored (z .files) (λ f. f) (λ f. reportedEntry (entryOf entries f) i (sideOf (sidesIn clients f) i)) entries
 
-abbrev pub filesAfter : Sizes → Turn → List Entry → List Sides → List Entry
+abbrev pub filesAfter : Sizes → Sweep → List Entry → List Sides → List Entry
 filesAfter z Stay entries clients = entries
 filesAfter z Crashes entries clients = crashedFiles z entries
 filesAfter z (Reports i) entries clients = reportedFiles z entries clients i
 
 -- the entries stay
 abbrev pub kept : Recovery → Reply → RecoveryOutcome
-kept v reply = record { recovery = v; reply = reply; turn = Stay }
+kept v reply = record { recovery = v; reply = reply; sweep = Stay }
 
 unfoldable pub recoveryStep : Sizes → Recovery → Step → RecoveryOutcome
 recoveryStep z v Crash =
     record {
       recovery = record { recovering = true; reported = filled (z .clients) false (v .reported) };
       reply = Done;
-      turn = Crashes;
+      sweep = Crashes;
     }
 recoveryStep z v (Report i) =
     tested (reportTests z (v .recovering) (v .reported) i) (λ k. kept v (Refused k))
     (record {
       recovery = record { recovering = v .recovering; reported = set (v .reported) i true };
       reply = Done;
-      turn = Reports i;
+      sweep = Reports i;
     })
 recoveryStep z v End =
     tested (endTests z (v .recovering) (v .reported)) (λ k. kept v (Refused k))
@@ -77,7 +77,7 @@ tableAfter z entries clients o =
     record {
       table =
           record {
-            files = filesAfter z (o .turn) entries clients;
+            files = filesAfter z (o .sweep) entries clients;
             recovering = o .recovery .recovering;
             reported = o .recovery .reported;
           };

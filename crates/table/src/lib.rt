@@ -5,7 +5,7 @@ mod table;
 
 pub use recovery::Recovery;
 pub use recovery::RecoveryOutcome;
-pub use recovery::Turn;
+pub use recovery::Sweep;
 pub use recovery::crashed_files;
 pub use table::Table;
 pub use table::TableOutcome;

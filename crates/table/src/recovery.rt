@@ -15,7 +15,7 @@ use protocol::Reply;
 use protocol::Step;
 
 // What a step on the whole table does to the entries in force.
-pub enum Turn {
+pub enum Sweep {
     Stay,
     // Of all that they hold only the versions survive.
     Crash,
@@ -33,7 +33,7 @@ pub struct Recovery {
 pub struct RecoveryOutcome {
     pub recovery: Recovery,
     pub reply: Reply,
-    pub turn: Turn,
+    pub sweep: Sweep,
 }
 
 impl Recovery {
@@ -41,7 +41,7 @@ impl Recovery {
     pub fn step(self, sizes: Sizes, step: Step) -> RecoveryOutcome
         requires { ⌜ Permitted sizes ⌝ }
         ensures { λ r. ⌜ r ≡ recoveryStep sizes self step ⌝ }
-        ensures { λ r. ⌜ Fits (r .turn) ⌝ }
+        ensures { λ r. ⌜ Fits (r .sweep) ⌝ }
     {
         match step {
             Step::Crash => self.crash(sizes),
@@ -57,7 +57,7 @@ impl Recovery {
         RecoveryOutcome {
             recovery: self,
             reply,
-            turn: Turn::Stay,
+            sweep: Sweep::Stay,
         }
     }
 
@@ -74,14 +74,14 @@ impl Recovery {
         RecoveryOutcome {
             recovery,
             reply: Reply::Done,
-            turn: Turn::Crash,
+            sweep: Sweep::Crash,
         }
     }
 
     fn report(mut self, sizes: Sizes, client: usize) -> RecoveryOutcome
         requires { ⌜ Permitted sizes ⌝ }
         ensures { λ r. ⌜ r ≡ recoveryStep sizes self (Step.Report client) ⌝ }
-        ensures { λ r. ⌜ Fits (r .turn) ⌝ }
+        ensures { λ r. ⌜ Fits (r .sweep) ⌝ }
     {
         let reports = self.reported;
         let refusal = report_refusal(sizes, self.recovering, reports, client);
@@ -92,7 +92,7 @@ impl Recovery {
         RecoveryOutcome {
             recovery: self,
             reply: Reply::Done,
-            turn: Turn::Report { client },
+            sweep: Sweep::Report { client },
         }
     }
 

@@ -81,7 +81,7 @@ module _ (s : Service) (x : Step) (z : Sizes) (inForce : z ≡ sizesOf s) where
       (o : RecoveryOutcome) (entries : List Entry)
       → classOf x ≡ OnTable
       → o ≡ recoveryStep z (recoveryIn (tableIn s)) x
-      → entries ≡ filesAfter z (o .turn) (tableIn s .files) (s .clients)
+      → entries ≡ filesAfter z (o .sweep) (tableIn s .files) (s .clients)
       → recovered entries o ≡ stepOf s x
   table-result o entries class is done =
       ap (λ (l : List Entry). recovered l o) done

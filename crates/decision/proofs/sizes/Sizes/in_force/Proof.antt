@@ -8,15 +8,18 @@ returns : tie.Need-returns
 returns c =
     let files = c .before in
     let clients = files .before in
-    let z = clients .before .args .self in (
-      rw (clients .permitted-or .ensures, files .permitted-or2 .ensures, c .permitted-or3 .ensures),
-      rw (clients .permitted-or .ensures, files .permitted-or2 .ensures, c .permitted-or3 .ensures) (in-force-permitted z),
+    let default = clients .before in
+    let z = default .before .args .self in (
+      rw (clients .permitted-or .ensures, files .permitted-or2 .ensures, c .permitted-or3 .ensures, default .default .ensures),
+      rw (clients .permitted-or .ensures, files .permitted-or2 .ensures, c .permitted-or3 .ensures, default .default .ensures)
+          (in-force-permitted z),
     )
 
 pub in-force-spec : {M : Type 1} → statement M
 in-force-spec =
     tie.close
     (tie.spec
+    (search needs)
     (search needs)
     (search needs)
     (search needs)

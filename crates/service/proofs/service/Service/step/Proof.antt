@@ -12,7 +12,7 @@ use Rattle.protocol.specs.declared.step.Step.{Step}
 use Rattle.protocol.specs.Step.{classOf}
 use Rattle.protocol.specs.Entry.{reportedEntry}
 use Rattle.protocol.specs.Client.{sideOf}
-use Rattle.table.specs.declared.recovery.Turn.{Turn}
+use Rattle.table.specs.declared.recovery.Sweep.{Sweep}
 use Rattle.table.specs.TableStep.{noEntry, entryOf, sidesIn}
 use Rattle.table.specs.Recovery.{filesAfter}
 use Rattle.service.specs.declared.service.Service.{Service}
@@ -51,18 +51,18 @@ module _ (c : tie.After-class Inv-loop μ-loop) where
 -- the entries, once a step on the table has gone through them
 entries : (c : tie.At-match2-came Inv-loop μ-loop)
     → (let s = self-of (c .before .before .before .before) in
-    c .match2 .files ≡ filesAfter (c .before .before .before .before .before .before .before .before .before .before .before .before .before .before .in-force .result) (c .before .step2 .result .turn) (tableIn s .files) (s .clients))
+    c .match2 .files ≡ filesAfter (c .before .before .before .before .before .before .before .before .before .before .before .before .before .before .in-force .result) (c .before .step2 .result .sweep) (tableIn s .files) (s .clients))
 entries c =
     let s = self-of (c .before .before .before .before) in
     let z = c .before .before .before .before .before .before .before .before .before .before .before .before .before .before .in-force .result in
-    let turns : (t : Turn) → c .before .step2 .result .turn ≡ t → filesAfter z t (tableIn s .files) (s .clients)
-    ≡ filesAfter z (c .before .step2 .result .turn) (tableIn s .files) (s .clients) =
-    λ t e. sym (ap (λ (t : Turn). filesAfter z t (tableIn s .files) (s .clients)) e) in
+    let sweeps : (t : Sweep) → c .before .step2 .result .sweep ≡ t → filesAfter z t (tableIn s .files) (s .clients)
+    ≡ filesAfter z (c .before .step2 .result .sweep) (tableIn s .files) (s .clients) =
+    λ t e. sym (ap (λ (t : Sweep). filesAfter z t (tableIn s .files) (s .clients)) e) in
     ⊎-elim
-    (λ w. w .2 ∙ turns _ (w .1 .given .1))
+    (λ w. w .2 ∙ sweeps _ (w .1 .given .1))
     (⊎-elim
-    (λ w. w .3 ∙ w .2 .ensures ∙ turns _ (w .1 .given .1))
-    (λ w. w .6 ∙ stored-all (w .3 .inv) (w .5 .left) ∙ turns _ (w .1 .given .1)))
+    (λ w. w .3 ∙ w .2 .ensures ∙ sweeps _ (w .1 .given .1))
+    (λ w. w .6 ∙ stored-all (w .3 .inv) (w .5 .left) ∙ sweeps _ (w .1 .given .1)))
     (c .match2 .came)
 
 in-force-requires : tie.Need-in-force-requires Inv-loop μ-loop
@@ -137,8 +137,8 @@ enum-told-3 c = search needs
 crashed-files-requires : tie.Need-crashed-files-requires Inv-loop μ-loop
 crashed-files-requires c κs = permitted (c .before .before .before .before .before)
 
-enum-known-turn : tie.Need-enum-known-turn Inv-loop μ-loop
-enum-known-turn c = search needs
+enum-known-sweep : tie.Need-enum-known-sweep Inv-loop μ-loop
+enum-known-sweep c = search needs
 
 loop-holds : tie.Need-loop-holds Inv-loop μ-loop
 loop-holds c = stored-none
@@ -159,7 +159,7 @@ side-requires : tie.Need-side-requires Inv-loop μ-loop
 side-requires c κs = tt
 
 reported-requires : tie.Need-reported-requires Inv-loop μ-loop
-reported-requires c κs = rw (c .before .before .before .before .before .before .before .turn .given .1) at (c .before .before .before .before .before .before .before .before .before .step2 .ensures .1)
+reported-requires c κs = rw (c .before .before .before .before .before .before .before .sweep .given .1) at (c .before .before .before .before .before .before .before .before .before .step2 .ensures .1)
 
 mul-files-2 : tie.Need-mul-files-2 Inv-loop μ-loop
 mul-files-2 c = omega (arith, c .before .before .before .before .if1 .taken, permitted (c .before .before .before .before .before .before .before .before .before .before .before .before .before) .files)
@@ -178,7 +178,7 @@ loop-again c =
     let turn = c .before .before .before .before .before .before .loop in
     stored-more (turn .inv) (c .before .before .before .before .if1 .taken)
     (c .reported2 .ensures
-    ∙ ap₂ (λ (e : Entry) (own : ClientFile). reportedEntry e (c .before .before .before .before .before .before .before .before .turn .given .0 .0) own) (not-yet noEntry (turn .inv))
+    ∙ ap₂ (λ (e : Entry) (own : ClientFile). reportedEntry e (c .before .before .before .before .before .before .before .before .sweep .given .0 .0) own) (not-yet noEntry (turn .inv))
     (c .before .side .ensures))
 
 returns : tie.Need-returns Inv-loop μ-loop
@@ -234,7 +234,7 @@ step-spec =
     enum-told-2
     enum-told-3
     crashed-files-requires
-    enum-known-turn
+    enum-known-sweep
     loop-holds
     mul-entry-2
     array-copy-out-entry-2
