@@ -7,7 +7,7 @@ use super::text::write_step;
 use crate::{LONGEST_STEP, Settings, read_line};
 
 /// A player's buffer may be of this size: lines are made that end at its edge or reach past it.
-const BUFFER: usize = 64 * 1024;
+const BUFFER: usize = 256 * 1024;
 
 type Spoil = fn(&mut Rng, &mut Vec<u8>);
 
