@@ -1,3 +1,3 @@
--- The laws behind the parts of a step on blocks.
+-- The laws behind reads and writes.
 pub mod Accessed
-pub mod Stored
+pub mod Others

@@ -1,3 +1,2 @@
--- What the parts of a step do to blocks, in terms of the protocol's definitions. Read to follow the proof of the service's step, whose
--- contract does not mention them.
-pub mod Access
+-- Reads and writes of one block.
+pub mod BlockStep

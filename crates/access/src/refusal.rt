@@ -1,11 +1,18 @@
-// The refusals of the steps on a block: each function tests exactly its own numbers, lowest first; 0 is none.
+// The refusals of reads and writes: each function tests exactly its own numbers, lowest first; 0 is none.
 ghost use mathlib.Core.Path.{_≡_};
-ghost use Rattle.protocol.specs.Lists.{firstOf};
-ghost use Rattle.protocol.specs.Refusal.{readTests, writeTests, flushTests};
+ghost use Rattle.decision.specs.Lists.{firstOf};
+ghost use Rattle.protocol.specs.Refusal.{readTests, writeTests};
+use decision::Sizes;
 use protocol::ClientFile;
+use protocol::IN_RECOVERY;
+use protocol::NO_BLOCK;
+use protocol::NO_CLIENT;
+use protocol::NO_FILE;
+use protocol::NOT_OPEN;
 use protocol::refused_if;
 
 pub fn read_refusal(
+    sizes: Sizes,
     recovering: bool,
     reported: bool,
     own: ClientFile,
@@ -14,23 +21,28 @@ pub fn read_refusal(
     file: usize,
     block: usize,
 ) -> u8
-    ensures { λ r. ⌜ r ≡ firstOf (readTests recovering reported own held client file block) ⌝ }
+    ensures { λ r. ⌜ r ≡ firstOf (readTests sizes recovering reported own held client file block) ⌝ }
 {
     let opens = own.opens;
-    let closed = refused_if(!opens.is_open(), 11, 0);
+    let closed = refused_if(!opens.is_open(), NOT_OPEN, 0);
     let cut_off = refused_if(
         recovering & (reported | own.read_needs_server(held)),
-        5,
+        IN_RECOVERY,
         closed,
     );
     refused_if(
-        8 <= client,
-        2,
-        refused_if(32 <= file, 3, refused_if(4 <= block, 4, cut_off)),
+        sizes.clients <= client,
+        NO_CLIENT,
+        refused_if(
+            sizes.files <= file,
+            NO_FILE,
+            refused_if(sizes.blocks <= block, NO_BLOCK, cut_off),
+        ),
     )
 }
 
 pub fn write_refusal(
+    sizes: Sizes,
     recovering: bool,
     reported: bool,
     own: ClientFile,
@@ -38,33 +50,22 @@ pub fn write_refusal(
     file: usize,
     block: usize,
 ) -> u8
-    ensures { λ r. ⌜ r ≡ firstOf (writeTests recovering reported own client file block) ⌝ }
+    ensures { λ r. ⌜ r ≡ firstOf (writeTests sizes recovering reported own client file block) ⌝ }
 {
     let opens = own.opens;
-    let closed = refused_if(opens.writers == 0, 11, 0);
+    let closed = refused_if(opens.writers == 0, NOT_OPEN, 0);
     let cut_off = refused_if(
         recovering & (reported | own.write_needs_server()),
-        5,
+        IN_RECOVERY,
         closed,
     );
     refused_if(
-        8 <= client,
-        2,
-        refused_if(32 <= file, 3, refused_if(4 <= block, 4, cut_off)),
-    )
-}
-
-pub fn flush_refusal(recovering: bool, dirty: bool, client: usize, file: usize, block: usize) -> u8
-    ensures { λ r. ⌜ r ≡ firstOf (flushTests recovering dirty client file block) ⌝ }
-{
-    let clean = refused_if(!dirty, 13, 0);
-    refused_if(
-        8 <= client,
-        2,
+        sizes.clients <= client,
+        NO_CLIENT,
         refused_if(
-            32 <= file,
-            3,
-            refused_if(4 <= block, 4, refused_if(recovering, 5, clean)),
+            sizes.files <= file,
+            NO_FILE,
+            refused_if(sizes.blocks <= block, NO_BLOCK, cut_off),
         ),
     )
 }

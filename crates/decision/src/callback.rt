@@ -1,13 +1,16 @@
 // The callbacks that an open causes, from the state of the file.
 ghost use mathlib.Core.Path.{_≡_};
 ghost use mathlib.Core.Bool.{false, cond};
+ghost use Prim.Native.Nat.{_≤_};
+ghost use lib.ListN.{replicate};
 ghost use Rattle.records.specs.Record.{notOpen};
-ghost use Rattle.protocol.specs.Sizes.{clients};
-ghost use Rattle.protocol.specs.State.{recordIn};
-ghost use Rattle.protocol.specs.Callback.{callbackKind, callbacksDue};
+ghost use Rattle.decision.specs.Sizes.{maxClients};
+ghost use Rattle.decision.specs.State.{recordIn};
+ghost use Rattle.decision.specs.Callback.{callbackKind, callbacksDue};
+use crate::sizes::MAX_CLIENTS;
+use crate::state::FileState;
 use crate::state::record_of;
 use crate::state::state_of;
-use protocol::FileState;
 use records::ClientRecord;
 use records::Mode;
 
@@ -50,17 +53,25 @@ fn kind_if(holds: bool, kind: u8) -> u8
     if holds { kind } else { 0 }
 }
 
-pub fn callbacks_due(records: [ClientRecord; 8], last: u8, opener: usize, mode: Mode) -> [u8; 8]
-    ensures { λ r. ⌜ r ≡ callbacksDue clients (recordIn records) last opener mode ⌝ }
+// The callbacks that the open causes: a kind for each client, 0 for none.
+pub fn callbacks_due(
+    records: [ClientRecord; MAX_CLIENTS],
+    clients: usize,
+    last: u8,
+    opener: usize,
+    mode: Mode,
+) -> [u8; MAX_CLIENTS]
+    requires { ⌜ clients ≤ maxClients ⌝ }
+    ensures { λ r. ⌜ r ≡ callbacksDue clients (recordIn records) last opener mode (replicate maxClients 0) ⌝ }
 {
-    let mut calls = [0u8; 8];
+    let mut calls = [0u8; MAX_CLIENTS];
     let own = record_of(records, opener);
     if own.keeps_permission(mode) {
         return calls;
     }
-    let state = state_of(records, last);
+    let state = state_of(records, clients, last);
     let mut i = 0;
-    while i < 8 {
+    while i < clients {
         let called = records[i];
         let kind = callback_kind(state, mode, called, i == last as usize);
         calls[i] = kind_if(i != opener, kind);

@@ -1,24 +1,32 @@
 // The permission to cache that a grant gives.
 ghost use mathlib.Core.Path.{_≡_};
-ghost use Rattle.protocol.specs.Sizes.{clients};
-ghost use Rattle.protocol.specs.State.{recordIn};
-ghost use Rattle.protocol.specs.Permission.{permissionAtGrant};
+ghost use Prim.Native.Nat.{_≤_};
+ghost use Rattle.decision.specs.Sizes.{maxClients};
+ghost use Rattle.decision.specs.State.{recordIn};
+ghost use Rattle.decision.specs.Permission.{permissionAtGrant};
+use crate::sizes::MAX_CLIENTS;
+use crate::state::Property;
 use crate::state::count_clients;
 use crate::state::count_others;
 use crate::state::record_of;
-use protocol::Property;
 use records::ClientRecord;
 use records::Mode;
 
-pub fn permission_at_grant(records: [ClientRecord; 8], opener: usize, mode: Mode) -> bool
+pub fn permission_at_grant(
+    records: [ClientRecord; MAX_CLIENTS],
+    clients: usize,
+    opener: usize,
+    mode: Mode,
+) -> bool
+    requires { ⌜ clients ≤ maxClients ⌝ }
     ensures { λ r. ⌜ r ≡ permissionAtGrant clients (recordIn records) opener mode ⌝ }
 {
     let own = record_of(records, opener);
     if own.keeps_permission(mode) {
         return own.caching;
     }
-    let written = 0 < count_others(records, Property::Writing, opener);
-    let shared = mode.is_write() & (0 < count_others(records, Property::Open, opener));
-    let uncached = 0 < count_clients(records, Property::Uncached);
+    let written = 0 < count_others(records, clients, Property::Writing, opener);
+    let shared = mode.is_write() & (0 < count_others(records, clients, Property::Open, opener));
+    let uncached = 0 < count_clients(records, clients, Property::Uncached);
     !(written | shared | uncached)
 }

@@ -1,12 +1,49 @@
 // The state of a file, named from the records of its clients.
 ghost use mathlib.Core.Path.{_≡_};
 ghost use mathlib.Core.Bool.{cond};
+ghost use Prim.Native.Nat.{_≤_};
 ghost use lib.ListN.{set};
-ghost use Rattle.protocol.specs.Sizes.{clients};
-ghost use Rattle.protocol.specs.State.{recordIn, has, tally, others, stateOf};
-use protocol::FileState;
-use protocol::Property;
+ghost use Rattle.decision.specs.Sizes.{maxClients};
+ghost use Rattle.decision.specs.State.{codeOf, recordIn, has, tally, others, stateOf};
+use crate::sizes::MAX_CLIENTS;
 use records::ClientRecord;
+
+// The states of the 1989 paper's section 4.3.4.
+pub enum FileState {
+    Closed,
+    ClosedDirty,
+    OneReader,
+    OneReaderDirty,
+    MultReaders,
+    OneWriter,
+    WriteShared,
+}
+
+// What a client is counted for.
+pub enum Property {
+    Open,
+    // Open, and may not cache.
+    Uncached,
+    // Open with writers.
+    Writing,
+}
+
+impl FileState {
+    // The state code that the summary prints.
+    pub fn code(self) -> u8
+        ensures { λ r. ⌜ r ≡ codeOf self ⌝ }
+    {
+        match self {
+            FileState::Closed => 0,
+            FileState::ClosedDirty => 1,
+            FileState::OneReader => 2,
+            FileState::OneReaderDirty => 3,
+            FileState::MultReaders => 4,
+            FileState::OneWriter => 5,
+            FileState::WriteShared => 6,
+        }
+    }
+}
 
 pub fn has(counted: ClientRecord, property: Property) -> bool
     ensures { λ r. ⌜ r ≡ has property counted ⌝ }
@@ -19,29 +56,25 @@ pub fn has(counted: ClientRecord, property: Property) -> bool
 }
 
 // The record of a client; of a client that is not there, one that is not open.
-pub fn record_of(records: [ClientRecord; 8], client: usize) -> ClientRecord
+pub fn record_of(records: [ClientRecord; MAX_CLIENTS], client: usize) -> ClientRecord
     ensures { λ r. ⌜ r ≡ recordIn records client ⌝ }
 {
-    if client < 8 {
+    if client < MAX_CLIENTS {
         records[client]
     } else {
-        ClientRecord {
-            readers: 0,
-            writers: 0,
-            caching: false,
-        }
+        ClientRecord::not_open()
     }
 }
 
 // The records with this one for the client; a client that is not there changes none.
 pub fn with_record(
-    mut records: [ClientRecord; 8],
+    mut records: [ClientRecord; MAX_CLIENTS],
     client: usize,
     own: ClientRecord,
-) -> [ClientRecord; 8]
+) -> [ClientRecord; MAX_CLIENTS]
     ensures { λ r. ⌜ r ≡ set records client own ⌝ }
 {
-    if client < 8 {
+    if client < MAX_CLIENTS {
         records[client] = own;
     }
     records
@@ -53,13 +86,18 @@ pub fn one_if(holds: bool) -> usize
     if holds { 1 } else { 0 }
 }
 
-// How many clients have the property.
-pub fn count_clients(records: [ClientRecord; 8], property: Property) -> usize
+// How many of the clients have the property.
+pub fn count_clients(
+    records: [ClientRecord; MAX_CLIENTS],
+    clients: usize,
+    property: Property,
+) -> usize
+    requires { ⌜ clients ≤ maxClients ⌝ }
     ensures { λ r. ⌜ r ≡ tally clients (recordIn records) property ⌝ }
 {
     let mut count: usize = 0;
     let mut i = 0;
-    while i < 8 {
+    while i < clients {
         let counted = records[i];
         count += one_if(has(counted, property));
         i += 1;
@@ -67,35 +105,36 @@ pub fn count_clients(records: [ClientRecord; 8], property: Property) -> usize
     count
 }
 
-// How many clients other than this one have the property.
-pub fn count_others(records: [ClientRecord; 8], property: Property, client: usize) -> usize
+// How many of the clients other than this one have the property.
+pub fn count_others(
+    records: [ClientRecord; MAX_CLIENTS],
+    clients: usize,
+    property: Property,
+    client: usize,
+) -> usize
+    requires { ⌜ clients ≤ maxClients ⌝ }
     ensures { λ r. ⌜ r ≡ others clients (recordIn records) property client ⌝ }
 {
-    let mut count: usize = 0;
-    let mut i = 0;
-    while i < 8 {
-        let counted = records[i];
-        count += one_if((i != client) & has(counted, property));
-        i += 1;
-    }
-    count
+    let without = with_record(records, client, ClientRecord::not_open());
+    count_clients(without, clients, property)
 }
 
-pub fn state_of(records: [ClientRecord; 8], last: u8) -> FileState
+pub fn state_of(records: [ClientRecord; MAX_CLIENTS], clients: usize, last: u8) -> FileState
+    requires { ⌜ clients ≤ maxClients ⌝ }
     ensures { λ r. ⌜ r ≡ stateOf clients (recordIn records) last ⌝ }
 {
-    let open = count_clients(records, Property::Open);
+    let open = count_clients(records, clients, Property::Open);
     match open {
         0 => {
-            if last < 8 {
+            if (last as usize) < clients {
                 FileState::ClosedDirty
             } else {
                 FileState::Closed
             }
         }
-        1 => one_open(records, last),
+        1 => one_open(records, clients, last),
         _ => {
-            if 0 < count_clients(records, Property::Uncached) {
+            if 0 < count_clients(records, clients, Property::Uncached) {
                 FileState::WriteShared
             } else {
                 FileState::MultReaders
@@ -105,17 +144,18 @@ pub fn state_of(records: [ClientRecord; 8], last: u8) -> FileState
 }
 
 // The state of a file that one client has open.
-fn one_open(records: [ClientRecord; 8], last: u8) -> FileState
+fn one_open(records: [ClientRecord; MAX_CLIENTS], clients: usize, last: u8) -> FileState
+    requires { ⌜ clients ≤ maxClients ⌝ }
     requires { ⌜ tally clients (recordIn records) Property.Open ≡ 1 ⌝ }
     ensures { λ r. ⌜ r ≡ stateOf clients (recordIn records) last ⌝ }
 {
-    if 0 < count_clients(records, Property::Uncached) {
+    if 0 < count_clients(records, clients, Property::Uncached) {
         return FileState::WriteShared;
     }
-    if 0 < count_clients(records, Property::Writing) {
+    if 0 < count_clients(records, clients, Property::Writing) {
         return FileState::OneWriter;
     }
-    if 8 <= last {
+    if clients <= last as usize {
         return FileState::OneReader;
     }
     if record_of(records, last as usize).is_open() {

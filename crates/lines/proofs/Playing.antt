@@ -2,23 +2,22 @@
 use Prim.Native.Nat.{ℕ, _+_, _-_, _≤_, _<_}
 use mathlib.Core.Path.{_≡_, refl, sym, ap, subst, _∙_}
 use mathlib.Core.Bool.{Bool, true, false, false≢true, true≢false}
-use mathlib.Core.List.{List, [], _∷_, _++_}
+use mathlib.Core.List.{List, [], _∷_, _++_, append-assoc}
 use native.Mathlib.Omega.{arith}
 use lib.Dec.{leb, ltb}
-use lib.ListN.{length, take, drop}
+use lib.ListN.{length, take, drop, length-append, take-append-drop}
+use lib.Seq.{length-take-le, take-at, drop-at}
 use borrow.Author.Tests.{leb-true, ltb-true}
 use Rattle.service.specs.declared.service.Service.{Service}
 use Rattle.service.specs.declared.outcome.Outcome.{Outcome}
-use Rattle.service.proofs.Rows.{rows-kept}
 use Rattle.stepfile.specs.declared.parsed.Parsed.{Parsed}
-use Rattle.stepfile.specs.declared.parsed.Parsed.the-variants.{Is, NoStep}
 use Rattle.stepfile.specs.declared.parsed.Read.{Read}
 use Rattle.stepfile.specs.declared.parsed.Read.the-variants.{Line, Part}
 use Rattle.stepfile.specs.Grammar.{Reading, found, nothing, parseLine}
 use Rattle.stepfile.specs.Input.{firstLine, lineRead, readAt, wholeLines}
 use Rattle.stepfile.specs.Line.{lineText}
 use Rattle.stepfile.specs.Played.{outcomeOf, replyLine, serviceAfter}
-use Rattle.stepfile.specs.Transcript.{lines, transcript, after}
+use Rattle.stepfile.specs.Transcript.{lines, transcript}
 use Rattle.records.proofs.Choosing.{and-left, and-right}
 use Rattle.stepfile.proofs.FirstLines.{whole-none}
 use Rattle.writer.specs.Buffer.{written, Wrote, WroteIfRoom, lineRoom}
@@ -58,16 +57,6 @@ no-line input used e = from (firstLine (drop used input)) refl e
     from (found l r) q f = absurd (true≢false (ap isLine f))
     from nothing q f = whole-none (drop used input) (no-lf (drop used input) q)
 
--- the table keeps its length
-rows-line : (s : Service) (p : Parsed) → length (outcomeOf s p .service .server .files) ≡ length (s .server .files)
-rows-line s (Is x) = rows-kept s x
-rows-line s NoStep = refl
-
-rows-after : (s : Service) (ls : List (List ℕ)) → length (after serviceAfter s ls .server .files) ≡ length (s .server .files)
-unfolding after serviceAfter
-rows-after s [] = refl
-rows-after s (l ∷ ls) = rows-after (serviceAfter s l) ls ∙ rows-line s (parseLine l)
-
 -- another line can be replied to: there is room for its reply line, and a number for the next
 module _ (room to number : ℕ) (can : canReply room to number ≡ true) where
   pub has-room : to + lineRoom ≤ room
@@ -100,7 +89,7 @@ module _ (s : Service) (n : ℕ) (input out : List ℕ) where
       → Reached s n input out t number used to out₁
       → readAt input used ≡ Line p next
       → canReply (length out₁) to number ≡ true
-      → o ≡ outcomeOf t p
+      → ((l : List ℕ) → LineAt input used l next → o ≡ outcomeOf t number l p)
       → WroteIfRoom lineRoom out₁ to (lineText number (o .reply) (o .calls)) out₂ to′
       → to′ ≤ to + lineRoom
       → Reached s n input out (o .service) (number + 1) next to′ out₂
@@ -108,8 +97,8 @@ module _ (s : Service) (n : ℕ) (input out : List ℕ) where
   one-more t number used to out₁ p next o to′ out₂ w e can is placed most =
       let read = read-line input used p next (w .at .inside) e in
       let l = read .line in
-      let fine : o ≡ outcomeOf t (parseLine l) = is ∙ ap (outcomeOf t) (sym (read .gives)) in
-      let after-line : o .service ≡ serviceAfter t l = ap (λ (x : Outcome). x .service) fine in
+      let fine : o ≡ outcomeOf t number l (parseLine l) = is l (read .at) ∙ ap (outcomeOf t number l) (sym (read .gives)) in
+      let after-line : o .service ≡ serviceAfter t number l = ap (λ (x : Outcome). x .service) fine in
       let text : lineText number (o .reply) (o .calls) ≡ replyLine t number l =
       ap (λ (x : Outcome). lineText number (x .reply) (x .calls)) fine in
       let wrote = if-room-wrote lineRoom out₁ to _ out₂ to′ (has-room (length out₁) to number can) most placed in
@@ -128,8 +117,8 @@ module _ (s : Service) (n : ℕ) (input out : List ℕ) where
             (wrote-then (w .writes) wrote);
         on =
             ap (λ (x : Service). progressOf (length out) lines-left x (number + 1) next to′) after-line
-            ∙ ap (λ (k : ℕ). progressOf (length out) lines-left (serviceAfter t l) (number + 1) next k) (sym next-to)
-            ∙ ap (λ (k : ℕ). progressOf (length out) lines-left (serviceAfter t l) (number + 1) k (to + length (replyLine t number l)))
+            ∙ ap (λ (k : ℕ). progressOf (length out) lines-left (serviceAfter t number l) (number + 1) next k) (sym next-to)
+            ∙ ap (λ (k : ℕ). progressOf (length out) lines-left (serviceAfter t number l) (number + 1) k (to + length (replyLine t number l)))
             (sym (read .offset))
             ∙ sym
             (progress-next s n input (length out) l lines-left t number used to
@@ -137,24 +126,6 @@ module _ (s : Service) (n : ℕ) (input out : List ℕ) where
             ∙ ap (λ (ls : List (List ℕ)). progressOf (length out) ls t number used to) (sym (read .at .onward))
             ∙ w .on;
       }
-
-  -- the table keeps its length
-  pub same-rows :
-      (t : Service) (number used to : ℕ) (out₁ : List ℕ)
-      → Reached s n input out t number used to out₁
-      → length (t .server .files) ≡ length (s .server .files)
-  same-rows t number used to out₁ w =
-      ap (λ (x : Service). length (x .server .files)) (w .at .service) ∙ rows-after s (lines (take used input))
-
-  -- fewer bytes are left after it
-  pub fewer-left :
-      (t : Service) (number used to : ℕ) (out₁ : List ℕ) (p : Parsed) (next : ℕ)
-      → Reached s n input out t number used to out₁
-      → readAt input used ≡ Line p next
-      → length input - next < length input - used
-  fewer-left t number used to out₁ p next w e =
-      let read = read-line input used p next (w .at .inside) e in
-      omega (arith, read .at .later, read .at .inside)
 
   -- the loop ends where no other line can be replied to, or none is left
   module _ (t : Service) (number used to : ℕ) (out₁ : List ℕ) (w : Reached s n input out t number used to out₁) where

@@ -70,7 +70,7 @@ pub record At (s : Service) (n : ℕ) (input : List ℕ) (t : Service) (number u
   pub inside : used ≤ length input
   pub breaks : BreaksLine (take used input)
   pub numbers : number ≡ n + length (lines (take used input))
-  pub service : t ≡ afterInput s (take used input)
+  pub service : t ≡ afterInput s n (take used input)
   pub size : to ≡ length (transcriptOf s n (take used input))
 
 module _ (s : Service) (n : ℕ) (input : List ℕ) where
@@ -85,7 +85,7 @@ module _ (s : Service) (n : ℕ) (input : List ℕ) where
     a = take used input
 
     -- the reply line that the transcript has
-    reply-line : replyLine t number l ≡ replyLine (afterInput s a) (n + length (lines a)) l
+    reply-line : replyLine t number l ≡ replyLine (afterInput s n a) (n + length (lines a)) l
     reply-line = ap (λ (k : ℕ). replyLine t k l) (w .numbers) ∙ ap (λ (x : Service). replyLine x (n + length (lines a)) l) (w .service)
 
     pub transcript-next : transcriptOf s n a ++ replyLine t number l ≡ transcriptOf s n (take next input)
@@ -94,7 +94,7 @@ module _ (s : Service) (n : ℕ) (input : List ℕ) where
         ∙ sym (transcript-more replyLine serviceAfter s n a l (w .breaks) (at .none))
         ∙ ap (transcriptOf s n) (sym (at .upto))
 
-    pub at-next : At s n input (serviceAfter t l) (number + 1) next (to + length (replyLine t number l))
+    pub at-next : At s n input (serviceAfter t number l) (number + 1) next (to + length (replyLine t number l))
     at-next =
         record {
           inside = at .inside;
@@ -103,9 +103,10 @@ module _ (s : Service) (n : ℕ) (input : List ℕ) where
               ap (λ (k : ℕ). k + 1) (w .numbers)
               ∙ omega (arith, ap (λ (x : List ℕ). length (lines x)) (at .upto), count-more a l (w .breaks) (at .none));
           service =
-              ap (λ (x : Service). serviceAfter x l) (w .service)
-              ∙ sym (after-more serviceAfter s a l (w .breaks) (at .none))
-              ∙ ap (afterInput s) (sym (at .upto));
+              ap (λ (k : ℕ). serviceAfter t k l) (w .numbers)
+              ∙ ap (λ (x : Service). serviceAfter x (n + length (lines a)) l) (w .service)
+              ∙ sym (after-more serviceAfter s n a l (w .breaks) (at .none))
+              ∙ ap (afterInput s n) (sym (at .upto));
           size =
               ap (λ (k : ℕ). k + length (replyLine t number l)) (w .size)
               ∙ sym (length-append (transcriptOf s n a) (replyLine t number l))
@@ -116,7 +117,7 @@ module _ (s : Service) (n : ℕ) (input : List ℕ) where
   pub progress-next : (room : ℕ) (l : List ℕ) (ls : List (List ℕ)) (t : Service) (number used to : ℕ)
       → canReply room to number ≡ true
       → progressOf room (l ∷ ls) t number used to
-      ≡ progressOf room ls (serviceAfter t l) (number + 1) (used + length l + 1) (to + length (replyLine t number l))
+      ≡ progressOf room ls (serviceAfter t number l) (number + 1) (used + length l + 1) (to + length (replyLine t number l))
   unfolding progressOf
   progress-next room l ls t number used to can = when _ _ can
 
@@ -158,7 +159,7 @@ module _ (s : Service) (n : ℕ) (input : List ℕ) where
       let f : l ∷ wholeLines (drop (used + length l + 1) input) ≡ l ∷ ls = sym (line .onward) ∙ e in
       let rest : wholeLines (drop (used + length l + 1) input) ≡ ls = cc in
       subst (Stop out) (sym (progress-next (length out) l ls t number used to can))
-      (stop-from out ls (serviceAfter t l) (number + 1) (used + length l + 1) (to + length (replyLine t number l))
+      (stop-from out ls (serviceAfter t number l) (number + 1) (used + length l + 1) (to + length (replyLine t number l))
       (at-next t number used to w l (used + length l + 1) line)
       rest))
       (λ cannot.

@@ -50,5 +50,5 @@ module _ (b : List ℕ) (none : NoLF b) (long : 87 ≤ length b) (s : Service) (
   pub transcript-cut : (n : ℕ) → transcriptOf s n (b ++ more) ≡ transcriptOf s n (take 87 b ++ more)
   transcript-cut n = transcript-of-long b (take 87 b) none (no-lf-take 87 b none) long cut-long more s n
 
-  pub after-cut : afterInput s (b ++ more) ≡ afterInput s (take 87 b ++ more)
-  after-cut = service-after-long b (take 87 b) none (no-lf-take 87 b none) long cut-long more s
+  pub after-cut : (n : ℕ) → afterInput s n (b ++ more) ≡ afterInput s n (take 87 b ++ more)
+  after-cut n = service-after-long b (take 87 b) none (no-lf-take 87 b none) long cut-long more s n

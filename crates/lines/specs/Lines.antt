@@ -19,8 +19,8 @@ lastNumber = 18446744073709551615
 abbrev pub transcriptOf : Service → ℕ → List ℕ → List ℕ
 transcriptOf s n input = transcript replyLine serviceAfter s n (lines input)
 
-abbrev pub afterInput : Service → List ℕ → Service
-afterInput s input = after serviceAfter s (lines input)
+abbrev pub afterInput : Service → ℕ → List ℕ → Service
+afterInput s n input = after serviceAfter s n (lines input)
 
 -- whether another line can be replied to: there is room for its reply line, and another number after its own
 abbrev pub canReply : ℕ → ℕ → ℕ → Bool
@@ -35,7 +35,7 @@ unfoldable pub progressOf : ℕ → List (List ℕ) → Service → ℕ → ℕ 
 progressOf room [] s n used to = stopped s n used to
 progressOf room (l ∷ ls) s n used to =
     cond (canReply room to n)
-    (progressOf room ls (serviceAfter s l) (n + 1) (used + length l + 1) (to + length (replyLine s n l)))
+    (progressOf room ls (serviceAfter s n l) (n + 1) (used + length l + 1) (to + length (replyLine s n l)))
     (stopped s n used to)
 
 -- how far an input is played into a buffer

@@ -3,26 +3,25 @@ ghost use mathlib.Core.Path.{_≡_};
 ghost use Prim.Native.Nat.{_≤_};
 ghost use lib.ListN.{length};
 ghost use Rattle.lines.specs.Lines.{canReply, lineProgress, linesWritten};
-use access::answer_blocks;
-use access::drop_file_unless;
-use access::flush_block;
-use access::read_block;
-use access::unless_refused;
-use access::write_block;
-use opening::answer_call;
-use opening::close_file;
-use opening::grant_waiter;
-use opening::open_file;
+use access::access_block;
+use decision::MAX_CLIENTS;
+use decision::MAX_FILES;
+use file::SharedFile;
+use protocol::Class;
+use protocol::NO_STEP;
+use protocol::OUT_OF_RANGE;
 use protocol::Reply;
-use protocol::Step;
 use reader::read_at;
+use reader::read_setting;
+use service::Server;
 use service::Service;
-use service::end_refusal;
-use service::report_refusal;
-use service::reports_after_end;
 use stepfile::Parsed;
 use stepfile::Read;
-use table::reported_entry;
+use stepfile::Setting;
+use table::Recovery;
+use table::Sweep;
+use table::Table;
+use table::crashed_files;
 use writer::LINE_ROOM;
 use writer::write_reply;
 
@@ -50,13 +49,21 @@ pub fn can_reply(room: usize, to: usize, number: u64) -> bool
 }
 
 // Plays the whole lines of the input, the first of them numbered so, and writes their reply lines from the start of
-// out on, as long as another line can be replied to. The service is taken apart once, and no line copies it.
+// out on, as long as another line can be replied to. The service is taken apart once, and no line copies it, save a
+// first line that chooses the sizes.
 pub fn play_lines(service: Service, first: u64, input: &[u8], out: &mut [u8]) -> Progress
     ensures { λ r. ⌜ r ≡ lineProgress service first (now (input .entry)) (now (out .entry)) ⌝ }
     ensures { λ r. ⌜ now (out .exit) ≡ linesWritten service first (now (input .entry)) (now (out .entry)) ⌝ }
     ensures { λ r. ⌜ r .written ≤ length (now (out .entry)) ⌝ }
 {
-    let mut server = service.server;
+    let mut given = service.sizes;
+    let mut sizes = given.in_force();
+    let server = service.server;
+    let table = server.table;
+    let mut files = table.files;
+    let mut recovering = table.recovering;
+    let mut reported = table.reported;
+    let mut blocks = server.blocks;
     let mut clients = service.clients;
     let mut copies = service.copies;
     let mut held = service.held;
@@ -69,166 +76,140 @@ pub fn play_lines(service: Service, first: u64, input: &[u8], out: &mut [u8]) ->
             break;
         };
         let line = number;
+        let at = used;
         used = next;
         number += 1;
         let Parsed::Is(step) = parsed else {
-            to = write_reply(out, to, line, Reply::Refused(1), [0; 8]);
+            if line != 1 {
+                to = write_reply(out, to, line, Reply::Refused(NO_STEP), [0; MAX_CLIENTS]);
+                continue;
+            }
+            let setting = read_setting(&input[at..next - 1]);
+            match setting {
+                Setting::Are(chosen) => {
+                    let fresh = Service::new(chosen);
+                    let fresh_server = fresh.server;
+                    let fresh_table = fresh_server.table;
+                    let fresh_sizes = fresh.sizes;
+                    let fresh_files = fresh_table.files;
+                    let fresh_reported = fresh_table.reported;
+                    let fresh_blocks = fresh_server.blocks;
+                    let fresh_clients = fresh.clients;
+                    let fresh_copies = fresh.copies;
+                    let fresh_held = fresh.held;
+                    let fresh_dirty = fresh.dirty;
+                    given = fresh_sizes;
+                    sizes = fresh_sizes.in_force();
+                    files = fresh_files;
+                    recovering = fresh_table.recovering;
+                    reported = fresh_reported;
+                    blocks = fresh_blocks;
+                    clients = fresh_clients;
+                    copies = fresh_copies;
+                    held = fresh_held;
+                    dirty = fresh_dirty;
+                    to = write_reply(out, to, line, Reply::Done, [0; MAX_CLIENTS]);
+                }
+                Setting::OutOfRange => {
+                    to = write_reply(
+                        out,
+                        to,
+                        line,
+                        Reply::Refused(OUT_OF_RANGE),
+                        [0; MAX_CLIENTS],
+                    );
+                }
+                Setting::Missing => {
+                    to = write_reply(out, to, line, Reply::Refused(NO_STEP), [0; MAX_CLIENTS]);
+                }
+            }
             continue;
         };
-        match step {
-            Step::Open { mode, client, file } => {
-                let f = file % 32;
-                let at = client % 8 * 32 + f;
-                let entry = server.files[f];
-                let own = clients[at];
-                let change = open_file(server.recovering, entry, own, mode, client, file);
-                let entry_after = change.entry;
-                let own_after = change.own;
-                let reply = change.reply;
-                let calls = change.calls;
-                server.files[f] = entry_after;
-                clients[at] = own_after;
-                drop_file_unless(change.keep, &mut copies, &mut held, &mut dirty, at * 4);
+        let class = step.class();
+        match class {
+            Class::OnFile { file } => {
+                let f = file % MAX_FILES;
+                let entry = files[f];
+                let sides = clients[f];
+                let shared = SharedFile { entry, sides };
+                let done = shared.step(
+                    sizes,
+                    recovering,
+                    step,
+                    &mut blocks,
+                    &mut copies,
+                    &mut held,
+                    &mut dirty,
+                );
+                let after = done.file;
+                let entry_after = after.entry;
+                let sides_after = after.sides;
+                let reply = done.reply;
+                let calls = done.calls;
+                files[f] = entry_after;
+                clients[f] = sides_after;
                 to = write_reply(out, to, line, reply, calls);
             }
-            Step::Close { mode, client, file } => {
-                let f = file % 32;
-                let at = client % 8 * 32 + f;
-                let entry = server.files[f];
-                let own = clients[at];
-                let change = close_file(server.recovering, entry, own, mode, client, file);
-                let entry_after = change.entry;
-                let own_after = change.own;
-                let reply = change.reply;
-                server.files[f] = entry_after;
-                clients[at] = own_after;
-                to = write_reply(out, to, line, reply, [0; 8]);
-            }
-            Step::Read {
-                client,
-                file,
-                block,
-            } => {
-                let own = clients[client % 8 * 32 + file % 32];
-                let reported = server.reported[client % 8];
-                let reply = read_block(
-                    server.recovering,
-                    reported,
+            Class::OnBlock { client, file } => {
+                let sides = clients[file % MAX_FILES];
+                let own = sides.of[client % MAX_CLIENTS];
+                let has_reported = reported[client % MAX_CLIENTS];
+                let reply = access_block(
+                    sizes,
+                    recovering,
+                    has_reported,
                     own,
-                    client,
-                    file,
-                    block,
-                    &server.blocks,
+                    step,
+                    &mut blocks,
                     &mut copies,
                     &mut held,
+                    &mut dirty,
                 );
-                to = write_reply(out, to, line, reply, [0; 8]);
+                to = write_reply(out, to, line, reply, [0; MAX_CLIENTS]);
             }
-            Step::Write {
-                client,
-                file,
-                block,
-                value,
-            } => {
-                let own = clients[client % 8 * 32 + file % 32];
-                let reported = server.reported[client % 8];
-                let reply = write_block(
-                    server.recovering,
+            Class::OnTable => {
+                let recovery = Recovery {
+                    recovering,
                     reported,
-                    own,
-                    client,
-                    file,
-                    block,
-                    value,
-                    &mut server.blocks,
-                    &mut copies,
-                    &mut held,
-                    &mut dirty,
-                );
-                to = write_reply(out, to, line, reply, [0; 8]);
-            }
-            Step::Flush {
-                client,
-                file,
-                block,
-            } => {
-                let reply = flush_block(
-                    server.recovering,
-                    client,
-                    file,
-                    block,
-                    &copies,
-                    &mut server.blocks,
-                    &mut dirty,
-                );
-                to = write_reply(out, to, line, reply, [0; 8]);
-            }
-            Step::Answer { client, file } => {
-                let f = file % 32;
-                let at = client % 8 * 32 + f;
-                let entry = server.files[f];
-                let own = clients[at];
-                let answer = answer_call(server.recovering, entry, own, client, file);
-                let own_after = answer.own;
-                clients[at] = own_after;
-                answer_blocks(
-                    answer.kind,
-                    &mut copies,
-                    &mut held,
-                    &mut dirty,
-                    at * 4,
-                    &mut server.blocks,
-                    f * 4,
-                );
-                let answered = answer.entry;
-                let answer_reply = answer.reply;
-                let waiter = answered.waiter as usize % 8 * 32 + f;
-                let waiting = clients[waiter];
-                let change = grant_waiter(answered, waiting, answer.kind, answer_reply);
-                let entry_after = change.entry;
-                let waiting_after = change.own;
-                let reply = change.reply;
-                server.files[f] = entry_after;
-                clients[waiter] = waiting_after;
-                drop_file_unless(change.keep, &mut copies, &mut held, &mut dirty, waiter * 4);
-                to = write_reply(out, to, line, reply, [0; 8]);
-            }
-            Step::Crash => {
-                server = server.crashed();
-                to = write_reply(out, to, line, Reply::Done, [0; 8]);
-            }
-            Step::Report { client } => {
-                let given = server.reported;
-                let refusal = report_refusal(server.recovering, given, client);
-                if refusal != 0 {
-                    to = write_reply(out, to, line, Reply::Refused(refusal), [0; 8]);
-                    continue;
+                };
+                let done = recovery.step(sizes, step);
+                let sweep = done.sweep;
+                match sweep {
+                    Sweep::Stay => {}
+                    Sweep::Crash => {
+                        files = crashed_files(files, sizes);
+                    }
+                    Sweep::Report { client } => {
+                        let mut f = 0;
+                        while f < sizes.files {
+                            let entry = files[f];
+                            let sides = clients[f];
+                            let after = entry.reported(client, sides.side(client));
+                            files[f] = after;
+                            f += 1;
+                        }
+                    }
                 }
-                let mut f = 0;
-                while f < 32 {
-                    let own = clients[client * 32 + f];
-                    let entry = server.files[f];
-                    let after = reported_entry(entry, client, own);
-                    server.files[f] = after;
-                    f += 1;
-                }
-                server.reported[client] = true;
-                to = write_reply(out, to, line, Reply::Done, [0; 8]);
-            }
-            Step::End => {
-                let given = server.reported;
-                let refusal = end_refusal(server.recovering, given);
-                let recovering = server.recovering & (refusal != 0);
-                server.recovering = recovering;
-                let reports = reports_after_end(refusal, given);
-                server.reported = reports;
-                to = write_reply(out, to, line, unless_refused(refusal, Reply::Done), [0; 8]);
+                let after = done.recovery;
+                let reports = after.reported;
+                recovering = after.recovering;
+                reported = reports;
+                let reply = done.reply;
+                to = write_reply(out, to, line, reply, [0; MAX_CLIENTS]);
             }
         }
     }
     Progress {
         service: Service {
-            server,
+            sizes: given,
+            server: Server {
+                table: Table {
+                    files,
+                    recovering,
+                    reported,
+                },
+                blocks,
+            },
             clients,
             copies,
             held,

@@ -27,6 +27,8 @@ pub fn print_help() {
           \x20 FL C F B    flush a dirty block     AN C F      answer a callback\n\
           \x20 XX          crash the server        RP C        report after a crash\n\
           \x20 EN          end the recovery\n\
+          As the first line, for other sizes than 8 clients, 32 files and 4 blocks:\n\
+          \x20 SET N F B   N clients, F files, B blocks in each: at most 8, 64 and 8\n\
           \n\
           Replies, each after the number of its line:\n\
           \x20 G LATEST PREVIOUS PERMISSION         the open is granted\n\

@@ -9,8 +9,8 @@ use player::Session;
 // Plays what the descriptor gives, and answers whether standard output took it. A read or a write that fails is told
 // of, and ends the play before the summary. The loop counts its turns down, since nothing says that an input ends.
 pub fn play(fd: i32, name: &[u8]) -> bool {
-    let mut buffer = io::large_buffer();
-    let mut out = io::large_buffer();
+    let mut buffer = input_buffer();
+    let mut out = output_buffer();
     let mut session = Session::new();
     let mut turns = u64::MAX;
     while (turns > 0) & !session.done {
@@ -31,6 +31,16 @@ pub fn play(fd: i32, name: &[u8]) -> bool {
         turns -= 1;
     }
     true
+}
+
+// The buffers are large beside the service, which is copied a few times for each buffer that is played; and a reply line
+// may be longer than its line.
+fn input_buffer() -> [u8; 262144] {
+    [0; 262144]
+}
+
+fn output_buffer() -> [u8; 524288] {
+    [0; 524288]
 }
 
 // One read into the buffer after the rest; no read, and 0, if none is wanted.

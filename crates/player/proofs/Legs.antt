@@ -12,8 +12,7 @@ use lib.Seq.{take-at}
 use borrow.Author.Tests.{le-leb, eqb-true}
 use Rattle.service.specs.declared.service.Service.{Service}
 use Rattle.records.proofs.Choosing.{when, unless, split, conflict, and-left, and-right}
-use Rattle.stepfile.specs.Played.{replyLine, serviceAfter}
-use Rattle.stepfile.specs.Summary.{summaryText}
+use Rattle.stepfile.specs.Played.{summaryOf, replyLine, serviceAfter}
 use Rattle.stepfile.specs.Transcript.{lines, transcript, after}
 use Rattle.stepfile.proofs.Splitting.{NoLF}
 use Rattle.writer.specs.Buffer.{summaryRoom}
@@ -21,23 +20,23 @@ use Rattle.lines.specs.Lines.{transcriptOf, afterInput, lineProgress}
 use Rattle.player.specs.declared.session.Session.{Session}
 use Rattle.player.specs.declared.session.Advance.{Advance}
 use Rattle.player.specs.Turn.{bufferAfter, completedBuffer, completedCount}
-use Rattle.player.specs.Session.{freshSession, wantsInput, isLastTurn, readsNothing, filled, turnBufferOf, turnBytes, afterTurn, summaryOf, closed, outLeft}
+use Rattle.player.specs.Session.{freshSession, wantsInput, isLastTurn, readsNothing, filled, turnBufferOf, turnBytes, afterTurn, sessionSummary, closed, outLeft}
 use Rattle.player.specs.Run.{Leg, turned, left, wrote, Takes}
 use Rattle.player.proofs.Completing.{take-none, Terminated, terminated-none, terminated-drop, last-line, last-terminated}
 use Rattle.player.proofs.Turning.{take-least, kept-stands, kept-no-lf, kept-short, left-no-lf, paused-keeps, written-text, turn-transcript, turn-service}
 
 -- the reply lines of an input and its summary, from a service on
 abbrev pub playedFrom : Service → ℕ → List ℕ → List ℕ
-playedFrom s n bytes = transcriptOf s n bytes ++ summaryText (afterInput s bytes .server .files)
+playedFrom s n bytes = transcriptOf s n bytes ++ summaryOf (afterInput s n bytes)
 
-played-none : (s : Service) (n : ℕ) → playedFrom s n [] ≡ summaryText (s .server .files)
+played-none : (s : Service) (n : ℕ) → playedFrom s n [] ≡ summaryOf s
 unfolding lines transcript after
 played-none s n = refl
 
 -- inputs with the same lines are played alike
 played-alike : (s : Service) (n : ℕ) (a b : List ℕ) → lines a ≡ lines b → playedFrom s n a ≡ playedFrom s n b
 played-alike s n a b e =
-    ap (λ (ls : List (List ℕ)). transcript replyLine serviceAfter s n ls ++ summaryText (after serviceAfter s ls .server .files)) e
+    ap (λ (ls : List (List ℕ)). transcript replyLine serviceAfter s n ls ++ summaryOf (after serviceAfter s n ls)) e
 
 -- flags of a session
 pub or-left : (a b : Bool) → a ≡ true → (a || b) ≡ true
@@ -138,14 +137,14 @@ module _ (σ : Session) (buffer : List ℕ) (g : Leg) (takes : Takes σ buffer g
     pub is-done : turned σ g .session .done ≡ true
     is-done = ap (λ (x : Advance). x .session .done) closes ∙ room
 
-    pub wrote-summary : wrote σ g ≡ summaryOf σ
+    pub wrote-summary : wrote σ g ≡ sessionSummary σ
     wrote-summary =
         ap (λ (x : Advance). take (x .written) outAfter) closes
         ∙ ap (λ (k : ℕ). take k outAfter) (when _ _ room)
-        ∙ ap (take (length (summaryOf σ))) (when _ _ last ∙ when _ _ room)
-        ∙ take-at (summaryOf σ) (drop (0 + length (summaryOf σ)) (g .out)) (length (summaryOf σ)) refl
+        ∙ ap (take (length (sessionSummary σ))) (when _ _ last ∙ when _ _ room)
+        ∙ take-at (sessionSummary σ) (drop (0 + length (sessionSummary σ)) (g .out)) (length (sessionSummary σ)) refl
 
-    pub last-played : (more : List ℕ) → more ≡ [] → playedFrom (σ .service) (σ .number) (kept ++ (g .piece ++ more)) ≡ summaryOf σ
+    pub last-played : (more : List ℕ) → more ≡ [] → playedFrom (σ .service) (σ .number) (kept ++ (g .piece ++ more)) ≡ sessionSummary σ
     last-played more e =
         ap (playedFrom (σ .service) (σ .number))
         (ap (λ (l : List ℕ). l ++ (g .piece ++ more)) (sound .empty last)
@@ -195,10 +194,10 @@ module _ (σ : Session) (buffer : List ℕ) (g : Leg) (takes : Takes σ buffer g
         let s = σ .service in
         let n = σ .number in
         let later = transcriptOf (turn .service) (turn .number) (turnKept ++ more) in
-        ap (λ (x : Service). transcriptOf s n (bytes ++ more) ++ summaryText (x .server .files)) (turn-service s n b₁ count (g .out) more)
-        ∙ ap (λ (l : List ℕ). l ++ summaryText (afterInput (turn .service) (turnKept ++ more) .server .files))
+        ap (λ (x : Service). transcriptOf s n (bytes ++ more) ++ summaryOf x) (turn-service s n b₁ count (g .out) more)
+        ∙ ap (λ (l : List ℕ). l ++ summaryOf (afterInput (turn .service) (turn .number) (turnKept ++ more)))
         (turn-transcript s n b₁ count (g .out) more)
-        ∙ append-assoc Written later (summaryText (afterInput (turn .service) (turnKept ++ more) .server .files))
+        ∙ append-assoc Written later (summaryOf (afterInput (turn .service) (turn .number) (turnKept ++ more)))
         ∙ ap (λ (l : List ℕ). l ++ playedFrom (turn .service) (turn .number) (turnKept ++ more)) (sym wrote-lines)
         ∙ ap (λ (l : List ℕ). wrote σ g ++ playedFrom (turn .service) (turn .number) (l ++ more)) (sym same-kept)
         ∙ ap (λ (x : Advance). wrote σ g ++ playedFrom (x .session .service) (x .session .number) (kept′ ++ more)) (sym plays)

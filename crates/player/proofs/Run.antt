@@ -9,7 +9,7 @@ use Rattle.records.proofs.Choosing.{when, unless, split, conflict}
 use Rattle.stepfile.specs.Played.{played}
 use Rattle.player.specs.declared.session.Session.{Session}
 use Rattle.player.specs.declared.session.Advance.{Advance}
-use Rattle.player.specs.Session.{freshSession, isLastTurn, readsNothing, summaryOf}
+use Rattle.player.specs.Session.{freshSession, isLastTurn, readsNothing, sessionSummary}
 use Rattle.player.specs.Run.{Leg, turned, left, wrote, Follows, input, output, lastSession}
 use Rattle.player.proofs.Legs.{playedFrom, or-left, over-wants-none, Sound, fresh-sound, is-done, wrote-summary, last-played, wrote-first, same-played, still-sound, still-going, now-over}
 
@@ -41,8 +41,8 @@ run-plays (g ∷ gs) σ buffer sound w going ended =
     (λ last.
     let none = done-last (turned σ g .session) (left σ g) gs (is-done σ buffer g (w .0) sound last) (w .1) in
     ap (λ (l : List ℕ). l ++ output (turned σ g .session) gs) (wrote-summary σ buffer g (w .0) sound last)
-    ∙ ap (λ (l : List Leg). summaryOf σ ++ output (turned σ g .session) l) none
-    ∙ append-nil (summaryOf σ)
+    ∙ ap (λ (l : List Leg). sessionSummary σ ++ output (turned σ g .session) l) none
+    ∙ append-nil (sessionSummary σ)
     ∙ sym (last-played σ buffer g (w .0) sound last (input gs) (ap input none)))
     (λ other.
     let after = turned σ g .session in

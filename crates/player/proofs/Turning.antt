@@ -143,13 +143,13 @@ module _ (s : Service) (n : ℕ) (buffer : List ℕ) (filled : ℕ) (out : List 
       transcript-cut b (stops .none c) (omega (arith, b-long)) (p .service) more (p .number)
       ∙ ap (λ (l : List ℕ). transcriptOf (p .service) (p .number) (l ++ more)) (sym (cut-kept e)))
 
-  kept-after : (more : List ℕ) → afterInput (p .service) (b ++ more) ≡ afterInput (p .service) (kept ++ more)
+  kept-after : (more : List ℕ) → afterInput (p .service) (p .number) (b ++ more) ≡ afterInput (p .service) (p .number) (kept ++ more)
   kept-after more =
       by-rest _
-      (λ e. ap (λ (l : List ℕ). afterInput (p .service) (l ++ more)) (sym (all-kept e)))
+      (λ e. ap (λ (l : List ℕ). afterInput (p .service) (p .number) (l ++ more)) (sym (all-kept e)))
       (λ c l e.
-      after-cut b (stops .none c) (omega (arith, b-long)) (p .service) more
-      ∙ ap (λ (l : List ℕ). afterInput (p .service) (l ++ more)) (sym (cut-kept e)))
+      after-cut b (stops .none c) (omega (arith, b-long)) (p .service) more (p .number)
+      ∙ ap (λ (l : List ℕ). afterInput (p .service) (p .number) (l ++ more)) (sym (cut-kept e)))
 
   whole : (more : List ℕ) → bytes ++ more ≡ a ++ (b ++ more)
   whole more = ap (λ (l : List ℕ). l ++ more) (sym (take-append-drop (p .used) bytes)) ∙ append-assoc a b more
@@ -164,11 +164,12 @@ module _ (s : Service) (n : ℕ) (buffer : List ℕ) (filled : ℕ) (out : List 
       ∙ ap (λ (k : ℕ). transcriptOf s n a ++ transcriptOf (p .service) k (b ++ more)) (sym (stops .at .numbers))
       ∙ ap (λ (l : List ℕ). transcriptOf s n a ++ l) (kept-transcript more)
 
-  pub turn-service : (more : List ℕ) → afterInput s (bytes ++ more) ≡ afterInput (t .service) (kept ++ more)
+  pub turn-service : (more : List ℕ) → afterInput s n (bytes ++ more) ≡ afterInput (t .service) (t .number) (kept ++ more)
   turn-service more =
-      ap (afterInput s) (whole more)
-      ∙ after-on serviceAfter s a (b ++ more) (stops .at .breaks)
-      ∙ ap (λ (x : Service). afterInput x (b ++ more)) (sym (stops .at .service))
+      ap (afterInput s n) (whole more)
+      ∙ after-on serviceAfter s n a (b ++ more) (stops .at .breaks)
+      ∙ ap (λ (x : Service). afterInput x (n + length (lines a)) (b ++ more)) (sym (stops .at .service))
+      ∙ ap (λ (k : ℕ). afterInput (p .service) k (b ++ more)) (sym (stops .at .numbers))
       ∙ kept-after more
 
   -- a turn that is not paused leaves the start of one line, and room for its LF

@@ -7,7 +7,8 @@ use lib.Dec.{eqb, leb}
 use lib.ListN.{length, take}
 use Rattle.service.specs.declared.service.Service.{Service}
 use Rattle.service.specs.Fresh.{fresh}
-use Rattle.stepfile.specs.Summary.{summaryText}
+use Rattle.decision.specs.Sizes.{defaultSizes}
+use Rattle.stepfile.specs.Played.{summaryOf}
 use Rattle.writer.specs.Buffer.{written, summaryRoom}
 use Rattle.player.specs.declared.session.Session.{Session}
 use Rattle.player.specs.declared.session.Advance.{Advance}
@@ -17,7 +18,7 @@ use Rattle.player.specs.Turn.{least, turnOf, bufferAfter, completedBuffe
 
 -- the fresh service, and "line number from 1"
 abbrev pub freshSession : Session
-freshSession = record { service = fresh; number = 1; rest = 0; paused = false; over = false; done = false }
+freshSession = record { service = fresh defaultSizes; number = 1; rest = 0; paused = false; over = false; done = false }
 
 -- whether the program is to read before the turn: whole lines may be left otherwise, or the input is over
 abbrev pub wantsInput : Session → Bool
@@ -65,8 +66,8 @@ withTurn σ got t =
 abbrev pub afterTurn : Session → ℕ → List ℕ → List ℕ → Advance
 afterTurn σ got bytes out = withTurn σ got (turnOf (σ .service) (σ .number) bytes out)
 
-abbrev pub summaryOf : Session → List ℕ
-summaryOf σ = summaryText (σ .service .server .files)
+abbrev pub sessionSummary : Session → List ℕ
+sessionSummary σ = summaryOf (σ .service)
 
 -- the session after its last turn: done, if there was room for the summary
 abbrev pub closed : Session → List ℕ → Advance
@@ -81,7 +82,7 @@ closed σ out =
             over = σ .over;
             done = leb summaryRoom (length out);
           };
-      written = cond (leb summaryRoom (length out)) (length (summaryOf σ)) 0;
+      written = cond (leb summaryRoom (length out)) (length (sessionSummary σ)) 0;
     }
 
 -- What a turn leaves: the session and how much was written, the buffer, and the output buffer. `got` is what the read
@@ -95,7 +96,7 @@ bufferLeft σ got buffer out =
     (bufferAfter (σ .service) (σ .number) (turnBufferOf σ got buffer) (turnBytes σ got buffer) out)
 
 abbrev pub lastOut : Session → List ℕ → List ℕ
-lastOut σ out = cond (leb summaryRoom (length out)) (written out 0 (summaryOf σ)) out
+lastOut σ out = cond (leb summaryRoom (length out)) (written out 0 (sessionSummary σ)) out
 
 abbrev pub outLeft : Session → ℕ → List ℕ → List ℕ → List ℕ
 outLeft σ got buffer out =

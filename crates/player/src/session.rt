@@ -9,6 +9,7 @@ ghost use Rattle.player.specs.Session.{advanced, bufferLeft, outLeft};
 use crate::turn::complete_line;
 use crate::turn::least;
 use crate::turn::play_turn;
+use decision::Sizes;
 use service::Service;
 use writer::SUMMARY_ROOM;
 use writer::write_summary;
@@ -40,7 +41,7 @@ impl Session {
         ensures { λ r. ⌜ r ≡ freshSession ⌝ }
     {
         Session {
-            service: Service::new(),
+            service: Service::new(Sizes::default()),
             number: 1,
             rest: 0,
             paused: false,
@@ -86,9 +87,11 @@ impl Session {
         ensures { λ r. ⌜ r .written ≤ length (now (out .entry)) ⌝ }
     {
         let service = self.service;
+        let sizes = service.sizes;
         let server = service.server;
+        let table = server.table;
         let done = SUMMARY_ROOM <= out.len();
-        let written = write_summary(out, 0, server);
+        let written = write_summary(out, 0, sizes.in_force(), table);
         Advance {
             session: Session {
                 service,

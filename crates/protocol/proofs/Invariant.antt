@@ -13,14 +13,15 @@ use Rattle.records.specs.declared.record.Mode.{Mode}
 use Rattle.records.specs.declared.record.ClientRecord.{ClientRecord}
 use Rattle.records.specs.declared.version.Version.{Version}
 use Rattle.protocol.specs.declared.client.ClientFile.{ClientFile}
-use Rattle.protocol.specs.Sizes.{nobody}
+use Rattle.decision.specs.Sizes.{nobody}
 use Rattle.records.specs.Version.{numberOf, sameVersion, isLastVersion}
 use Rattle.records.specs.Record.{isOpen, isWrite}
-use Rattle.protocol.specs.State.{recordIn}
-use Rattle.protocol.specs.Callback.{writesBack, invalidates}
+use Rattle.decision.specs.State.{recordIn}
+use Rattle.decision.specs.Callback.{writesBack, invalidates}
 use Rattle.protocol.specs.Entry.{waits, callTo}
+use Rattle.protocol.specs.Client.{noClient}
 use Rattle.protocol.specs.Table.{Row}
-use Rattle.protocol.proofs.View.{View, freshClient}
+use Rattle.protocol.proofs.View.{View}
 pub mod Flags
 pub mod Lists
 pub mod Count
@@ -93,7 +94,7 @@ pub record Clients (n : ℕ) (version : Version) (client : ℕ → ClientFile) :
   -- The stored version is not 0, so that it is the version as read.
   pub versionNotZero : eqb (numberOf version) 0 ≡ false
   -- From n on there is no client.
-  pub beyond : (s : ℕ) → n ≤ s → client s ≡ freshClient
+  pub beyond : (s : ℕ) → n ≤ s → client s ≡ noClient
   pub own : (s : ℕ) → Own version (client s)
   pub apart : (s t : ℕ) → eqb t s ≡ false → Apart version (client s) (client t)
 

@@ -1,9 +1,9 @@
--- The laws that the proofs of this crate, and of those above it, share; and the theorem of one file, which `Kept` proves.
+-- The laws that the proofs of this crate, and of those above it, share; and the theorem of one file, which `Kept`
+-- proves.
 pub mod CopyCheck
-pub mod Counting
-pub mod Beyond
-pub mod Storing
-pub mod CallOrder
+pub mod Tested
+pub mod OtherKinds
+pub mod Seen
 pub mod View
 pub mod Promises
 pub mod Invariant

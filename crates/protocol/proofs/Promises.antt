@@ -1,6 +1,7 @@
--- What the protocol of one file promises, step by step: the interface between the protocol and the theorem on whole lists of steps.
--- `Running v k` says that the view v is sound and the server is running, `Recovering v k reported row` that a recovery is under way
--- which must give the row back; k is the number that the reference memory has for the block.
+-- What the protocol of one file promises, step by step: the interface between the protocol and the theorem on whole
+-- lists of steps. `Running v k` says that the view v is sound and the server is running, `Recovering v k reported row`
+-- that a recovery is under way which must give the row back; k is the number that the reference memory has for the
+-- block.
 use Prim.Native.Nat.{ℕ, _<_}
 use mathlib.Core.Path.{_≡_}
 use mathlib.Core.Bool.{Bool, true, false, _&&_}
@@ -8,10 +9,12 @@ use lib.Dec.{eqb}
 use Rattle.records.specs.declared.record.Mode.{Mode}
 use Rattle.records.specs.Version.{isLastVersion}
 use Rattle.records.specs.Record.{isOpen, isWrite, countOf}
-use Rattle.protocol.specs.Entry.{waits, callTo, callsOut, callsIn, callsDue}
+use Rattle.protocol.specs.Entry.{waits, callTo, callsOut, callsFor}
 use Rattle.protocol.specs.Client.{readNeedsServer, writeNeedsServer}
 use Rattle.protocol.specs.Table.{Row, rowOf}
-use Rattle.protocol.proofs.View.{View, at, freshView, waitingView, grantedView, closedView, valueIn, readView, writtenView, flushedView, callAnsweredView, waiterGrantedView, crashedView, reportedView}
+use Rattle.protocol.proofs.View.{View, at, freshView, waitingView, grantedView, closedView, valueIn, readView}
+use Rattle.protocol.proofs.View.{writtenView, flushedView, callAnsweredView, waiterGrantedView, crashedView}
+use Rattle.protocol.proofs.View.{reportedView}
 
 pub record Promises
     (n : ℕ)
@@ -26,7 +29,7 @@ pub record Promises
       → waits n (v .entry) ≡ false
       → eqb (countOf mode (v .client i .opens)) 255 ≡ false
       → (isWrite mode && isLastVersion (v .entry .version)) ≡ false
-      → eqb (callsIn n (callsDue n (v .entry) i mode)) 0 ≡ true
+      → eqb (callsFor n (v .entry) i mode) 0 ≡ true
       → Running (grantedView n v i mode) k
   pub waitsFor :
       (v : View) (k i : ℕ) (mode : Mode)

@@ -1,17 +1,16 @@
--- One file and one block, with what every client has of them: the view that the protocol's invariant speaks of, and how each step
--- changes it. There is no list of files, blocks or clients here; a client is any number below n. It leads to `Promises`, in which the
--- theorem on whole lists of steps finds all that it needs of the protocol.
+-- One file and one block, with what every client has of them: the view that the protocol's invariant speaks of, and how
+-- each step changes it. There is no list of files, blocks or clients here; a client is any number below n. It leads to
+-- `Promises`, in which the theorem on whole lists of steps finds all that it needs of the protocol.
 use Prim.Native.Nat.{ℕ}
 use mathlib.Core.Bool.{Bool, true, false, cond, not, _&&_}
 use lib.Dec.{eqb}
 use Rattle.records.specs.declared.record.Mode.{Mode}
 use Rattle.protocol.specs.declared.entry.Entry.{Entry}
 use Rattle.protocol.specs.declared.client.ClientFile.{ClientFile}
-use Rattle.records.specs.Version.{noVersion, firstVersion}
-use Rattle.records.specs.Record.{notOpen}
-use Rattle.protocol.specs.Callback.{writesBack, invalidates}
-use Rattle.protocol.specs.Entry.{callTo, callsDue, waitingEntry, grantOf, grantedEntry, closedEntry, answeredEntry, crashedEntry, reportedEntry}
-use Rattle.protocol.specs.Client.{grantedClient, keepsBlocks, closedClient, answeredClient}
+use Rattle.decision.specs.Callback.{writesBack, invalidates}
+use Rattle.protocol.specs.Entry.{callTo, waitingEntry, grantOf, grantedEntry, closedEntry, answeredEntry}
+use Rattle.protocol.specs.Entry.{crashedEntry, freshEntry, reportedEntry}
+use Rattle.protocol.specs.Client.{noClient, grantedClient, keepsBlocks, closedClient, answeredClient}
 
 pub record View : Type 0 where
   -- the server's entry and its block
@@ -27,15 +26,12 @@ pub record View : Type 0 where
 abbrev pub at {ℓ} : {A : Type ℓ} → ℕ → A → (ℕ → A) → ℕ → A
 at i a g j = cond (eqb j i) a (g j)
 
-abbrev pub freshClient : ClientFile
-freshClient = record { opens = notOpen; marked = false; label = noVersion }
-
 abbrev pub freshView : ℕ → View
 freshView n =
     record {
-      entry = crashedEntry n firstVersion;
+      entry = freshEntry n;
       block = 0;
-      client = λ i. freshClient;
+      client = λ i. noClient;
       copy = λ i. 0;
       held = λ i. false;
       dirty = λ i. false;
@@ -46,7 +42,7 @@ withEntry v e =
     record { entry = e; block = v .block; client = v .client; copy = v .copy; held = v .held; dirty = v .dirty }
 
 abbrev pub waitingView : ℕ → View → ℕ → Mode → View
-waitingView n v i mode = withEntry v (waitingEntry (v .entry) i mode (callsDue n (v .entry) i mode))
+waitingView n v i mode = withEntry v (waitingEntry n (v .entry) i mode)
 
 abbrev pub grantedView : ℕ → View → ℕ → Mode → View
 grantedView n v i mode =
@@ -131,7 +127,7 @@ abbrev pub waiterGrantedView : ℕ → View → View
 waiterGrantedView n v = grantedView n v (v .entry .waiter) (v .entry .mode)
 
 abbrev pub crashedView : ℕ → View → View
-crashedView n v = withEntry v (crashedEntry n (v .entry .version))
+crashedView n v = withEntry v (crashedEntry n (v .entry))
 
 abbrev pub reportedView : View → ℕ → View
 reportedView v i = withEntry v (reportedEntry (v .entry) i (v .client i))

@@ -4,15 +4,15 @@ use Prim.Native.Nat.{ℕ, _+_}
 use mathlib.Core.Bool.{Bool, false, cond, not, _&&_, _||_}
 use mathlib.Core.List.{List}
 use lib.Dec.{ltb}
-use lib.ListN.{getD}
+use lib.ListN.{getD, set}
 use Rattle.records.specs.declared.record.Mode.{Mode}
 use Rattle.protocol.specs.declared.client.ClientFile.{ClientFile}
+use Rattle.protocol.specs.declared.client.Sides.{Sides}
 use Rattle.protocol.specs.declared.reply.Grant.{Grant}
-use Rattle.protocol.specs.Sizes.{blocks}
-use Rattle.protocol.specs.Lists.{stored}
+use Rattle.decision.specs.Lists.{stored}
 use Rattle.records.specs.Version.{noVersion}
-use Rattle.records.specs.Record.{isOpen, isWrite, opened, closed, uncached, leavesLastWriter}
-use Rattle.protocol.specs.Callback.{writesBack, invalidates}
+use Rattle.records.specs.Record.{notOpen, isOpen, isWrite, opened, closed, uncached, leavesLastWriter}
+use Rattle.decision.specs.Callback.{writesBack, invalidates}
 use Rattle.protocol.specs.Copy.{keepsCopy}
 
 -- "The label becomes the latest. Without permission the copy is dropped, label 0. A write open clears the mark."
@@ -47,6 +47,17 @@ answeredClient kind own =
       label = cond (invalidates kind) noVersion (own .label);
     }
 
+-- the side of a client that has nothing of the file
+abbrev pub noClient : ClientFile
+noClient = record { opens = notOpen; marked = false; label = noVersion }
+
+-- the side of client i among the clients' sides, and the sides with another for it
+abbrev pub sideOf : Sides → ℕ → ClientFile
+sideOf x i = getD (x .of) i noClient
+
+abbrev pub withSide : Sides → ℕ → ClientFile → Sides
+withSide x i own = record { of = set (x .of) i own }
+
 -- A read "needs the server .. unless the station is open, may cache and holds the block", a write "unless it has
 -- writers and may cache".
 abbrev pub readNeedsServer : ClientFile → Bool → Bool
@@ -55,15 +66,15 @@ readNeedsServer own held = not (isOpen (own .opens) && own .opens .caching && he
 abbrev pub writeNeedsServer : ClientFile → Bool
 writeNeedsServer own = not (ltb 0 (own .opens .writers) && own .opens .caching)
 
--- "A dropped block is not held, not dirty and zero": the values, or the flags, of one file's blocks from `base` on,
+-- "A dropped block is not held, not dirty and zero": the values, or the flags, of one file's n blocks from `base` on,
 -- with none in each place, unless they are kept.
-abbrev pub kept {ℓ} : {A : Type ℓ} → Bool → A → ℕ → List A → List A
-kept keep none base l = cond keep l (stored blocks (λ b. base + b) (λ b. none) l)
+abbrev pub kept {ℓ} : {A : Type ℓ} → ℕ → Bool → A → ℕ → List A → List A
+kept n keep none base l = cond keep l (stored n (λ b. base + b) (λ b. none) l)
 
--- "1 sends every dirty block": the server's blocks from `to` on, after the dirty ones of the copies from `base` on
+-- "1 sends every dirty block": the server's n blocks from `to` on, after the dirty ones of the copies from `base` on
 -- have come.
-abbrev pub sent : Bool → List Bool → List ℕ → ℕ → ℕ → List ℕ → List ℕ
-sent send dirty copies base to l =
+abbrev pub sent : ℕ → Bool → List Bool → List ℕ → ℕ → ℕ → List ℕ → List ℕ
+sent n send dirty copies base to l =
     cond send
-    (stored blocks (λ b. to + b) (λ b. cond (getD dirty (base + b) false) (getD copies (base + b) 0) (getD l (to + b) 0)) l)
+    (stored n (λ b. to + b) (λ b. cond (getD dirty (base + b) false) (getD copies (base + b) 0) (getD l (to + b) 0)) l)
     l

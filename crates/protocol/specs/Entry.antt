@@ -1,5 +1,5 @@
 -- The server's side of one file: the entry of the state table, and how an open, a grant, a close, an answer, a crash
--- and a report change it. n is the number of clients.
+-- and a report change it. n is the number of clients; what lies past them in a list is neither looked at nor changed.
 use Prim.Native.Nat.{ℕ}
 use mathlib.Core.Bool.{Bool, cond, not}
 use mathlib.Core.List.{List}
@@ -8,17 +8,16 @@ use lib.ListN.{getD, set, replicate}
 use Rattle.records.specs.declared.record.Mode.{Mode}
 use Rattle.records.specs.declared.record.Mode.the-variants.{Read}
 use Rattle.records.specs.declared.record.ClientRecord.{ClientRecord}
-use Rattle.records.specs.declared.version.Version.{Version}
 use Rattle.protocol.specs.declared.entry.Entry.{Entry}
 use Rattle.protocol.specs.declared.client.ClientFile.{ClientFile}
 use Rattle.protocol.specs.declared.reply.Grant.{Grant}
-use Rattle.protocol.specs.Sizes.{nobody}
-use Rattle.protocol.specs.Lists.{count}
-use Rattle.records.specs.Version.{latestAt, previousVersion}
+use Rattle.decision.specs.Sizes.{nobody}
+use Rattle.decision.specs.Lists.{count, filled}
+use Rattle.records.specs.Version.{firstVersion, latestAt, previousVersion}
 use Rattle.records.specs.Record.{notOpen, isWrite, opened, closed, uncached, leavesLastWriter}
-use Rattle.protocol.specs.State.{recordIn}
-use Rattle.protocol.specs.Callback.{callbacksDue, writesBack, invalidates, asksNothing}
-use Rattle.protocol.specs.Permission.{permissionAtGrant}
+use Rattle.decision.specs.State.{recordIn}
+use Rattle.decision.specs.Callback.{callbacksDue, callsCaused, writesBack, invalidates, asksNothing}
+use Rattle.decision.specs.Permission.{permissionAtGrant}
 
 abbrev pub recordAt : Entry → ℕ → ClientRecord
 recordAt e i = recordIn (e .records) i
@@ -43,20 +42,23 @@ callsOut n e = count n (λ i. not (asksNothing (callTo n e i)))
 abbrev pub callsIn : ℕ → List ℕ → ℕ
 callsIn n calls = count n (λ i. not (asksNothing (getD calls i 0)))
 
--- the callbacks that an open in the mode causes
-abbrev pub callsDue : ℕ → Entry → ℕ → Mode → List ℕ
-callsDue n e opener mode = callbacksDue n (recordAt e) (e .last) opener mode
+-- how many clients an open in the mode calls, and the callbacks that it causes, in the list l of kinds
+abbrev pub callsFor : ℕ → Entry → ℕ → Mode → ℕ
+callsFor n e opener mode = callsCaused n (recordAt e) (e .last) opener mode
+
+abbrev pub callsDue : ℕ → Entry → ℕ → Mode → List ℕ → List ℕ
+callsDue n e opener mode l = callbacksDue n (recordAt e) (e .last) opener mode l
 
 -- "else it waits": the open stands in the entry, with the callbacks that are out
-abbrev pub waitingEntry : Entry → ℕ → Mode → List ℕ → Entry
-waitingEntry e opener mode calls =
+abbrev pub waitingEntry : ℕ → Entry → ℕ → Mode → Entry
+waitingEntry n e opener mode =
     record {
       records = e .records;
       version = e .version;
       last = e .last;
       waiter = opener;
       mode = mode;
-      calls = calls;
+      calls = callsDue n e opener mode (e .calls);
     }
 
 -- "The grant tells latest version, previous (latest less 1) and permission."
@@ -78,7 +80,7 @@ grantedEntry n e opener mode g =
       last = cond (isWrite mode) nobody (e .last);
       waiter = nobody;
       mode = Read;
-      calls = replicate n 0;
+      calls = filled n 0 (e .calls);
     }
 
 -- "Close in a mode lowers that count by 1. If that was the last writer count and the station may cache, it becomes
@@ -107,9 +109,28 @@ answeredEntry e i kind =
     }
 
 -- "the server's readers, writers, permissions, last writers, waits .. are lost"; "Versions .. survive a crash"
-abbrev pub crashedEntry : ℕ → Version → Entry
-crashedEntry n v =
-    record { records = replicate n notOpen; version = v; last = nobody; waiter = nobody; mode = Read; calls = replicate n 0 }
+abbrev pub crashedEntry : ℕ → Entry → Entry
+crashedEntry n e =
+    record {
+      records = filled n notOpen (e .records);
+      version = e .version;
+      last = nobody;
+      waiter = nobody;
+      mode = Read;
+      calls = filled n 0 (e .calls);
+    }
+
+-- at the start, with so many records: "counts .. 0, versions 1 ..; no permission, .. last writer, wait, call"
+abbrev pub freshEntry : ℕ → Entry
+freshEntry n =
+    record {
+      records = replicate n notOpen;
+      version = firstVersion;
+      last = nobody;
+      waiter = nobody;
+      mode = Read;
+      calls = replicate n 0;
+    }
 
 -- "a station gives counts, permissions and marks for all files; the table takes them. If two claim one mark, the
 -- later stands."

@@ -1,11 +1,8 @@
--- The protocol of one file, in reading order; crate records has versions and client records.
-pub mod Sizes
-pub mod Lists
-pub mod State
-pub mod Callback
-pub mod Permission
+-- The protocol of one file, in reading order; crate records has versions and client records, crate decision the sizes and
+-- what is decided from the records.
 pub mod Copy
 pub mod Reply
+pub mod Step
 pub mod Entry
 pub mod Client
 pub mod Refusal

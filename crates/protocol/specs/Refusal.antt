@@ -1,34 +1,42 @@
 -- Who can cause a refusal: the tests of each step on a file, each with document 01's number, in number order. "Open
 -- tests 2, 3, 5, 9, 12, 14; close 2, 3, 5, 9, 11; read and write 2, 3, 4, 5, 11; flush 2, 3, 4, 5, 13; reply 2, 3, 5,
--- 10". They look at the server's flags, the file's entry e and the client's own side of it: "Reads, writes, refusals
--- 11 to 13 and a station's own change go by the station's record; calls, grants and the table go by the server's".
+-- 10". They look at the sizes z, the server's flags, the file's entry e and the client's own side of it: "Reads, writes,
+-- refusals 11 to 13 and a station's own change go by the station's record; calls, grants and the table go by the
+-- server's".
 use Prim.Native.Nat.{ℕ}
-use mathlib.Core.Bool.{Bool, not, _&&_, _||_}
+use mathlib.Core.Bool.{Bool, cond, not, _&&_, _||_}
 use mathlib.Core.List.{List, [], _∷_}
 use lib.Dec.{eqb, leb}
 use Rattle.records.specs.declared.record.Mode.{Mode}
 use Rattle.records.specs.declared.record.Mode.the-variants.{Write}
 use Rattle.protocol.specs.declared.entry.Entry.{Entry}
 use Rattle.protocol.specs.declared.client.ClientFile.{ClientFile}
-use Rattle.protocol.specs.Sizes.{clients, files, blocks}
+use Rattle.decision.specs.declared.sizes.Sizes.{Sizes}
 use Rattle.records.specs.Version.{isLastVersion}
 use Rattle.records.specs.Record.{isOpen, isWrite, countOf}
-use Rattle.protocol.specs.Callback.{asksNothing}
+use Rattle.decision.specs.Lists.{firstOf}
+use Rattle.decision.specs.Callback.{asksNothing}
 use Rattle.protocol.specs.Entry.{waits, callTo}
 use Rattle.protocol.specs.Client.{readNeedsServer, writeNeedsServer}
 
 abbrev pub Test : Type 0
 Test = Bool × ℕ
 
--- "2 station 8 or more. 3 file 32 or more. 4 block 4 or more."
-abbrev pub noSuchClient : ℕ → Test
-noSuchClient i = (leb clients i, 2)
+-- "Tested in number order, lowest first": a step is refused for the first of its tests that holds, and done where none
+-- does.
+abbrev pub tested {ℓ} : {A : Type ℓ} → List Test → (ℕ → A) → A → A
+tested ts refused done = cond (eqb (firstOf ts) 0) done (refused (firstOf ts))
 
-abbrev pub noSuchFile : ℕ → Test
-noSuchFile f = (leb files f, 3)
+-- "2 station 8 or more. 3 file 32 or more. 4 block 4 or more." "Refusals 2, 3 and 4 .. follow the settings" (document
+-- 02, Wish 7)
+abbrev pub noSuchClient : Sizes → ℕ → Test
+noSuchClient z i = (leb (z .clients) i, 2)
 
-abbrev pub noSuchBlock : ℕ → Test
-noSuchBlock b = (leb blocks b, 4)
+abbrev pub noSuchFile : Sizes → ℕ → Test
+noSuchFile z f = (leb (z .files) f, 3)
+
+abbrev pub noSuchBlock : Sizes → ℕ → Test
+noSuchBlock z b = (leb (z .blocks) b, 4)
 
 -- "5 recovering." "For reads and writes 5 holds during recovery if the station has reported, or if the step needs the
 -- server"
@@ -39,11 +47,11 @@ abbrev pub cutOff : Bool → Bool → Bool → Test
 cutOff recovering reported needsServer = (recovering && (reported || needsServer), 5)
 
 -- "9 an open of this file waits. 10 this station has no call on this file."
-abbrev pub openWaits : Entry → Test
-openWaits e = (waits clients e, 9)
+abbrev pub openWaits : Sizes → Entry → Test
+openWaits z e = (waits (z .clients) e, 9)
 
-abbrev pub noCall : Entry → ℕ → Test
-noCall e i = (asksNothing (callTo clients e i), 10)
+abbrev pub noCall : Sizes → Entry → ℕ → Test
+noCall z e i = (asksNothing (callTo (z .clients) e i), 10)
 
 -- "11 not open in the mode needed (a read needs either). 12 that count is 255. 13 the block isn't dirty there."
 abbrev pub notOpenIn : Mode → ClientFile → Test
@@ -62,41 +70,41 @@ notDirty dirty = (not dirty, 13)
 abbrev pub versionSpent : Mode → Entry → Test
 versionSpent mode e = (isWrite mode && isLastVersion (e .version), 14)
 
-abbrev pub openTests : Bool → Entry → ClientFile → Mode → ℕ → ℕ → List Test
-openTests recovering e own mode i f =
-    noSuchClient i
-    ∷ noSuchFile f
+abbrev pub openTests : Sizes → Bool → Entry → ClientFile → Mode → ℕ → ℕ → List Test
+openTests z recovering e own mode i f =
+    noSuchClient z i
+    ∷ noSuchFile z f
     ∷ inRecovery recovering
-    ∷ openWaits e
+    ∷ openWaits z e
     ∷ countFull mode own
     ∷ versionSpent mode e
     ∷ []
 
-abbrev pub closeTests : Bool → Entry → ClientFile → Mode → ℕ → ℕ → List Test
-closeTests recovering e own mode i f =
-    noSuchClient i ∷ noSuchFile f ∷ inRecovery recovering ∷ openWaits e ∷ notOpenIn mode own ∷ []
+abbrev pub closeTests : Sizes → Bool → Entry → ClientFile → Mode → ℕ → ℕ → List Test
+closeTests z recovering e own mode i f =
+    noSuchClient z i ∷ noSuchFile z f ∷ inRecovery recovering ∷ openWaits z e ∷ notOpenIn mode own ∷ []
 
-abbrev pub readTests : Bool → Bool → ClientFile → Bool → ℕ → ℕ → ℕ → List Test
-readTests recovering reported own held i f b =
-    noSuchClient i
-    ∷ noSuchFile f
-    ∷ noSuchBlock b
+abbrev pub readTests : Sizes → Bool → Bool → ClientFile → Bool → ℕ → ℕ → ℕ → List Test
+readTests z recovering reported own held i f b =
+    noSuchClient z i
+    ∷ noSuchFile z f
+    ∷ noSuchBlock z b
     ∷ cutOff recovering reported (readNeedsServer own held)
     ∷ notOpenAtAll own
     ∷ []
 
-abbrev pub writeTests : Bool → Bool → ClientFile → ℕ → ℕ → ℕ → List Test
-writeTests recovering reported own i f b =
-    noSuchClient i
-    ∷ noSuchFile f
-    ∷ noSuchBlock b
+abbrev pub writeTests : Sizes → Bool → Bool → ClientFile → ℕ → ℕ → ℕ → List Test
+writeTests z recovering reported own i f b =
+    noSuchClient z i
+    ∷ noSuchFile z f
+    ∷ noSuchBlock z b
     ∷ cutOff recovering reported (writeNeedsServer own)
     ∷ notOpenIn Write own
     ∷ []
 
-abbrev pub flushTests : Bool → Bool → ℕ → ℕ → ℕ → List Test
-flushTests recovering dirty i f b =
-    noSuchClient i ∷ noSuchFile f ∷ noSuchBlock b ∷ inRecovery recovering ∷ notDirty dirty ∷ []
+abbrev pub flushTests : Sizes → Bool → Bool → ℕ → ℕ → ℕ → List Test
+flushTests z recovering dirty i f b =
+    noSuchClient z i ∷ noSuchFile z f ∷ noSuchBlock z b ∷ inRecovery recovering ∷ notDirty dirty ∷ []
 
-abbrev pub answerTests : Bool → Entry → ℕ → ℕ → List Test
-answerTests recovering e i f = noSuchClient i ∷ noSuchFile f ∷ inRecovery recovering ∷ noCall e i ∷ []
+abbrev pub answerTests : Sizes → Bool → Entry → ℕ → ℕ → List Test
+answerTests z recovering e i f = noSuchClient z i ∷ noSuchFile z f ∷ inRecovery recovering ∷ noCall z e i ∷ []

@@ -1,11 +1,12 @@
 // A client's side of one file: what it holds besides the copies of the blocks, and how its steps change it.
 ghost use mathlib.Core.Path.{_≡_};
 ghost use Rattle.protocol.specs.Client.{grantedClient, keepsBlocks, closedClient, answeredClient};
-ghost use Rattle.protocol.specs.Client.{readNeedsServer, writeNeedsServer};
-use crate::callback::invalidates;
-use crate::callback::writes_back;
+ghost use Rattle.protocol.specs.Client.{readNeedsServer, writeNeedsServer, noClient, sideOf, withSide};
 use crate::copy::keeps_copy;
 use crate::reply::Grant;
+use decision::MAX_CLIENTS;
+use decision::invalidates;
+use decision::writes_back;
 use records::ClientRecord;
 use records::Mode;
 use records::Version;
@@ -18,7 +19,46 @@ pub struct ClientFile {
     pub label: Version,
 }
 
+// The clients' sides of one file.
+pub struct Sides {
+    pub of: [ClientFile; MAX_CLIENTS],
+}
+
+impl Sides {
+    // The side of a client; of a client that is not there, one that has nothing.
+    pub fn side(self, client: usize) -> ClientFile
+        ensures { λ r. ⌜ r ≡ sideOf self client ⌝ }
+    {
+        if client < MAX_CLIENTS {
+            self.of[client]
+        } else {
+            ClientFile::none()
+        }
+    }
+
+    // The sides with this one for the client; a client that is not there changes none.
+    pub fn with_side(mut self, client: usize, own: ClientFile) -> Self
+        ensures { λ r. ⌜ r ≡ withSide self client own ⌝ }
+    {
+        if client < MAX_CLIENTS {
+            self.of[client] = own;
+        }
+        self
+    }
+}
+
 impl ClientFile {
+    // The side of a client that has nothing of the file.
+    pub fn none() -> Self
+        ensures { λ r. ⌜ r ≡ noClient ⌝ }
+    {
+        ClientFile {
+            opens: ClientRecord::not_open(),
+            marked: false,
+            label: Version::none(),
+        }
+    }
+
     pub fn granted(self, mode: Mode, grant: Grant) -> Self
         ensures { λ r. ⌜ r ≡ grantedClient mode grant self ⌝ }
     {

@@ -1,25 +1,36 @@
-// The consistency protocol of one file: the types of both sides, the client's side, and the definitions of every rule
-// of one file with the theorem that they keep it consistent. Nothing here knows of lists of files or of the whole
-// service.
-mod callback;
+// The consistency protocol of one file: the types of both sides, what the steps make of each, and the definitions of
+// every rule of one file with the theorem that they keep it consistent. Nothing here knows of lists of files or of the
+// whole service.
 mod client;
 mod copy;
 mod entry;
 mod refusal;
 mod reply;
-mod state;
 mod step;
 
-pub use callback::asks_nothing;
-pub use callback::invalidates;
-pub use callback::writes_back;
 pub use client::ClientFile;
+pub use client::Sides;
 pub use copy::keeps_copy;
 pub use entry::Entry;
 pub use entry::NOBODY;
+pub use entry::count_calls;
+pub use refusal::COUNT_FULL;
+pub use refusal::IN_RECOVERY;
+pub use refusal::NO_BLOCK;
+pub use refusal::NO_CALL;
+pub use refusal::NO_CLIENT;
+pub use refusal::NO_FILE;
+pub use refusal::NO_STEP;
+pub use refusal::NOT_DIRTY;
+pub use refusal::NOT_IN_RECOVERY;
+pub use refusal::NOT_OPEN;
+pub use refusal::OPEN_WAITS;
+pub use refusal::OUT_OF_RANGE;
+pub use refusal::REPORT_MISSING;
+pub use refusal::REPORTED;
+pub use refusal::VERSION_SPENT;
 pub use refusal::refused_if;
 pub use reply::Grant;
 pub use reply::Reply;
-pub use state::FileState;
-pub use state::Property;
+pub use step::Class;
 pub use step::Step;

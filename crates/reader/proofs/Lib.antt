@@ -3,4 +3,5 @@ pub mod Numbers
 pub mod Shapes
 pub mod Words
 pub mod Whole
+pub mod Settings
 pub mod LineFeeds

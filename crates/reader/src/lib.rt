@@ -1,7 +1,9 @@
 // Lines of the step file to steps, read where they stand in the input.
 mod line;
 mod number;
+mod setting;
 mod step;
 
 pub use line::read_at;
 pub use line::read_line;
+pub use setting::read_setting;

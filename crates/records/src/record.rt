@@ -2,7 +2,7 @@
 ghost use mathlib.Core.Path.{_≡_};
 ghost use mathlib.Core.Bool.{cond};
 ghost use Prim.Native.Nat.{_-_};
-ghost use Rattle.records.specs.Record.{isWrite, allowedLag, isOpen, countOf, keepsPermission, leavesLastWriter};
+ghost use Rattle.records.specs.Record.{notOpen, isWrite, allowedLag, isOpen, countOf, keepsPermission, leavesLastWriter};
 ghost use Rattle.records.specs.Record.{raised as raisedCount, opened as openedRecord, closed as closedRecord};
 ghost use Rattle.records.specs.Record.{settled as settledRecord, uncached as uncachedRecord};
 
@@ -53,6 +53,17 @@ fn lowered(count: u8) -> u8
 }
 
 impl ClientRecord {
+    // The record of a client that has not opened the file.
+    pub fn not_open() -> Self
+        ensures { λ r. ⌜ r ≡ notOpen ⌝ }
+    {
+        ClientRecord {
+            readers: 0,
+            writers: 0,
+            caching: false,
+        }
+    }
+
     pub fn is_open(self) -> bool
         ensures { λ r. ⌜ r ≡ isOpen self ⌝ }
     {

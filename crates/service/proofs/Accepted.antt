@@ -1,33 +1,39 @@
 -- A step that is accepted has passed each of its tests and does what its definitions say; one that is refused changes
 -- nothing. It leads to the theorem on whole lists of steps. Assumes nothing.
 use Prim.Native.Nat.{ℕ}
-use mathlib.Core.Path.{_≡_, refl, ap, subst⁻¹}
+use mathlib.Core.Path.{_≡_, refl, ap, _∙_, subst}
 use mathlib.Core.Bool.{Bool, true, false, cond}
 use mathlib.Core.List.{List, [], _∷_}
 use lib.Dec.{eqb}
-use Rattle.protocol.specs.declared.reply.Reply.the-variants.{Refused}
+use Rattle.decision.specs.declared.sizes.Sizes.{Sizes}
+use Rattle.decision.specs.Lists.{firstOf}
+use Rattle.protocol.specs.declared.reply.Reply.the-variants.{Refused, Done}
 use Rattle.protocol.specs.declared.step.Step.{Step}
 use Rattle.protocol.specs.declared.step.Step.the-variants.{Open, Close, Read, Write, Flush, Answer, Crash, Report, End}
-use Rattle.protocol.specs.Lists.{firstOf}
+use Rattle.protocol.specs.Entry.{callTo, callsFor, callsOut}
+use Rattle.protocol.specs.Refusal.{Test, openTests, closeTests, readTests, writeTests, flushTests, answerTests}
 use Rattle.protocol.specs.Reply.{isRefused}
+use Rattle.access.specs.BlockStep.{afterRead, afterWrite, blockStep}
+use Rattle.file.specs.FileStep.{FileAfter, noCalls, afterOpen, afterClose, afterFlush, answered, afterAnswer, fileStep}
+use Rattle.table.specs.TableStep.{reportTests, endTests, crashed, reported, ended, tableStep}
 use Rattle.service.specs.declared.service.Service.{Service}
 use Rattle.service.specs.declared.outcome.Outcome.{Outcome}
-use Rattle.service.specs.Refusal.{testsOf, refusalOf}
-use Rattle.service.specs.Next.{callsNobody, lastAnswer, nextOf}
-use Rattle.service.specs.Answer.{noCalls, replyOf, callsOf}
-use Rattle.service.specs.Step.{stepOf}
+use Rattle.service.specs.Contents.{sizesOf, tableIn, entryAt, reportedAt, clientAt, heldAt, dirtyAt, fileAt}
+use Rattle.service.specs.Contents.{storesOf}
+use Rattle.service.specs.Step.{fileOutcome, blockOutcome, tableOutcome, stepOf}
 use Rattle.service.specs.Demand3.{refused, after}
-use Rattle.service.proofs.Tests.{split, either, conflict}
+use Rattle.service.proofs.Tests.{split, either, conflict, when, unless}
+use Rattle.service.proofs.OneFile.{same-file}
 
--- ---- the tests of a step
+-- ---- a list of tests
 
 -- none of the tests holds
-abbrev pub Passed : List (Bool × ℕ) → Type 0
+abbrev pub Passed : List Test → Type 0
 Passed [] = Unit {0}
 Passed (t ∷ ts) = (t .0 ≡ false) × Passed ts
 
 -- no refusal has the number 0
-abbrev pub numbered : List (Bool × ℕ) → Bool
+abbrev numbered : List Test → Bool
 numbered [] = true
 numbered (t ∷ ts) = cond (eqb (t .1) 0) false (numbered ts)
 
@@ -40,69 +46,118 @@ pass true k rest later n e = conflict (rw e at n) refl
 pass false k rest later n e =
     (refl, split (eqb k 0) (λ z. conflict (rw z at n) refl) (λ z. rw z at n), e)
 
-passed : (ts : List (Bool × ℕ)) → numbered ts ≡ true → eqb (firstOf ts) 0 ≡ true → Passed ts
+passed : (ts : List Test) → numbered ts ≡ true → eqb (firstOf ts) 0 ≡ true → Passed ts
 passed [] n e = tt
 passed (t ∷ ts) n e =
     let (first, later, rest) = pass (t .0) (t .1) (firstOf ts) (numbered ts) n e in
     (first, passed ts later rest)
 
-all-numbered : (s : Service) (x : Step) → numbered (testsOf s x) ≡ true
-all-numbered s (Open m i f) = refl
-all-numbered s (Close m i f) = refl
-all-numbered s (Read i f b) = refl
-all-numbered s (Write i f b v) = refl
-all-numbered s (Flush i f b) = refl
-all-numbered s (Answer i f) = refl
-all-numbered s Crash = refl
-all-numbered s (Report i) = refl
-all-numbered s End = refl
+-- ---- what a step tests and does, where z are the sizes in force
+
+abbrev pub testsOf : Sizes → Service → Step → List Test
+testsOf z s (Open m i f) = openTests z (tableIn s .recovering) (entryAt s f) (clientAt s i f) m i f
+testsOf z s (Close m i f) = closeTests z (tableIn s .recovering) (entryAt s f) (clientAt s i f) m i f
+testsOf z s (Read i f b) =
+    readTests z (tableIn s .recovering) (reportedAt s i) (clientAt s i f) (heldAt s i f b) i f b
+testsOf z s (Write i f b v) = writeTests z (tableIn s .recovering) (reportedAt s i) (clientAt s i f) i f b
+testsOf z s (Flush i f b) = flushTests z (tableIn s .recovering) (dirtyAt s i f b) i f b
+testsOf z s (Answer i f) = answerTests z (tableIn s .recovering) (entryAt s f) i f
+testsOf z s Crash = []
+testsOf z s (Report i) = reportTests z (tableIn s .recovering) (tableIn s .reported) i
+testsOf z s End = endTests z (tableIn s .recovering) (tableIn s .reported)
+
+abbrev pub doneOf : Sizes → Service → Step → Outcome
+doneOf z s (Open m i f) = fileOutcome s f (afterOpen z (fileAt s f) (storesOf s) m i f)
+doneOf z s (Close m i f) = fileOutcome s f (afterClose (fileAt s f) (storesOf s) m i)
+doneOf z s (Read i f b) = blockOutcome s (afterRead (clientAt s i f) (storesOf s) i f b)
+doneOf z s (Write i f b v) = blockOutcome s (afterWrite (clientAt s i f) (storesOf s) i f b v)
+doneOf z s (Flush i f b) = fileOutcome s f (afterFlush (fileAt s f) (storesOf s) i f b)
+doneOf z s (Answer i f) = fileOutcome s f (afterAnswer z (fileAt s f) (storesOf s) i f)
+doneOf z s Crash = tableOutcome s (record { table = crashed z (tableIn s); reply = Done })
+doneOf z s (Report i) = tableOutcome s (record { table = reported z (tableIn s) (s .clients) i; reply = Done })
+doneOf z s End = tableOutcome s (record { table = ended z (tableIn s); reply = Done })
+
+all-numbered : (z : Sizes) (s : Service) (x : Step) → numbered (testsOf z s x) ≡ true
+all-numbered z s (Open m i f) = refl
+all-numbered z s (Close m i f) = refl
+all-numbered z s (Read i f b) = refl
+all-numbered z s (Write i f b v) = refl
+all-numbered z s (Flush i f b) = refl
+all-numbered z s (Answer i f) = refl
+all-numbered z s Crash = refl
+all-numbered z s (Report i) = refl
+all-numbered z s End = refl
+
+-- what is done is no refusal
+accepts : (z : Sizes) (s : Service) (x : Step) → isRefused (doneOf z s x .reply) ≡ false
+accepts z s (Open m i f) =
+    either (λ (o : FileAfter). isRefused (o .reply) ≡ false) (eqb (callsFor (z .clients) (entryAt s f) i m) 0)
+    (λ e. refl) (λ e. refl)
+accepts z s (Close m i f) = refl
+accepts z s (Read i f b) = refl
+accepts z s (Write i f b v) = refl
+accepts z s (Flush i f b) = refl
+accepts z s (Answer i f) =
+    let o : FileAfter = answered z f (fileAt s f) (storesOf s) i (callTo (z .clients) (entryAt s f) i) in
+    either (λ (o : FileAfter). isRefused (o .reply) ≡ false) (eqb (callsOut (z .clients) (o .file .entry)) 0)
+    (λ e. refl) (λ e. refl)
+accepts z s Crash = refl
+accepts z s (Report i) = refl
+accepts z s End = refl
 
 -- ---- the outcome of a step
 
-accepts : (s : Service) (x : Step) → isRefused (replyOf s x) ≡ false
-accepts s (Open m i f) = either (λ r. isRefused r ≡ false) (callsNobody s i f m) (λ e. refl) (λ e. refl)
-accepts s (Close m i f) = refl
-accepts s (Read i f b) = refl
-accepts s (Write i f b v) = refl
-accepts s (Flush i f b) = refl
-accepts s (Answer i f) = either (λ r. isRefused r ≡ false) (lastAnswer s i f) (λ e. refl) (λ e. refl)
-accepts s Crash = refl
-accepts s (Report i) = refl
-accepts s End = refl
+-- the number that the step is refused with, 0 for none
+abbrev pub refusalOf : Service → Step → ℕ
+refusalOf s x = firstOf (testsOf (sizesOf s) s x)
 
-pub accepted : (s : Service) (x : Step) → eqb (refusalOf s x) 0 ≡ true
-    → stepOf s x ≡ record { service = nextOf s x; reply = replyOf s x; calls = callsOf s x }
-unfolding stepOf
-accepted s x e = rw e
+pub accepted : (s : Service) (x : Step) → eqb (refusalOf s x) 0 ≡ true → stepOf s x ≡ doneOf (sizesOf s) s x
+unfolding stepOf fileStep blockStep tableStep
+accepted s (Open m i f) e = ap (fileOutcome s f) (when _ _ e)
+accepted s (Close m i f) e = ap (fileOutcome s f) (when _ _ e)
+accepted s (Read i f b) e = ap (blockOutcome s) (when _ _ e)
+accepted s (Write i f b v) e = ap (blockOutcome s) (when _ _ e)
+accepted s (Flush i f b) e = ap (fileOutcome s f) (when _ _ e)
+accepted s (Answer i f) e = ap (fileOutcome s f) (when _ _ e)
+accepted s Crash e = refl
+accepted s (Report i) e = ap (tableOutcome s) (when _ _ e)
+accepted s End e = ap (tableOutcome s) (when _ _ e)
 
-pub rejected : (s : Service) (x : Step) → eqb (refusalOf s x) 0 ≡ false
-    → stepOf s x ≡ record { service = s; reply = Refused (refusalOf s x); calls = noCalls }
-unfolding stepOf
-rejected s x e = rw e
+-- the outcome that a refusal gives
+abbrev pub refusedWith : ℕ → Service → Outcome
+refusedWith k s = record { service = s; reply = Refused k; calls = noCalls }
 
--- What is to hold of the service that is handed back and of the refusal: to be shown where all tests are passed, and
--- where one is not.
-pub outcome :
-    (s : Service) (x : Step) (P : Service → Bool → Type 0)
-    → (Passed (testsOf s x) → P (nextOf s x) false)
-    → (eqb (refusalOf s x) 0 ≡ false → P s true)
-    → P (after s x) (refused s x)
-outcome s x P p q =
+pub rejected : (s : Service) (x : Step) → eqb (refusalOf s x) 0 ≡ false → stepOf s x ≡ refusedWith (refusalOf s x) s
+unfolding stepOf fileStep blockStep tableStep
+rejected s (Open m i f) e = ap (fileOutcome s f) (unless _ _ e) ∙ ap (refusedWith _) (same-file s f (storesOf s))
+rejected s (Close m i f) e = ap (fileOutcome s f) (unless _ _ e) ∙ ap (refusedWith _) (same-file s f (storesOf s))
+rejected s (Read i f b) e = ap (blockOutcome s) (unless _ _ e)
+rejected s (Write i f b v) e = ap (blockOutcome s) (unless _ _ e)
+rejected s (Flush i f b) e = ap (fileOutcome s f) (unless _ _ e) ∙ ap (refusedWith _) (same-file s f (storesOf s))
+rejected s (Answer i f) e = ap (fileOutcome s f) (unless _ _ e) ∙ ap (refusedWith _) (same-file s f (storesOf s))
+rejected s Crash e = conflict refl e
+rejected s (Report i) e = ap (tableOutcome s) (unless _ _ e)
+rejected s End e = ap (tableOutcome s) (unless _ _ e)
+
+-- "A refusal gives only its number; server, stations and every lent buffer stay as they came."
+pub refused-changes-nothing : (s : Service) (x : Step) → refused s x ≡ true → after s x ≡ s
+refused-changes-nothing s x r =
     split (eqb (refusalOf s x) 0)
-    (λ e.
-    subst⁻¹ (λ (o : Outcome). P (o .service) (isRefused (o .reply))) (accepted s x e)
-    (subst⁻¹ (P (nextOf s x)) (accepts s x) (p (passed (testsOf s x) (all-numbered s x) e))))
-    (λ e. subst⁻¹ (λ (o : Outcome). P (o .service) (isRefused (o .reply))) (rejected s x e) (q e))
+    (λ e. conflict r (ap (λ (o : Outcome). isRefused (o .reply)) (accepted s x e) ∙ accepts (sizesOf s) s x))
+    (λ e. ap (λ (o : Outcome). o .service) (rejected s x e))
 
+-- an accepted step, where z are the sizes in force
 pub when-accepted :
-    (s : Service) (x : Step)
+    {z : Sizes} (s : Service) (x : Step)
+    → sizesOf s ≡ z
     → refused s x ≡ false
-    → Passed (testsOf s x) × (after s x ≡ nextOf s x) × (stepOf s x .reply ≡ replyOf s x)
-when-accepted s x a =
-    split (eqb (refusalOf s x) 0)
-    (λ e. (
-      passed (testsOf s x) (all-numbered s x) e,
-      ap (λ (o : Outcome). o .service) (accepted s x e),
-      ap (λ (o : Outcome). o .reply) (accepted s x e),
-    ))
-    (λ e. conflict (ap (λ (o : Outcome). isRefused (o .reply)) (rejected s x e)) a)
+    → Passed (testsOf z s x) × (stepOf s x ≡ doneOf z s x)
+when-accepted s x size a =
+    subst (λ z. Passed (testsOf z s x) × (stepOf s x ≡ doneOf z s x)) size
+    (split (eqb (refusalOf s x) 0)
+    (λ e. (passed (testsOf (sizesOf s) s x) (all-numbered (sizesOf s) s x) e, accepted s x e))
+    (λ e. conflict (ap (λ (o : Outcome). isRefused (o .reply)) (rejected s x e)) a))
+
+pub crash-accepted : (s : Service) → refused s Crash ≡ false
+unfolding stepOf tableStep
+crash-accepted s = refl

@@ -1,138 +1,191 @@
--- The outcome of a step, put together from what its parts give: the equations that the service's step and the player's loop share.
--- Places are wrapped into the arrays; where that matters the step is refused, and stores back what stood there. Assumes nothing.
-pub mod Access
-pub mod Answer
-pub mod OpenClose
+-- The outcome of a step, as the service's step and the player's loop put it together: one equation for each class of step.
+-- Numbers are wrapped into the arrays; a step that names what is not there is refused, whatever stands there. Assumes
+-- nothing.
 pub mod Result
-use Prim.Native.Nat.{ℕ, _*_, _%_}
-use mathlib.Core.Path.{_≡_, refl, sym, ap, ap₂, subst, _∙_}
-use mathlib.Core.Bool.{Bool, true, false, cond}
+use Prim.Native.Nat.{ℕ, _%_, _≤_}
+use mathlib.Core.Path.{_≡_, refl, sym, ap, ap₂, _∙_}
+use mathlib.Core.Bool.{Bool, true, false, cond, _||_, true≢false, or-true}
 use native.Mathlib.Nat.{mod-eq-of-lt}
+use native.Mathlib.Omega.{arith}
 use lib.Dec.{eqb, leb}
-use lib.ListN.{set}
-use lib.Seq.{set-getD}
-use borrow.Author.Tests.{leb-false}
+use borrow.Author.Tests.{leb-true, leb-false, le-leb}
+use Rattle.decision.specs.declared.sizes.Sizes.{Sizes}
+use Rattle.decision.specs.Sizes.{maxClients, maxFiles, Permitted}
+use Rattle.decision.proofs.InForce.{in-force-permitted}
+use Rattle.protocol.specs.declared.client.ClientFile.{ClientFile}
 use Rattle.protocol.specs.declared.reply.Reply.the-variants.{Refused}
+use Rattle.protocol.specs.declared.step.Class.{Class}
+use Rattle.protocol.specs.declared.step.Class.the-variants.{OnFile, OnBlock, OnTable}
 use Rattle.protocol.specs.declared.step.Step.{Step}
-use Rattle.records.proofs.Choosing.{when, unless}
-pub use Rattle.records.proofs.Choosing.{split}
-use Rattle.protocol.specs.Sizes.{clients, files, blocks, slot}
-use Rattle.protocol.specs.Client.{kept}
-use Rattle.opening.specs.declared.opening.Change.{Change}
-use Rattle.opening.specs.Opening.{refusedChange}
+use Rattle.protocol.specs.declared.step.Step.the-variants.{Open, Close, Read, Write, Flush, Answer, Crash, Report, End}
+use Rattle.protocol.specs.Step.{classOf}
+use Rattle.blocks.specs.Stores.{Stores}
+use Rattle.access.specs.BlockStep.{blockStep}
+use Rattle.file.specs.declared.file.SharedFile.{SharedFile}
+use Rattle.file.specs.FileStep.{leaving, fileStep}
+use Rattle.table.specs.TableStep.{tableStep}
 use Rattle.service.specs.declared.service.Service.{Service}
 use Rattle.service.specs.declared.outcome.Outcome.{Outcome}
-use Rattle.service.specs.Contents.{noEntry, noClient, entryAt, clientAt, withEntry}
-use Rattle.service.specs.Refusal.{refusalOf}
-use Rattle.service.specs.Next.{nextOf}
-use Rattle.service.specs.Answer.{noCalls, replyOf, callsOf}
-use Rattle.service.specs.Step.{stepOf}
+use Rattle.service.specs.Contents.{sizesOf, tableIn, reportedAt, clientAt, fileAt, storesOf}
+use Rattle.service.specs.Step.{fileOutcome, blockOutcome, tableOutcome, outcomeIn, stepOf}
+use Rattle.service.proofs.Tests.{split}
+use Rattle.service.proofs.OneFile.{same-file}
+use Rattle.service.proofs.Accepted.{refusedWith}
 
--- the outcome of a refused step
-abbrev pub refusedWith : Service → ℕ → Outcome
-refusedWith s k = record { service = s; reply = Refused k; calls = noCalls }
-
--- the outcome with the change stored at file f and client i, whose copies of the file begin at base
-abbrev pub withChangeAt : ℕ → Service → ℕ → ℕ → Change → Outcome
-withChangeAt base s i f e =
-    record {
-      service =
-          record {
-            server = withEntry (s .server) f (e .entry);
-            clients = set (s .clients) (slot i f) (e .own);
-            copies = kept (e .keep) 0 base (s .copies);
-            held = kept (e .keep) false base (s .held);
-            dirty = kept (e .keep) false base (s .dirty);
-          };
-      reply = e .reply;
-      calls = e .calls;
-    }
-
-abbrev pub withChange : Service → ℕ → ℕ → Change → Outcome
-withChange s i f e = withChangeAt (slot i f * blocks) s i f e
-
--- the same for a step that changes no copies and sends no callbacks
-abbrev pub withPair : Service → ℕ → ℕ → Change → Outcome
-withPair s i f e =
-    record {
-      service =
-          record {
-            server = withEntry (s .server) f (e .entry);
-            clients = set (s .clients) (slot i f) (e .own);
-            copies = s .copies;
-            held = s .held;
-            dirty = s .dirty;
-          };
-      reply = e .reply;
-      calls = noCalls;
-    }
-
--- changes that are refused are stored back as they were
-pub refused-pair : (s : Service) (i f k : ℕ) → withPair s i f (refusedChange (entryAt s f) (clientAt s i f) k) ≡ refusedWith s k
-refused-pair s i f k =
-    ap₂
-    (λ fs cs.
-    record {
-      service =
-          record {
-            server =
-                record {
-                  files = fs;
-                  blocks = s .server .blocks;
-                  recovering = s .server .recovering;
-                  reported = s .server .reported;
-                };
-            clients = cs;
-            copies = s .copies;
-            held = s .held;
-            dirty = s .dirty;
-          };
-      reply = Refused k;
-      calls = noCalls;
-    })
-    (set-getD (s .server .files) f noEntry)
-    (set-getD (s .clients) (slot i f) noClient)
-
--- a test that is known picks its side
-pub picks {ℓ} : {A : Type ℓ} (b : Bool) (x y : A) → b ≡ true → cond b x y ≡ x
-picks b x y e = when x y e
-
-pub passes {ℓ} : {A : Type ℓ} (b : Bool) (x y : A) → b ≡ false → cond b x y ≡ y
-passes b x y e = unless x y e
-
--- a step that is refused, and one that is not
-pub step-refused : (s : Service) (x : Step) (k : ℕ) → refusalOf s x ≡ k → eqb k 0 ≡ false → stepOf s x ≡ refusedWith s k
+-- the class of a step tells what it touches
+step-in : (s : Service) (x : Step) (c : Class) → classOf x ≡ c → stepOf s x ≡ outcomeIn s x c
 unfolding stepOf
-step-refused s x k e h =
-    passes (eqb (refusalOf s x) 0) _ _ (ap (λ (j : ℕ). eqb j 0) e ∙ h) ∙ ap (refusedWith s) e
+step-in s x c e = ap (outcomeIn s x) e
 
-abbrev pub accepted : Service → Step → Outcome
-accepted s x = record { service = nextOf s x; reply = replyOf s x; calls = callsOf s x }
+-- ---- on a file
 
-pub step-accepted : (s : Service) (x : Step) → eqb (refusalOf s x) 0 ≡ true → stepOf s x ≡ accepted s x
-unfolding stepOf
-step-accepted s x e = picks (eqb (refusalOf s x) 0) _ _ e
+abbrev isOnFile : Class → Bool
+isOnFile (OnFile f) = true
+isOnFile (OnBlock i f) = false
+isOnFile OnTable = false
 
--- Numbers that name no client or no file are refused first, so that only those in range reach the places.
-pub in-range :
-    (P : ℕ → ℕ → Type 0) (i f : ℕ)
-    → (leb clients i ≡ true → P (i % clients) (f % files))
-    → (leb clients i ≡ false → leb files f ≡ true → P (i % clients) (f % files))
-    → (leb clients i ≡ false → leb files f ≡ false → P i f)
-    → P (i % clients) (f % files)
-in-range P i f noClient′ noFile near =
-    split (leb clients i) noClient′
-    (λ e. split (leb files f) (noFile e)
-    (λ e′.
-    subst (λ (j : ℕ). P j (f % files)) (sym (mod-eq-of-lt (leb-false clients i e)))
-    (subst (P i) (sym (mod-eq-of-lt (leb-false files f e′))) (near e e′))))
+abbrev fileOf : Class → ℕ
+fileOf (OnFile f) = f
+fileOf (OnBlock i f) = f
+fileOf OnTable = 0
 
--- what a refused step's parts give, put together, is the refusal
-pub parts-refused {ℓ} :
-    {A : Type ℓ} (s : Service) (x : Step) (k : ℕ) (W : A → Outcome) (e r : A)
-    → refusalOf s x ≡ k
-    → eqb k 0 ≡ false
-    → e ≡ r
-    → W r ≡ refusedWith s k
-    → stepOf s x ≡ W e
-parts-refused s x k W e r q h same back = step-refused s x k q h ∙ sym (ap W same ∙ back)
+-- a step that names no client or no file is refused with 2 or 3, whatever it does otherwise
+refused-first {ℓ} :
+    {A : Type ℓ} (client file : Bool) (rest : ℕ) (refused : ℕ → A) (done : A)
+    → (client || file) ≡ true
+    → cond (eqb (cond client 2 (cond file 3 rest)) 0) done (refused (cond client 2 (cond file 3 rest)))
+    ≡ refused (cond client 2 3)
+refused-first true file rest refused done e = refl
+refused-first false true rest refused done e = refl
+refused-first false false rest refused done e = absurd (true≢false (sym e))
+
+absent : (z : Sizes) (i f g : ℕ) → OnFile f ≡ OnFile g → leb (z .files) g ≡ true → (leb (z .clients) i || leb (z .files) f) ≡ true
+absent z i f g c h = rw (ap fileOf c, h) (or-true (leb (z .clients) i))
+
+-- whatever file stands for one that is not there
+no-file :
+    (z : Sizes) (recovering : Bool) (a : Stores) (x : Step) (g : ℕ)
+    → classOf x ≡ OnFile g
+    → leb (z .files) g ≡ true
+    → (k : ℕ) × ((y : SharedFile) → fileStep z recovering y a x ≡ leaving y a (Refused k))
+unfolding fileStep
+no-file z recovering a (Open m i f) g c h = (
+  cond (leb (z .clients) i) 2 3,
+  λ y. refused-first (leb (z .clients) i) (leb (z .files) f) _ (λ k. leaving y a (Refused k)) _ (absent z i f g c h),
+)
+no-file z recovering a (Close m i f) g c h = (
+  cond (leb (z .clients) i) 2 3,
+  λ y. refused-first (leb (z .clients) i) (leb (z .files) f) _ (λ k. leaving y a (Refused k)) _ (absent z i f g c h),
+)
+no-file z recovering a (Flush i f b) g c h = (
+  cond (leb (z .clients) i) 2 3,
+  λ y. refused-first (leb (z .clients) i) (leb (z .files) f) _ (λ k. leaving y a (Refused k)) _ (absent z i f g c h),
+)
+no-file z recovering a (Answer i f) g c h = (
+  cond (leb (z .clients) i) 2 3,
+  λ y. refused-first (leb (z .clients) i) (leb (z .files) f) _ (λ k. leaving y a (Refused k)) _ (absent z i f g c h),
+)
+no-file z recovering a (Read i f b) g c h = absurd (true≢false (sym (ap isOnFile c)))
+no-file z recovering a (Write i f b v) g c h = absurd (true≢false (sym (ap isOnFile c)))
+no-file z recovering a Crash g c h = absurd (true≢false (sym (ap isOnFile c)))
+no-file z recovering a (Report i) g c h = absurd (true≢false (sym (ap isOnFile c)))
+no-file z recovering a End g c h = absurd (true≢false (sym (ap isOnFile c)))
+
+-- whatever side stands for one that is not there
+abbrev isOnBlock : Class → Bool
+isOnBlock (OnFile f) = false
+isOnBlock (OnBlock i f) = true
+isOnBlock OnTable = false
+
+abbrev clientOf : Class → ℕ
+clientOf (OnFile f) = 0
+clientOf (OnBlock i f) = i
+clientOf OnTable = 0
+
+no-block :
+    (z : Sizes) (recovering : Bool) (a : Stores) (x : Step) (j g : ℕ)
+    → classOf x ≡ OnBlock j g
+    → (leb (z .clients) j || leb (z .files) g) ≡ true
+    → (k : ℕ)
+    × ((reported : Bool) (own : ClientFile) → blockStep z recovering reported own a x ≡ record { stores = a; reply = Refused k })
+unfolding blockStep
+no-block z recovering a (Read i f b) j g c h = (
+  cond (leb (z .clients) i) 2 3,
+  λ reported own.
+      refused-first (leb (z .clients) i) (leb (z .files) f) _ (λ k. record { stores = a; reply = Refused k }) _
+      (rw (ap clientOf c, ap fileOf c) h),
+)
+no-block z recovering a (Write i f b v) j g c h = (
+  cond (leb (z .clients) i) 2 3,
+  λ reported own.
+      refused-first (leb (z .clients) i) (leb (z .files) f) _ (λ k. record { stores = a; reply = Refused k }) _
+      (rw (ap clientOf c, ap fileOf c) h),
+)
+no-block z recovering a (Open m i f) j g c h = absurd (true≢false (sym (ap isOnBlock c)))
+no-block z recovering a (Close m i f) j g c h = absurd (true≢false (sym (ap isOnBlock c)))
+no-block z recovering a (Flush i f b) j g c h = absurd (true≢false (sym (ap isOnBlock c)))
+no-block z recovering a (Answer i f) j g c h = absurd (true≢false (sym (ap isOnBlock c)))
+no-block z recovering a Crash j g c h = absurd (true≢false (sym (ap isOnBlock c)))
+no-block z recovering a (Report i) j g c h = absurd (true≢false (sym (ap isOnBlock c)))
+no-block z recovering a End j g c h = absurd (true≢false (sym (ap isOnBlock c)))
+
+neither : (a b : Bool) → (a || b) ≡ false → (a ≡ false) × (b ≡ false)
+neither true b e = absurd (true≢false e)
+neither false b e = (refl, e)
+
+-- past the arrays is past the sizes in force
+past : (size most n : ℕ) → size ≤ most → leb most n ≡ true → leb size n ≡ true
+past size most n fits e = le-leb size n (omega (arith, fits, leb-true most n e))
+
+past-either :
+    {z : Sizes}
+    → Permitted z
+    → (i f : ℕ)
+    → (leb maxClients i || leb maxFiles f) ≡ true
+    → (leb (z .clients) i || leb (z .files) f) ≡ true
+past-either {z} p i f e =
+    split (leb maxClients i)
+    (λ c. rw (past (z .clients) maxClients i (p .clients) c))
+    (λ c. rw (past (z .files) maxFiles f (p .files) (rw c at e)) (or-true (leb (z .clients) i)))
+
+-- ---- the three equations
+
+module _ (s : Service) (x : Step) where
+  abbrev z : Sizes
+  z = sizesOf s
+
+  abbrev atFile : ℕ → Outcome
+  atFile f = fileOutcome s f (fileStep z (tableIn s .recovering) (fileAt s f) (storesOf s) x)
+
+  pub file-arm : (f : ℕ) → classOf x ≡ OnFile f → stepOf s x ≡ atFile (f % maxFiles)
+  file-arm f c =
+      step-in s x (OnFile f) c
+      ∙ split (leb maxFiles f)
+      (λ e.
+      let none = no-file z (tableIn s .recovering) (storesOf s) x f c
+      (past (z .files) maxFiles f (in-force-permitted (s .sizes) .files) e) in
+      let as-it-came : (g : ℕ) → atFile g ≡ _ =
+      λ g. ap (fileOutcome s g) (none .1 (fileAt s g)) ∙ ap (refusedWith (none .0)) (same-file s g (storesOf s)) in
+      as-it-came f ∙ sym (as-it-came (f % maxFiles)))
+      (λ e. ap atFile (sym (mod-eq-of-lt (leb-false maxFiles f e))))
+
+  -- ---- on a block
+
+  abbrev atBlock : ℕ → ℕ → Outcome
+  atBlock i f = blockOutcome s (blockStep z (tableIn s .recovering) (reportedAt s i) (clientAt s i f) (storesOf s) x)
+
+  pub block-arm : (i f : ℕ) → classOf x ≡ OnBlock i f → stepOf s x ≡ atBlock (i % maxClients) (f % maxFiles)
+  block-arm i f c =
+      step-in s x (OnBlock i f) c
+      ∙ split (leb maxClients i || leb maxFiles f)
+      (λ e.
+      let none = no-block z (tableIn s .recovering) (storesOf s) x i f c (past-either (in-force-permitted (s .sizes)) i f e) in
+      ap (blockOutcome s) (none .1 _ _ ∙ sym (none .1 _ _)))
+      (λ e.
+      let (client, file) = neither (leb maxClients i) (leb maxFiles f) e in
+      ap₂ atBlock (sym (mod-eq-of-lt (leb-false maxClients i client))) (sym (mod-eq-of-lt (leb-false maxFiles f file))))
+
+  -- ---- on the table
+
+  pub table-arm : classOf x ≡ OnTable → stepOf s x ≡ tableOutcome s (tableStep z (tableIn s) (s .clients) x)
+  table-arm c = step-in s x OnTable c

@@ -8,53 +8,60 @@ use mathlib.Core.List.{List·Memᴰ as Member}
 use mathlib.Core.Logic.{_↔_, _≢_}
 use lib.Dec.{eqb}
 use Rattle.records.specs.declared.record.Mode.{Mode}
+use Rattle.decision.specs.Callback.{callbackDue, orderedCalls, InOrder}
+use Rattle.decision.proofs.CallOrder.{in-order, due-in-order}
+use Rattle.decision.proofs.InForce.{in-force-permitted}
 use Rattle.protocol.specs.declared.reply.Grant.{Grant}
 use Rattle.protocol.specs.declared.reply.Reply.the-variants.{Granted, Waiting}
 use Rattle.protocol.specs.declared.step.Step.{Step}
 use Rattle.protocol.specs.declared.step.Step.the-variants.{Open}
-use Rattle.protocol.specs.Sizes.{clients}
-use Rattle.protocol.specs.Callback.{callbackDue, orderedCalls, InOrder}
-use Rattle.protocol.specs.Entry.{recordAt, callsDue}
-use Rattle.protocol.proofs.CallOrder.{in-order, due-in-order}
+use Rattle.protocol.specs.Entry.{recordAt, callsDue, callsFor, grantOf}
+use Rattle.file.specs.FileStep.{FileAfter, noCalls}
 use Rattle.service.specs.declared.service.Service.{Service}
 use Rattle.service.specs.declared.outcome.Outcome.{Outcome}
-use Rattle.service.specs.Contents.{entryAt}
-use Rattle.service.specs.Refusal.{refusalOf}
-use Rattle.service.specs.Next.{callsNobody, grantFor}
-use Rattle.service.specs.Answer.{noCalls}
+use Rattle.service.specs.Contents.{sizesOf, entryAt}
 use Rattle.service.specs.Step.{stepOf}
 use Rattle.service.proofs.Tests.{split}
-use Rattle.service.proofs.Accepted.{accepted, rejected}
+use Rattle.service.proofs.Accepted.{refusalOf, accepted, rejected}
 
-pub calls-in-order : (s : Service) (x : Step) → InOrder clients (stepOf s x .calls)
-calls-in-order s x = in-order clients (stepOf s x .calls)
+pub calls-in-order : (s : Service) (x : Step) → InOrder (sizesOf s .clients) (stepOf s x .calls)
+calls-in-order s x = in-order (sizesOf s .clients) (stepOf s x .calls)
 
--- an open is granted and calls nobody, or waits
-not-granted : (t : Bool) (g : Grant) (none due : List ℕ) → cond t (Granted g) Waiting ≡ Waiting → cond t none due ≡ due
-not-granted true g none due waits = cc
-not-granted false g none due waits = refl
+-- an open is granted, or waits
+not-granted :
+    (t : Bool) (g : Grant) (granted waiting : FileAfter)
+    → granted .reply ≡ Granted g
+    → cond t granted waiting .reply ≡ Waiting
+    → cond t granted waiting .calls ≡ waiting .calls
+not-granted true g granted waiting is waits = cc
+not-granted false g granted waiting is waits = refl
 
 module _ (s : Service) (mode : Mode) (opener f : ℕ) (waits : stepOf s (Open mode opener f) .reply ≡ Waiting) where
   abbrev x : Step
   x = Open mode opener f
 
+  abbrev n : ℕ
+  n = sizesOf s .clients
+
   abbrev due : List ℕ
-  due = callsDue clients (entryAt s f) opener mode
+  due = callsDue n (entryAt s f) opener mode noCalls
 
   sends-due : stepOf s x .calls ≡ due
   sends-due =
       split (eqb (refusalOf s x) 0)
       (λ e. subst⁻¹ (λ (o : Outcome). o .reply ≡ Waiting → o .calls ≡ due) (accepted s x e)
-      (not-granted (callsNobody s opener f mode) (grantFor s opener f mode) noCalls due) waits)
+      (not-granted (eqb (callsFor n (entryAt s f) opener mode) 0) (grantOf n (entryAt s f) opener mode) _ _ refl) waits)
       (λ e. subst⁻¹ (λ (o : Outcome). o .reply ≡ Waiting → o .calls ≡ due) (rejected s x e) (λ refusal. cc) waits)
 
   pub waiting-calls :
       (client kind : ℕ)
-      → Member (client, kind) (orderedCalls clients (stepOf s (Open mode opener f) .calls))
+      → Member (client, kind) (orderedCalls (sizesOf s .clients) (stepOf s (Open mode opener f) .calls))
       ↔ (
-      (client < clients)
-      × (kind ≡ callbackDue clients (recordAt (entryAt s f)) (entryAt s f .last) opener mode client)
+      (client < sizesOf s .clients)
+      × (kind ≡ callbackDue (sizesOf s .clients) (recordAt (entryAt s f)) (entryAt s f .last) opener mode client)
       × (kind ≢ 0)
       )
   waiting-calls client kind =
-      rw sends-due (due-in-order clients (recordAt (entryAt s f)) (entryAt s f .last) opener mode client kind)
+      rw sends-due
+      (due-in-order n (recordAt (entryAt s f)) (entryAt s f .last) opener mode noCalls
+      (in-force-permitted (s .sizes) .clients) client kind)

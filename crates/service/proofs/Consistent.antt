@@ -1,72 +1,92 @@
--- Demand 3 for the fresh service, from the promises of the protocol of one file: every accepted read gives the latest
--- accepted write, and every accepted end of recovery gives back the table. Assumes nothing.
-use Prim.Native.Nat.{ℕ, _*_, _<_}
+-- Demand 3 for the fresh service of any sizes, from the promises of the protocol of one file: every accepted read gives
+-- the latest accepted write, and every accepted end of recovery gives back the table. Assumes nothing.
+use Prim.Native.Nat.{ℕ, _<_}
 use mathlib.Core.Path.{_≡_, refl, ap, _∙_, subst⁻¹}
 use mathlib.Core.Bool.{Bool, true, false}
 use mathlib.Core.List.{List, [], _∷_}
-use lib.Dec.{eqb}
-use lib.ListN.{length-replicate, getD-replicate as getD-inside}
+use lib.ListN.{length, replicate, length-replicate, getD-replicate}
 use borrow.Author.Tests.{not-false}
+use Rattle.decision.specs.declared.sizes.Sizes.{Sizes}
+use Rattle.decision.specs.Sizes.{maxClients, maxFiles, maxPlaces, maxCells, inForce, Permitted, place, cell}
+use Rattle.decision.proofs.InForce.{in-force-permitted, file-fits}
+use Rattle.protocol.specs.declared.client.Sides.{Sides}
 use Rattle.protocol.specs.declared.reply.Reply.the-variants.{Value}
 use Rattle.protocol.specs.declared.step.Step.{Step}
 use Rattle.protocol.specs.declared.step.Step.the-variants.{Open, Close, Read, Write, Flush, Answer, Crash, Report, End}
-use Rattle.protocol.specs.Sizes.{clients, files, blocks, slot, place, cell}
-use Rattle.records.specs.Version.{firstVersion}
-use Rattle.protocol.specs.Entry.{crashedEntry}
-use Rattle.protocol.specs.Table.{Row}
+use Rattle.protocol.specs.Client.{noClient, sideOf}
+use Rattle.protocol.specs.Entry.{freshEntry}
+use Rattle.protocol.specs.Table.{Row, seen}
+use Rattle.protocol.proofs.Seen.{fresh-seen}
 use Rattle.protocol.proofs.View.{View, freshView}
 use Rattle.protocol.proofs.Promises.{Promises}
+use Rattle.decision.proofs.Beyond.{getD-alike}
+use Rattle.blocks.specs.Stores.{valueRead}
+use Rattle.table.specs.TableStep.{noEntry, noSides}
 use Rattle.service.specs.declared.service.Service.{Service}
-use Rattle.service.specs.Contents.{noEntry, noClient}
-use Rattle.service.specs.Refusal.{testsOf, refusalOf}
-use Rattle.service.specs.Next.{valueRead, nextOf}
+use Rattle.service.specs.declared.outcome.Outcome.{Outcome}
+use Rattle.service.specs.Contents.{tableIn, clientAt, storesOf}
 use Rattle.service.specs.Step.{stepOf}
 use Rattle.service.specs.Fresh.{fresh}
-use Rattle.service.specs.Demand3.{refused, after, Memory, blank, fed, tableOf, NoOpenWaits, Recovery, none, since, recoveryAfter, ReadIsLatest, EndRestores, Holds, Consistent}
-use Rattle.service.proofs.Tests.{conflict}
-use Rattle.service.proofs.Lists.{getD-replicate}
-use Rattle.service.proofs.Views.{Sized, viewOf, same-view}
-use Rattle.service.proofs.Accepted.{Passed, outcome, when-accepted}
-use Rattle.service.proofs.Invariant.{Sound}
+use Rattle.service.specs.Demand3.{refused, after, Memory, blank, fed, tableOf, NoOpenWaits, Recovery, none, since}
+use Rattle.service.specs.Demand3.{recoveryAfter, ReadIsLatest, EndRestores, Holds, Consistent}
+use Rattle.service.proofs.Tests.{split, conflict}
+use Rattle.service.proofs.Views.{Sized, within-none, viewOf, same-view}
+use Rattle.service.proofs.Accepted.{Passed, testsOf, doneOf, when-accepted, crash-accepted}
+use Rattle.service.proofs.Accepted.{refused-changes-nothing}
+use Rattle.service.proofs.Invariant.{Runs, Sound}
 use Rattle.service.proofs.WhileRunning
 use Rattle.service.proofs.WhileRecovering
 
 -- ---- the fresh service
 
-fresh-sized : Sized fresh
+-- the sides of a file of which no client has anything
+abbrev freshSides : Sides
+freshSides = record { of = replicate maxClients noClient }
+
+fresh-sized : (z : Sizes) → Sized (inForce z) (fresh z)
 unfolding fresh
-fresh-sized =
+fresh-sized z =
     record {
-      entries = length-replicate files (crashedEntry clients firstVersion);
-      words = length-replicate {A = ℕ} (files * blocks) 0;
-      reports = length-replicate clients false;
-      ends = length-replicate (clients * files) noClient;
-      copies = length-replicate {A = ℕ} (clients * files * blocks) 0;
-      held = length-replicate (clients * files * blocks) false;
-      dirty = length-replicate (clients * files * blocks) false;
+      sizes = refl;
+      entries = length-replicate maxFiles (freshEntry maxClients);
+      words = length-replicate {A = ℕ} maxPlaces 0;
+      reports = length-replicate maxClients false;
+      files = length-replicate maxFiles freshSides;
+      sides = λ f hf.
+          ap (λ (x : Sides). length (x .of)) (getD-replicate maxFiles f freshSides noSides hf)
+          ∙ length-replicate maxClients noClient;
+      copies = length-replicate {A = ℕ} maxCells 0;
+      held = length-replicate maxCells false;
+      dirty = length-replicate maxCells false;
     }
 
-fresh-view : (f b : ℕ) → f < files → viewOf fresh f b ≡ freshView clients
+fresh-view :
+    (z : Sizes) (f b : ℕ) → f < inForce z .files → viewOf (inForce z) (fresh z) f b ≡ freshView (inForce z .clients)
 unfolding fresh
-fresh-view f b hf =
+fresh-view z f b hf =
+    let n = inForce z .clients in
+    let most = in-force-permitted z in
+    let hf′ = file-fits most hf in
     same-view
-    (getD-inside files f (crashedEntry clients firstVersion) noEntry hf)
-    (getD-replicate (files * blocks) (place f b) 0)
-    (λ j. getD-replicate (clients * files) (slot j f) noClient)
-    (λ j. getD-replicate (clients * files * blocks) (cell j f b) 0)
-    (λ j. getD-replicate (clients * files * blocks) (cell j f b) false)
-    (λ j. getD-replicate (clients * files * blocks) (cell j f b) false)
+    (ap (seen n) (getD-replicate maxFiles f (freshEntry maxClients) noEntry hf′)
+    ∙ fresh-seen n maxClients (most .clients))
+    (getD-alike maxPlaces 0 (place f b))
+    (λ j. within-none n noClient j _
+    (ap (λ x. sideOf x j) (getD-replicate maxFiles f freshSides noSides hf′) ∙ getD-alike maxClients noClient j))
+    (λ j. within-none n 0 j _ (getD-alike maxCells 0 (cell j f b)))
+    (λ j. within-none n false j _ (getD-alike maxCells false (cell j f b)))
+    (λ j. within-none n false j _ (getD-alike maxCells false (cell j f b)))
 
-fresh-running : fresh .server .recovering ≡ false
+fresh-running : (z : Sizes) → tableIn (fresh z) .recovering ≡ false
 unfolding fresh
-fresh-running = refl
+fresh-running z = refl
 
 -- ---- every list of steps
 
 -- A refused step leaves the reference memory and the recovery as they are; a crash is never refused.
 refused-kept :
     (Q : Memory → Recovery → Type 0) (s : Service) (m : Memory) (r : Recovery) (x : Step)
-    → eqb (refusalOf s x) 0 ≡ false
+    → refused s x ≡ true
     → Q m r
     → Q (fed m x true) (recoveryAfter s r x true)
 refused-kept Q s m r (Open mode i f) e q = q
@@ -75,7 +95,7 @@ refused-kept Q s m r (Read i f b) e q = q
 refused-kept Q s m r (Write i f b v) e q = q
 refused-kept Q s m r (Flush i f b) e q = q
 refused-kept Q s m r (Answer i f) e q = q
-refused-kept Q s m r Crash e q = conflict refl e
+refused-kept Q s m r Crash e q = conflict e (crash-accepted s)
 refused-kept Q s m r (Report i) e q = q
 refused-kept Q s m r End e q = q
 
@@ -84,90 +104,121 @@ abbrev Restored : Recovery → Service → Type 0
 Restored r s = (t : List Row) × (r ≡ since t) × (tableOf s ≡ t) × NoOpenWaits s
 
 module _
+    {z : Sizes}
+    (most : Permitted z)
     (Running : View → ℕ → Type 0)
     (Recovering : View → ℕ → (ℕ → Bool) → Row → Type 0)
-    (promises : Promises clients Running Recovering) where
+    (promises : Promises (z .clients) Running Recovering) where
+  abbrev Holding : Service → Memory → Recovery → Type 0
+  Holding = Sound z Running Recovering
+
+  sized : (s : Service) (m : Memory) (r : Recovery) → Holding s m r → Sized z s
+  sized s m none h = h .sized
+  sized s m (since t) h = h .sized
+
   -- An accepted step keeps the invariant. While the server runs no report and no end is accepted; while it recovers no
   -- open, close, flush or answer.
   accepted-kept :
       (s : Service) (m : Memory) (r : Recovery) (x : Step)
-      → Sound Running Recovering s m r
-      → Passed (testsOf s x)
-      → Sound Running Recovering (nextOf s x) (fed m x false) (recoveryAfter s r x false)
-  accepted-kept s m none (Open mode i f) h p = WhileRunning.open-kept promises h mode i f p
-  accepted-kept s m none (Close mode i f) h p = WhileRunning.close-kept promises h mode i f p
-  accepted-kept s m none (Read i f b) h p = WhileRunning.read-kept promises h i f b p .1
-  accepted-kept s m none (Write i f b v) h p = WhileRunning.write-kept promises h i f b v p
-  accepted-kept s m none (Flush i f b) h p = WhileRunning.flush-kept promises h i f b p
-  accepted-kept s m none (Answer i f) h p = WhileRunning.answer-kept promises h i f p
-  accepted-kept s m none Crash h p = WhileRunning.crash-kept promises h
+      → Holding s m r
+      → Passed (testsOf z s x)
+      → Holding (doneOf z s x .service) (fed m x false) (recoveryAfter s r x false)
+  accepted-kept s m none (Open mode i f) h p = WhileRunning.open-kept most promises h mode i f p
+  accepted-kept s m none (Close mode i f) h p = WhileRunning.close-kept most promises h mode i f p
+  accepted-kept s m none (Read i f b) h p = WhileRunning.read-kept most promises h i f b p .1
+  accepted-kept s m none (Write i f b v) h p = WhileRunning.write-kept most promises h i f b v p
+  accepted-kept s m none (Flush i f b) h p = WhileRunning.flush-kept most promises h i f b p
+  accepted-kept s m none (Answer i f) h p = WhileRunning.answer-kept most promises h i f p
+  accepted-kept s m none Crash h p = WhileRunning.crash-kept most promises h
   accepted-kept s m none (Report i) h (_, (recovers, _)) =
-      conflict (not-false (s .server .recovering) recovers) (h .state)
-  accepted-kept s m none End h (recovers, _) = conflict (not-false (s .server .recovering) recovers) (h .state)
+      conflict (not-false (tableIn s .recovering) recovers) (h .state)
+  accepted-kept s m none End h (recovers, _) = conflict (not-false (tableIn s .recovering) recovers) (h .state)
   accepted-kept s m (since t) (Open mode i f) h (_, (_, (runs, _))) = conflict (h .state) runs
   accepted-kept s m (since t) (Close mode i f) h (_, (_, (runs, _))) = conflict (h .state) runs
-  accepted-kept s m (since t) (Read i f b) h p = WhileRecovering.read-kept promises h i f b p .1
-  accepted-kept s m (since t) (Write i f b v) h p = WhileRecovering.write-kept promises h i f b v p
+  accepted-kept s m (since t) (Read i f b) h p = WhileRecovering.read-kept most promises h i f b p .1
+  accepted-kept s m (since t) (Write i f b v) h p = WhileRecovering.write-kept most promises h i f b v p
   accepted-kept s m (since t) (Flush i f b) h (_, (_, (_, (runs, _)))) = conflict (h .state) runs
   accepted-kept s m (since t) (Answer i f) h (_, (_, (runs, _))) = conflict (h .state) runs
-  accepted-kept s m (since t) Crash h p = WhileRecovering.crash-kept promises h
-  accepted-kept s m (since t) (Report i) h p = WhileRecovering.report-kept promises h i p
-  accepted-kept s m (since t) End h p = WhileRecovering.end-kept promises h p .0
+  accepted-kept s m (since t) Crash h p = WhileRecovering.crash-kept most promises h
+  accepted-kept s m (since t) (Report i) h p = WhileRecovering.report-kept most promises h i p
+  accepted-kept s m (since t) End h p = WhileRecovering.end-kept most promises h p .0
+
+  after-kept :
+      (s : Service) (m : Memory) (r : Recovery) (x : Step)
+      → Holding s m r
+      → Holding (after s x) (fed m x (refused s x)) (recoveryAfter s r x (refused s x))
+  after-kept s m r x h =
+      split (refused s x)
+      (λ e. kept e (refused-changes-nothing s x e) (refused-kept (Holding s) s m r x e h))
+      (λ e.
+      let (p, done) = when-accepted s x (sized s m r h .sizes) e in
+      kept e (ap (λ (o : Outcome). o .service) done) (accepted-kept s m r x h p))
+    where
+      kept : {b : Bool} {s′ : Service}
+          → refused s x ≡ b
+          → after s x ≡ s′
+          → Holding s′ (fed m x b) (recoveryAfter s r x b)
+          → Holding (after s x) (fed m x (refused s x)) (recoveryAfter s r x (refused s x))
+      kept {s′ = s′} e q k =
+          subst⁻¹ (λ s′. Holding s′ (fed m x (refused s x)) (recoveryAfter s r x (refused s x))) q
+          (subst⁻¹ (λ b. Holding s′ (fed m x b) (recoveryAfter s r x b)) e k)
 
   value-latest :
       (s : Service) (m : Memory) (r : Recovery) (i f b : ℕ)
-      → Sound Running Recovering s m r
-      → Passed (testsOf s (Read i f b))
-      → valueRead s i f b ≡ m f b
-  value-latest s m none i f b h p = WhileRunning.read-kept promises h i f b p .0
-  value-latest s m (since t) i f b h p = WhileRecovering.read-kept promises h i f b p .0
+      → Holding s m r
+      → Passed (testsOf z s (Read i f b))
+      → valueRead (clientAt s i f .opens .caching) i f b (storesOf s) ≡ m f b
+  value-latest s m none i f b h p = WhileRunning.read-kept most promises h i f b p .0
+  value-latest s m (since t) i f b h p = WhileRecovering.read-kept most promises h i f b p .0
 
-  read-latest :
-      (s : Service) (m : Memory) (r : Recovery) (x : Step) → Sound Running Recovering s m r → ReadIsLatest s m x
+  read-latest : (s : Service) (m : Memory) (r : Recovery) (x : Step) → Holding s m r → ReadIsLatest s m x
   read-latest s m r x h i f b e =
       subst⁻¹ (λ x. refused s x ≡ false → stepOf s x .reply ≡ Value (m f b)) e
       (λ a.
-      let (p, _, reply) = when-accepted s (Read i f b) a in
-      reply ∙ ap Value (value-latest s m r i f b h p))
+      let (p, done) = when-accepted s (Read i f b) (sized s m r h .sizes) a in
+      ap (λ (o : Outcome). o .reply) done ∙ ap Value (value-latest s m r i f b h p))
 
   table-restored :
       (s : Service) (m : Memory) (r : Recovery)
-      → Sound Running Recovering s m r
-      → Passed (testsOf s End)
-      → Restored r (nextOf s End)
-  table-restored s m none h (recovers, _) = conflict (not-false (s .server .recovering) recovers) (h .state)
+      → Holding s m r
+      → Passed (testsOf z s End)
+      → Restored r (doneOf z s End .service)
+  table-restored s m none h (recovers, _) = conflict (not-false (tableIn s .recovering) recovers) (h .state)
   table-restored s m (since t) h p =
-      let (_, table, none-waits) = WhileRecovering.end-kept promises h p in
+      let (_, table, none-waits) = WhileRecovering.end-kept most promises h p in
       (t, refl, table, none-waits)
 
-  end-restores :
-      (s : Service) (m : Memory) (r : Recovery) (x : Step) → Sound Running Recovering s m r → EndRestores s r x
+  end-restores : (s : Service) (m : Memory) (r : Recovery) (x : Step) → Holding s m r → EndRestores s r x
   end-restores s m r x h e =
       subst⁻¹ (λ x. refused s x ≡ false → Restored r (after s x)) e
       (λ a.
-      let (p, next, _) = when-accepted s End a in
-      subst⁻¹ (λ s′. Restored r s′) next (table-restored s m r h p))
+      let (p, done) = when-accepted s End (sized s m r h .sizes) a in
+      subst⁻¹ (λ (o : Outcome). Restored r (o .service)) done (table-restored s m r h p))
 
-  holds :
-      (s : Service) (m : Memory) (r : Recovery) (steps : List Step) → Sound Running Recovering s m r → Holds s m r steps
+  pub holds : (s : Service) (m : Memory) (r : Recovery) (steps : List Step) → Holding s m r → Holds s m r steps
   holds s m r [] h = tt
-  holds s m r (x ∷ steps) h =
-      let after-kept =
-      outcome s x (λ s′ refusal. Sound Running Recovering s′ (fed m x refusal) (recoveryAfter s r x refusal))
-      (accepted-kept s m r x h)
-      (λ e. refused-kept (Sound Running Recovering s) s m r x e h) in (
-        read-latest s m r x h,
-        end-restores s m r x h,
-        holds (after s x) (fed m x (refused s x)) (recoveryAfter s r x (refused s x)) steps after-kept,
-      )
+  holds s m r (x ∷ steps) h = (
+    read-latest s m r x h,
+    end-restores s m r x h,
+    holds (after s x) (fed m x (refused s x)) (recoveryAfter s r x (refused s x)) steps (after-kept s m r x h),
+  )
 
-  fresh-sound : Sound Running Recovering fresh blank none
-  fresh-sound =
+module _
+    (z : Sizes)
+    (Running : View → ℕ → Type 0)
+    (Recovering : View → ℕ → (ℕ → Bool) → Row → Type 0)
+    (promises : Promises (inForce z .clients) Running Recovering) where
+  fresh-runs : Runs (inForce z) Running (fresh z) blank
+  fresh-runs =
       record {
-        sized = fresh-sized;
-        state = fresh-running;
-        views = λ f b hf hb. subst⁻¹ (λ v. Running v 0) (fresh-view f b hf) (promises .fresh);
+        sized = fresh-sized z;
+        state = fresh-running z;
+        views = λ f b hf hb. subst⁻¹ (λ v. Running v 0) (fresh-view z f b hf) (promises .fresh);
       }
 
-  pub consistent : Consistent fresh
-  consistent = record { always = λ steps. holds fresh blank none steps fresh-sound }
+  pub consistent : Consistent (fresh z)
+  consistent =
+      record {
+        always = λ steps.
+            holds (in-force-permitted z) Running Recovering promises (fresh z) blank none steps fresh-runs;
+      }

@@ -1,7 +1,7 @@
 -- What stands at each place after a store: where two places are the same, and what the copies and blocks of a file hold
 -- after a drop or a write-back. It leads to the views after each step. Assumes nothing.
-use Prim.Native.Nat.{ℕ, _+_, _*_, _/_, _%_, _<_}
-use native.Mathlib.Nat.{add-zero}
+use Prim.Native.Nat.{ℕ, _+_, _*_, _/_, _%_, _≤_, _<_}
+use native.Mathlib.Omega.{arith}
 use mathlib.Core.Path.{_≡_, refl, sym, ap, _∙_}
 use mathlib.Core.Bool.{Bool, true, false, cond, _&&_}
 use mathlib.Core.List.{List}
@@ -9,15 +9,17 @@ use lib.Arith.{digits-lt, digits-div, digits-mod}
 use lib.Dec.{eqb}
 use lib.ListN.{length, getD}
 use borrow.Author.Tests.{eqb-true, eqb-false, eq-eqb, ne-eqb}
-use Rattle.protocol.specs.Sizes.{clients, files, blocks, slot, place, cell}
+use Rattle.decision.specs.Sizes.{maxClients, maxFiles, maxBlocks, maxPlaces, maxCells, place, cell, firstPlace}
+use Rattle.decision.specs.Sizes.{firstCell}
+use Rattle.decision.proofs.Storing.{length-stored}
 use Rattle.protocol.specs.Client.{kept, sent}
-use Rattle.service.proofs.Tests.{split, eqb-same, and-true, and-comm, and-swap}
-use Rattle.service.proofs.Lists.{getD-same, getD-stored, length-stored}
+use Rattle.service.proofs.Tests.{split, eqb-same, and-true, and-swap}
+use Rattle.service.proofs.Lists.{getD-same, getD-stored}
 
 -- ---- where two places are the same
 
 -- two numbers by their digits, to any base
-pub digits-same :
+digits-same :
     (m q p : ℕ) {r t : ℕ}
     → r < m
     → t < m
@@ -36,113 +38,91 @@ digits-same m q p {r} {t} h k =
     high : q * m + r ≡ p * m + t → q ≡ p
     high z = sym (digits-div q h) ∙ ap (λ x. x / m) z ∙ digits-div p k
 
--- t says whether the file, or the file and the block, are the same
-pub slot-same :
-    (i j : ℕ) {f g : ℕ} (t : Bool)
-    → f < files
-    → g < files
-    → eqb g f ≡ t
-    → eqb (slot j g) (slot i f) ≡ (t && eqb j i)
-slot-same i j {f} {g} t hf hg e =
-    digits-same files j i hg hf ∙ and-comm (eqb j i) (eqb g f) ∙ ap (λ x. x && eqb j i) e
-
 pub place-same :
-    (f g : ℕ) {b c : ℕ} → b < blocks → c < blocks → eqb (place g c) (place f b) ≡ (eqb g f && eqb c b)
-place-same f g hb hc = digits-same blocks g f hc hb
+    (f g : ℕ) {b c : ℕ} → b < maxBlocks → c < maxBlocks → eqb (place g c) (place f b) ≡ (eqb g f && eqb c b)
+place-same f g hb hc = digits-same maxBlocks g f hc hb
 
+-- t says whether the file and the block are the same
 pub cell-same :
-    (i j : ℕ) {f g b c : ℕ} (t : Bool)
-    → f < files
-    → g < files
-    → b < blocks
-    → c < blocks
+    {i j : ℕ} (f g : ℕ) {b c : ℕ} (t : Bool)
+    → i < maxClients
+    → j < maxClients
+    → b < maxBlocks
+    → c < maxBlocks
     → (eqb g f && eqb c b) ≡ t
     → eqb (cell j g c) (cell i f b) ≡ (t && eqb j i)
-cell-same i j {f} {g} {b} {c} t hf hg hb hc e =
-    digits-same blocks (slot j g) (slot i f) hc hb
-    ∙ ap (λ x. x && eqb c b) (slot-same i j (eqb g f) hf hg refl)
+cell-same {i} {j} f g {b} {c} t hi hj hb hc e =
+    digits-same maxBlocks (g * maxClients + j) (f * maxClients + i) hc hb
+    ∙ ap (λ x. x && eqb c b) (digits-same maxClients g f hj hi)
     ∙ and-swap (eqb g f) (eqb j i) (eqb c b)
     ∙ ap (λ x. x && eqb j i) e
-
--- from a file's first block on
-from-first : (q k : ℕ) → q * blocks + 0 + k ≡ q * blocks + k
-from-first q k = ap (λ x. x + k) (add-zero (q * blocks))
 
 -- ---- every place is inside its list
 
 module _ {ℓ} {A : Type ℓ} (l : List A) where
-  pub slot-in : {i f : ℕ} → length l ≡ clients * files → i < clients → f < files → slot i f < length l
-  slot-in {i} {f} e hi hf = rw e (digits-lt hi hf)
-
-  pub place-in : {f b : ℕ} → length l ≡ files * blocks → f < files → b < blocks → place f b < length l
+  pub place-in : {f b : ℕ} → length l ≡ maxPlaces → f < maxFiles → b < maxBlocks → place f b < length l
   place-in {f} {b} e hf hb = rw e (digits-lt hf hb)
 
   pub cell-in :
-      {i f b : ℕ} → length l ≡ clients * files * blocks → i < clients → f < files → b < blocks → cell i f b < length l
-  cell-in {i} {f} {b} e hi hf hb = rw e (digits-lt (digits-lt hi hf) hb)
+      {i f b : ℕ} → length l ≡ maxCells → i < maxClients → f < maxFiles → b < maxBlocks → cell i f b < length l
+  cell-in {i} {f} {b} e hi hf hb = rw e (digits-lt (digits-lt hf hi) hb)
 
-  -- ---- the copy of a file is kept or dropped
+  -- ---- the copy of a file, of n blocks, is kept or dropped
 
   pub getD-kept :
-      (keep : Bool) (none : A) (i j : ℕ) {f g c : ℕ} (t : Bool)
-      → length l ≡ clients * files * blocks
-      → i < clients
-      → f < files
-      → g < files
-      → c < blocks
+      (n : ℕ) (keep : Bool) (none : A) {i j f : ℕ} (g : ℕ) {c : ℕ} (t : Bool)
+      → length l ≡ maxCells
+      → n ≤ maxBlocks
+      → i < maxClients
+      → j < maxClients
+      → f < maxFiles
+      → c < n
       → eqb g f ≡ t
-      → getD (kept keep none (cell i f 0) l) (cell j g c) none
+      → getD (kept n keep none (firstCell i f) l) (cell j g c) none
       ≡ cond (t && eqb j i) (cond keep (getD l (cell i f c) none) none) (getD l (cell j g c) none)
-  getD-kept true none i j {f} {g} {c} t n hi hf hg hc e =
+  getD-kept n true none {i} {j} {f} g {c} t len most hi hj hf hc e =
       getD-same l (cell i f c) (cell j g c) none (t && eqb j i)
-      (cell-same i j t hf hg hc hc (ap (λ x. eqb g f && x) (eqb-same c) ∙ and-true (eqb g f) ∙ e))
-  getD-kept false none i j {f} {g} {c} t n hi hf hg hc e =
-      getD-stored blocks (λ b. cell i f 0 + b) (λ b. none) l (cell j g c) none (t && eqb j i) c hc
-      (λ k h. rw (from-first (slot i f) k) (cell-in n hi hf h))
+      (cell-same f g t hi hj (omega arith) (omega arith) (ap (λ x. eqb g f && x) (eqb-same c) ∙ and-true (eqb g f) ∙ e))
+  getD-kept n false none {i} {j} {f} g {c} t len most hi hj hf hc e =
+      getD-stored n (cell i f) (λ b. none) l (cell j g c) none (t && eqb j i) c hc
+      (λ k h. cell-in len hi hf (omega arith))
       (λ k h.
-      ap (λ p. eqb (cell j g c) p) (from-first (slot i f) k)
-      ∙ digits-same blocks (slot j g) (slot i f) hc h
-      ∙ ap (λ x. x && eqb c k) (slot-same i j t hf hg e))
+      digits-same maxBlocks (g * maxClients + j) (f * maxClients + i) (omega arith) (omega arith)
+      ∙ ap (λ x. x && eqb c k) (digits-same maxClients g f hj hi ∙ ap (λ x. x && eqb j i) e))
 
   pub length-kept :
-      (keep : Bool) (none : A) (base : ℕ) → length (kept keep none base l) ≡ length l
-  length-kept true none base = refl
-  length-kept false none base = length-stored blocks (λ b. base + b) (λ b. none) l
+      (n : ℕ) (keep : Bool) (none : A) (base : ℕ) → length (kept n keep none base l) ≡ length l
+  length-kept n true none base = refl
+  length-kept n false none base = length-stored n (λ b. base + b) (λ b. none) l
 
--- ---- the dirty blocks of a file are sent
+-- ---- the dirty blocks of a file, of n blocks, are sent
 
-module _ (dirty : List Bool) (copies l : List ℕ) where
+module _ (n : ℕ) (dirty : List Bool) (copies l : List ℕ) where
   pub getD-sent :
       (send : Bool) (i g : ℕ) {f c : ℕ} (t : Bool)
-      → length l ≡ files * blocks
-      → f < files
-      → c < blocks
+      → length l ≡ maxPlaces
+      → n ≤ maxBlocks
+      → f < maxFiles
+      → c < n
       → eqb g f ≡ t
-      → getD (sent send dirty copies (cell i f 0) (place f 0) l) (place g c) 0
+      → getD (sent n send dirty copies (firstCell i f) (firstPlace f) l) (place g c) 0
       ≡ cond t
       (cond (send && getD dirty (cell i f c) false) (getD copies (cell i f c) 0) (getD l (place f c) 0))
       (getD l (place g c) 0)
-  getD-sent false i g {f} {c} t n hf hc e =
+  getD-sent false i g {f} {c} t len most hf hc e =
       getD-same l (place f c) (place g c) 0 t
-      (place-same f g hc hc ∙ ap (λ x. eqb g f && x) (eqb-same c) ∙ and-true (eqb g f) ∙ e)
-  getD-sent true i g {f} {c} t n hf hc e =
-      getD-stored blocks (λ b. place f 0 + b) value l (place g c) 0 t c hc
-      (λ k h. rw (from-first f k) (place-in l n hf h))
-      (λ k h.
-      ap (λ p. eqb (place g c) p) (from-first f k) ∙ place-same f g h hc ∙ ap (λ x. x && eqb c k) e)
-      ∙ ap (λ x. cond t x (getD l (place g c) 0)) here
-    where
-      value : ℕ → ℕ
-      value b =
-          cond (getD dirty (cell i f 0 + b) false) (getD copies (cell i f 0 + b) 0) (getD l (place f 0 + b) 0)
-
-      here : value c ≡ cond (getD dirty (cell i f c) false) (getD copies (cell i f c) 0) (getD l (place f c) 0)
-      here = rw (from-first (slot i f) c, from-first f c)
+      (place-same f g (omega arith) (omega arith) ∙ ap (λ x. eqb g f && x) (eqb-same c) ∙ and-true (eqb g f) ∙ e)
+  getD-sent true i g {f} {c} t len most hf hc e =
+      getD-stored n (place f)
+      (λ b. cond (getD dirty (cell i f b) false) (getD copies (cell i f b) 0) (getD l (place f b) 0))
+      l (place g c) 0 t c hc
+      (λ k h. place-in l len hf (omega arith))
+      (λ k h. place-same f g (omega arith) (omega arith) ∙ ap (λ x. x && eqb c k) e)
 
   pub length-sent :
-      (send : Bool) (base to : ℕ) → length (sent send dirty copies base to l) ≡ length l
+      (send : Bool) (base to : ℕ) → length (sent n send dirty copies base to l) ≡ length l
   length-sent false base to = refl
   length-sent true base to =
-      length-stored blocks (λ b. to + b)
+      length-stored n (λ b. to + b)
       (λ b. cond (getD dirty (base + b) false) (getD copies (base + b) 0) (getD l (to + b) 0))
       l

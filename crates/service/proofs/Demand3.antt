@@ -1,8 +1,12 @@
--- Demand 3: for every list of steps, from the fresh service, every accepted read gives the latest accepted write, and every accepted end
--- of recovery gives back the table that was held just before the crash that began it. Assumes nothing.
+-- Demand 3: for every list of steps, from the fresh service of any sizes, every accepted read gives the latest accepted
+-- write, and every accepted end of recovery gives back the table that was held just before the crash that began it.
+-- Assumes nothing.
+use Prim.Native.Nat.{ℕ, _≤_}
 use mathlib.Core.Path.{_≡_, sym, subst}
-use lib.Dec.{lit≤}
-use Rattle.protocol.specs.Sizes.{clients}
+use native.Mathlib.Omega.{arith}
+use Rattle.decision.specs.declared.sizes.Sizes.{Sizes}
+use Rattle.decision.specs.Sizes.{nobody, inForce}
+use Rattle.decision.proofs.InForce.{in-force-permitted}
 use Rattle.protocol.proofs.Invariant.{Running, Recovering}
 use Rattle.protocol.proofs.Kept.{promises}
 use Rattle.service.specs.declared.service.Service.{Service}
@@ -11,8 +15,12 @@ use Rattle.service.specs.Demand3.{Consistent, Demand3}
 use Rattle.service.proofs.Consistent.{consistent}
 
 pub demand3 : Demand3
-demand3 = consistent (Running clients) (Recovering clients) (promises clients (lit≤ tt))
+demand3 z =
+    let n : ℕ = inForce z .clients in
+    let most = in-force-permitted z .clients in
+    let bound : n ≤ nobody = omega arith in
+    consistent z (Running n) (Recovering n) (promises n bound)
 
--- so every service that is the fresh one is consistent
-pub from-fresh : (s : Service) → s ≡ fresh → (s ≡ fresh) × Consistent s
-from-fresh s e = (e, subst Consistent (sym e) demand3)
+-- so every service that is the fresh one of some sizes is consistent
+pub from-fresh : (z : Sizes) (s : Service) → s ≡ fresh z → (s ≡ fresh z) × Consistent s
+from-fresh z s e = (e, subst Consistent (sym e) (demand3 z))

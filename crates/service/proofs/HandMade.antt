@@ -1,6 +1,6 @@
 -- Hand-made states, which no list of steps leads to: what the definitions give for each row of docs/DECISIONS.md,
 -- "Hand-made states", by evaluation on whole services. The rows are named in quotes; the summary's are in crate
--- stepfile. Assumes nothing.
+-- stepfile, and those of the sizes in Sizes.antt. Assumes nothing.
 use Prim.Native.Nat.{ℕ}
 use mathlib.Core.Path.{_≡_, refl}
 use mathlib.Core.Bool.{Bool, true, false}
@@ -9,21 +9,24 @@ use lib.ListN.{replicate}
 use Rattle.records.specs.declared.record.Mode.the-variants.{Read, Write}
 use Rattle.protocol.specs.declared.reply.Grant.{Grant}
 use Rattle.protocol.specs.declared.reply.Reply.the-variants.{Granted, Refused, Answered, AnsweredGrant, Done}
-use Rattle.protocol.specs.declared.state.FileState.the-variants.{Closed, OneReader, MultReaders}
-use Rattle.protocol.specs.Sizes.{clients, nobody}
-use Rattle.protocol.specs.Lists.{count, stored}
+use Rattle.decision.specs.declared.state.FileState.the-variants.{Closed, OneReader, MultReaders}
+use Rattle.decision.specs.Sizes.{maxClients, nobody}
+use Rattle.decision.specs.Lists.{count, stored}
 use Rattle.records.specs.Version.{versionOf}
 use Rattle.records.specs.Record.{notOpen}
-use Rattle.protocol.specs.State.{stateOf}
-use Rattle.protocol.specs.Permission.{permissionAtGrant}
-use Rattle.protocol.specs.Entry.{waitingEntry}
+use Rattle.decision.specs.State.{stateOf}
+use Rattle.decision.specs.Permission.{permissionAtGrant}
 use Rattle.protocol.specs.Client.{grantedClient, keepsBlocks}
 use Rattle.service.specs.declared.service.Service.{Service}
 use Rattle.service.specs.Contents.{entryAt}
+use Rattle.file.specs.FileStep.{fileStep}
+use Rattle.access.specs.BlockStep.{blockStep}
+use Rattle.table.specs.TableStep.{tableStep}
 use Rattle.service.specs.Step.{stepOf}
 use Rattle.service.specs.Fresh.{fresh}
-use Rattle.service.proofs.Run.{OR, OW, CR, AN, XX, RP, EN, grant, grantUncached, after, recovered, stateAt}
-use Rattle.service.proofs.Making.{opens, reading, readingUncached, writing, side, entry, kinds}
+use Rattle.service.proofs.Run.{freshDefault, OR, OW, CR, AN, XX, RP, EN, grant, grantUncached}
+use Rattle.service.proofs.Run.{after, recovered, stateAt}
+use Rattle.service.proofs.Making.{opens, reading, readingUncached, writing, side, entry, kinds, waiting}
 use Rattle.service.proofs.Making.{withFile, withSide, withCopy, inRecovery}
 use Rattle.service.proofs.Making.{reply, entryAfter, sideAfter, copyAfter}
 pub mod Sides
@@ -66,7 +69,7 @@ pub record Fields : Type 0 where
   pub lastBesideCalls : stepOf lastAway (OW 1 0) .calls ≡ kinds 2 0
 
 pub fields : Fields
-unfolding fresh stepOf stateOf permissionAtGrant count stored
+unfolding fresh stepOf fileStep blockStep tableStep stateOf permissionAtGrant count stored
 fields =
     record {
       zeroRead = refl;
@@ -89,10 +92,10 @@ fields =
 abbrev fullCount : Service
 fullCount =
     withSide 1 (side (opens 255 0 true) false 1)
-    (withFile (waitingEntry (entry 1 reading (opens 255 0 true) nobody) 1 Read (kinds 2 0)))
+    (withFile (waiting (entry 1 reading (opens 255 0 true) nobody) 1 Read (kinds 2 0)))
 
 abbrev lastVersion : Service
-lastVersion = withFile (waitingEntry (entry 4294967295 notOpen notOpen 0) 1 Write (kinds 3 0))
+lastVersion = withFile (waiting (entry 4294967295 notOpen notOpen 0) 1 Write (kinds 3 0))
 
 pub record Limits : Type 0 where
   -- an open that waited is granted at a count of 255, which stays at both sides
@@ -104,7 +107,7 @@ pub record Limits : Type 0 where
   pub lastEntry : entryAfter lastVersion (AN 0 0) ≡ entry 4294967295 notOpen writing nobody
 
 pub limits : Limits
-unfolding fresh stepOf stateOf permissionAtGrant count stored
+unfolding fresh stepOf fileStep blockStep tableStep stateOf permissionAtGrant count stored
 limits =
     record {
       fullGrant = refl;
@@ -118,24 +121,24 @@ limits =
 -- is not there", "A callback kind outside 1 to 3", "The opener among the called", "Kinds 1 and 3", "Permission at a
 -- grant"
 abbrev nobodyLeft : Service
-nobodyLeft = withFile (waitingEntry (entry 1 reading notOpen nobody) 1 Write (kinds 0 0))
+nobodyLeft = withFile (waiting (entry 1 reading notOpen nobody) 1 Write (kinds 0 0))
 
 abbrev noWaiter : Service
 noWaiter =
-    withSide 0 (side reading false 1) (withFile (waitingEntry (entry 1 reading notOpen nobody) 8 Write (kinds 3 3)))
+    withSide 0 (side reading false 1) (withFile (waiting (entry 1 reading notOpen nobody) 8 Write (kinds 3 3)))
 
 abbrev noKind : ℕ → Service
-noKind k = withFile (waitingEntry (entry 1 reading reading nobody) 2 Write (kinds k 2))
+noKind k = withFile (waiting (entry 1 reading reading nobody) 2 Write (kinds k 2))
 
 abbrev openerCalled : ℕ → Service
 openerCalled k =
-    withSide 1 (side reading false 1) (withFile (waitingEntry (entry 1 notOpen reading nobody) 1 Write (kinds k 2)))
+    withSide 1 (side reading false 1) (withFile (waiting (entry 1 notOpen reading nobody) 1 Write (kinds k 2)))
 
 abbrev calledFor : ℕ → Service
-calledFor k = withFile (waitingEntry (entry 1 notOpen notOpen 5) 1 Read (kinds k 0))
+calledFor k = withFile (waiting (entry 1 notOpen notOpen 5) 1 Read (kinds k 0))
 
 abbrev stillWriting : Service
-stillWriting = withFile (waitingEntry (entry 1 writing notOpen nobody) 1 Read (kinds 1 0))
+stillWriting = withFile (waiting (entry 1 writing notOpen nobody) 1 Read (kinds 1 0))
 
 pub record Waits : Type 0 where
   -- nobody left to answer: opens get 9 and answers 10, until a crash takes the wait
@@ -145,7 +148,7 @@ pub record Waits : Type 0 where
   -- waiting client 8: an answer gets 10, an open no 9, and a close leaves what is stored
   pub noneAnswer : reply noWaiter (AN 0 0) ≡ Refused 10
   pub noneOpen : reply noWaiter (OR 1 0) ≡ Granted (grant 1 0)
-  pub noneClose : entryAfter noWaiter (CR 0 0) ≡ waitingEntry (entry 1 notOpen notOpen nobody) 8 Write (kinds 3 3)
+  pub noneClose : entryAfter noWaiter (CR 0 0) ≡ waiting (entry 1 notOpen notOpen nobody) 8 Write (kinds 3 3)
   -- after a grant and after a crash nobody waits, for read, and nobody is called, whatever stood there
   pub noneGranted : entryAfter noWaiter (OR 1 0) ≡ entry 1 reading reading nobody
   pub noneCrashed : entryAfter noWaiter XX ≡ entry 1 notOpen notOpen nobody
@@ -164,7 +167,7 @@ pub record Waits : Type 0 where
   pub judged : reply stillWriting (AN 0 0) ≡ AnsweredGrant 1 (grantUncached 1 0)
 
 pub waits : Waits
-unfolding fresh stepOf stateOf permissionAtGrant count stored
+unfolding fresh stepOf fileStep blockStep tableStep stateOf permissionAtGrant count stored
 waits =
     record {
       leftOpen = refl;
@@ -189,13 +192,13 @@ waits =
 -- "A wait stored while recovering", "Reports at the end of recovery", "Reports of a running server", "Two clients with
 -- the last-writer flag"
 abbrev waitStored : Service
-waitStored = inRecovery true false (withFile (waitingEntry (entry 1 reading notOpen nobody) 1 Write (kinds 2 0)))
+waitStored = inRecovery true false (withFile (waiting (entry 1 reading notOpen nobody) 1 Write (kinds 2 0)))
 
 abbrev allReported : Bool → Service
-allReported recovering = inRecovery recovering true fresh
+allReported recovering = inRecovery recovering true freshDefault
 
 abbrev twoFlags : Service
-twoFlags = withSide 0 (side notOpen true 1) (withSide 1 (side notOpen true 1) (inRecovery true false fresh))
+twoFlags = withSide 0 (side notOpen true 1) (withSide 1 (side notOpen true 1) (inRecovery true false freshDefault))
 
 pub record Recoveries : Type 0 where
   -- 5 comes before 9 and 10
@@ -205,7 +208,7 @@ pub record Recoveries : Type 0 where
   pub storedEnd : reply (after waitStored recovered) (OR 2 0) ≡ Refused 9
   pub storedGrant : reply (after waitStored recovered) (AN 0 0) ≡ AnsweredGrant 1 (grant 2 1)
   -- an end clears the reports
-  pub cleared : stepOf (allReported true) EN .service .server .reported ≡ replicate clients false
+  pub cleared : stepOf (allReported true) EN .service .server .table .reported ≡ replicate maxClients false
   -- a running server looks at no report: a report and an end get 6, and a crash takes the reports away
   pub runningReport : reply (allReported false) (RP 0) ≡ Refused 6
   pub runningEnd : reply (allReported false) EN ≡ Refused 6
@@ -215,7 +218,7 @@ pub record Recoveries : Type 0 where
   pub laterFirst : entryAt (after twoFlags (RP 1 ∷ RP 0 ∷ [])) 0 .last ≡ 0
 
 pub recoveries : Recoveries
-unfolding fresh stepOf stateOf permissionAtGrant count stored
+unfolding fresh stepOf fileStep blockStep tableStep stateOf permissionAtGrant count stored
 recoveries =
     record {
       storedOpen = refl;
@@ -243,10 +246,10 @@ pub record Grants : Type 0 where
   pub unlabelled : grantedClient Read (madeGrant 6 5 false) (side reading true 6) ≡ side (opens 2 0 false) true 0
   pub unkept : keepsBlocks Read (madeGrant 6 5 false) (side reading true 6) ≡ false
   -- a count of 255 stays
-  pub fullSide : grantedClient Read (madeGrant 6 5 true) (side (opens 255 0 true) false 6) ≡ side (opens 255 0 true) false 6
+  pub fullSide :
+      grantedClient Read (madeGrant 6 5 true) (side (opens 255 0 true) false 6) ≡ side (opens 255 0 true) false 6
 
 pub grants : Grants
-unfolding fresh stepOf stateOf permissionAtGrant count stored
 grants =
     record {
       latestLess1 = refl;

@@ -1,58 +1,86 @@
 -- The invariant of the whole service: every file and block is as the protocol promises of one, in a running server or
--- in a recovery; and how a step that changes one file, one block or the table keeps it. It leads to the theorem on whole
--- lists of steps. Assumes nothing.
+-- in a recovery; and how a step that changes one file, one block or the table keeps it. It leads to the theorem on
+-- whole lists of steps. Assumes nothing.
 use Prim.Native.Nat.{ℕ, _<_}
-use mathlib.Core.Path.{_≡_, subst⁻¹}
+use mathlib.Core.Path.{_≡_, ap, _∙_, subst⁻¹}
 use mathlib.Core.Bool.{Bool, true, false, _&&_}
-use mathlib.Core.List.{List}
+use mathlib.Core.List.{List, map}
 use lib.Dec.{eqb}
-use lib.ListN.{length, getD}
+use lib.ListN.{length, getD, take, length-map, List·getD-map}
+use lib.Seq.{length-take-le, getD-take}
 use borrow.Author.Tests.{eqb-true}
-use Rattle.protocol.specs.Sizes.{files, blocks}
-use Rattle.protocol.specs.Table.{Row, rowOf}
+use Rattle.decision.specs.declared.sizes.Sizes.{Sizes}
+use Rattle.decision.specs.Sizes.{Permitted}
+use Rattle.protocol.specs.Table.{Row, rowOf, seen}
 use Rattle.protocol.proofs.View.{View}
+use Rattle.table.specs.TableStep.{noEntry}
 use Rattle.service.specs.declared.service.Service.{Service}
-use Rattle.service.specs.Contents.{noEntry, reportedAt}
-use Rattle.service.specs.Demand3.{Memory, written, Recovery, none, since}
+use Rattle.service.specs.Contents.{tableIn, entryAt}
+use Rattle.service.specs.Demand3.{Memory, written, tableOf, Recovery, none, since}
 use Rattle.service.proofs.Tests.{split, eqb-same, both}
-use Rattle.service.proofs.Views.{Sized, viewOf}
-use Rattle.service.proofs.FileSteps.{FileStep}
+use Rattle.service.proofs.Views.{Sized, viewOf, reportsOf}
+use Rattle.service.proofs.FileTurn.{FileStep}
 use Rattle.service.proofs.BlockSteps.{BlockStep}
 use Rattle.service.proofs.TableSteps.{TableStep}
 
+-- ---- the rows of the table, where z are the sizes in force
+
+abbrev rowsOf : Sizes → Service → List Row
+rowsOf z s = map (λ e. rowOf (seen (z .clients) e)) (take (z .files) (tableIn s .files))
+
 -- the row of file f in a table
-abbrev pub rowIn : List Row → ℕ → Row
-rowIn t f = getD t f (rowOf noEntry)
+abbrev pub rowIn : Sizes → List Row → ℕ → Row
+rowIn z t f = getD t f (rowOf (seen (z .clients) noEntry))
+
+module _ {z : Sizes} (most : Permitted z) {s : Service} (n : Sized z s) where
+  table-is : tableOf s ≡ rowsOf z s
+  table-is = ap (λ z. rowsOf z s) (n .sizes)
+
+  pub table-length : length (tableOf s) ≡ z .files
+  table-length =
+      ap length table-is
+      ∙ length-map (take (z .files) (tableIn s .files)) (λ e. rowOf (seen (z .clients) e))
+      ∙ length-take-le (z .files) (tableIn s .files) (rw (n .entries) (most .files))
+
+  pub row-is : (f : ℕ) → f < z .files → rowIn z (tableOf s) f ≡ rowOf (seen (z .clients) (entryAt s f))
+  row-is f hf =
+      ap (λ t. rowIn z t f) table-is
+      ∙ List·getD-map (λ e. rowOf (seen (z .clients) e)) (take (z .files) (tableIn s .files)) f noEntry
+      ∙ ap (λ e. rowOf (seen (z .clients) e)) (getD-take (z .files) (tableIn s .files) f noEntry hf)
+
+-- ---- the invariant
 
 -- P holds of each file, its view at each block, and the number that the reference memory has for it
-abbrev pub Everywhere : (ℕ → View → ℕ → Type 0) → Service → Memory → Type 0
-Everywhere P s m = (f b : ℕ) → f < files → b < blocks → P f (viewOf s f b) (m f b)
+abbrev pub Everywhere : Sizes → (ℕ → View → ℕ → Type 0) → Service → Memory → Type 0
+Everywhere z P s m = (f b : ℕ) → f < z .files → b < z .blocks → P f (viewOf z s f b) (m f b)
 
 -- the server runs
-pub record Runs (Running : View → ℕ → Type 0) (s : Service) (m : Memory) : Type 0 where
-  pub sized : Sized s
-  pub state : s .server .recovering ≡ false
-  pub views : Everywhere (λ f v k. Running v k) s m
+pub record Runs (z : Sizes) (Running : View → ℕ → Type 0) (s : Service) (m : Memory) : Type 0 where
+  pub sized : Sized z s
+  pub state : tableIn s .recovering ≡ false
+  pub views : Everywhere z (λ f v k. Running v k) s m
 
 -- the protocol's promise of each file in a recovery, with these reports and the table t to give back
-abbrev pub InRecovery : (View → ℕ → (ℕ → Bool) → Row → Type 0) → (ℕ → Bool) → List Row → Service → Memory → Type 0
-InRecovery Recovering reported t = Everywhere (λ f v k. Recovering v k reported (rowIn t f))
+abbrev pub InRecovery :
+    Sizes → (View → ℕ → (ℕ → Bool) → Row → Type 0) → (ℕ → Bool) → List Row → Service → Memory → Type 0
+InRecovery z Recovering reported t = Everywhere z (λ f v k. Recovering v k reported (rowIn z t f))
 
 -- the server recovers the table t
 pub record Recovers
+    (z : Sizes)
     (Recovering : View → ℕ → (ℕ → Bool) → Row → Type 0)
     (s : Service)
     (m : Memory)
     (t : List Row) : Type 0 where
-  pub sized : Sized s
-  pub state : s .server .recovering ≡ true
-  pub rows : length t ≡ files
-  pub views : InRecovery Recovering (reportedAt s) t s m
+  pub sized : Sized z s
+  pub state : tableIn s .recovering ≡ true
+  pub rows : length t ≡ z .files
+  pub views : InRecovery z Recovering (reportsOf z s) t s m
 
 abbrev pub Sound :
-    (View → ℕ → Type 0) → (View → ℕ → (ℕ → Bool) → Row → Type 0) → Service → Memory → Recovery → Type 0
-Sound Running Recovering s m none = Runs Running s m
-Sound Running Recovering s m (since t) = Recovers Recovering s m t
+    Sizes → (View → ℕ → Type 0) → (View → ℕ → (ℕ → Bool) → Row → Type 0) → Service → Memory → Recovery → Type 0
+Sound z Running Recovering s m none = Runs z Running s m
+Sound z Running Recovering s m (since t) = Recovers z Recovering s m t
 
 -- ---- after a step
 
@@ -64,54 +92,54 @@ pub written-elsewhere :
     (m : Memory) (f b v g c : ℕ) → (eqb g f && eqb c b) ≡ false → written m f b v g c ≡ m g c
 written-elsewhere m f b v g c e = rw e
 
-module _ (P : ℕ → View → ℕ → Type 0) {s s′ : Service} {m : Memory} where
+module _ (z : Sizes) (P : ℕ → View → ℕ → Type 0) {s s′ : Service} {m : Memory} where
   pub after-file :
       {f : ℕ} {w : ℕ → View}
-      → Everywhere P s m
-      → FileStep s s′ f w
-      → ((b : ℕ) → b < blocks → P f (w b) (m f b))
-      → Everywhere P s′ m
+      → Everywhere z P s m
+      → FileStep z s s′ f w
+      → ((b : ℕ) → b < z .blocks → P f (w b) (m f b))
+      → Everywhere z P s′ m
   after-file {f} {w} h p k g b hg hb =
       split (eqb g f)
-      (λ e. subst⁻¹ (λ g. P g (viewOf s′ g b) (m g b)) (eqb-true g f e) here)
-      (λ e. subst⁻¹ (λ v. P g v (m g b)) (p .elsewhere g b hg hb e) (h g b hg hb))
+      (λ e. subst⁻¹ (λ g. P g (viewOf z s′ g b) (m g b)) (eqb-true g f e) here)
+      (λ e. subst⁻¹ (λ v. P g v (m g b)) (p .elsewhere g b hb e) (h g b hg hb))
     where
-      here : P f (viewOf s′ f b) (m f b)
+      here : P f (viewOf z s′ f b) (m f b)
       here = subst⁻¹ (λ v. P f v (m f b)) (p .here b hb) (k b hb)
 
   pub after-block :
       {f b : ℕ} {w : View} {m′ : Memory}
-      → Everywhere P s m
-      → BlockStep s s′ f b w
+      → Everywhere z P s m
+      → BlockStep z s s′ f b w
       → P f w (m′ f b)
       → ((g c : ℕ) → (eqb g f && eqb c b) ≡ false → m′ g c ≡ m g c)
-      → Everywhere P s′ m′
+      → Everywhere z P s′ m′
   after-block {f} {b} {w} {m′} h p k same g c hg hc = split (eqb g f && eqb c b) here elsewhere
     where
-      here : (eqb g f && eqb c b) ≡ true → P g (viewOf s′ g c) (m′ g c)
+      here : (eqb g f && eqb c b) ≡ true → P g (viewOf z s′ g c) (m′ g c)
       here e =
           let (sameFile, sameBlock) = both (eqb g f) (eqb c b) e in
-          subst⁻¹ (λ g. P g (viewOf s′ g c) (m′ g c)) (eqb-true g f sameFile)
-          (subst⁻¹ (λ c. P f (viewOf s′ f c) (m′ f c)) (eqb-true c b sameBlock)
+          subst⁻¹ (λ g. P g (viewOf z s′ g c) (m′ g c)) (eqb-true g f sameFile)
+          (subst⁻¹ (λ c. P f (viewOf z s′ f c) (m′ f c)) (eqb-true c b sameBlock)
           (subst⁻¹ (λ v. P f v (m′ f b)) (p .here) k))
 
-      elsewhere : (eqb g f && eqb c b) ≡ false → P g (viewOf s′ g c) (m′ g c)
+      elsewhere : (eqb g f && eqb c b) ≡ false → P g (viewOf z s′ g c) (m′ g c)
       elsewhere e =
-          subst⁻¹ (λ v. P g v (m′ g c)) (p .elsewhere g c hg hc e)
-          (subst⁻¹ (λ x. P g (viewOf s g c) x) (same g c e) (h g c hg hc))
+          subst⁻¹ (λ v. P g v (m′ g c)) (p .elsewhere g c hc e)
+          (subst⁻¹ (λ x. P g (viewOf z s g c) x) (same g c e) (h g c hg hc))
 
 pub after-table :
-    {Recovering : View → ℕ → (ℕ → Bool) → Row → Type 0} {s s′ : Service} {m : Memory} {t : List Row}
+    {z : Sizes} {Recovering : View → ℕ → (ℕ → Bool) → Row → Type 0} {s s′ : Service} {m : Memory} {t : List Row}
     {reported : ℕ → Bool} {w : View → View}
-    → TableStep s s′ reported w
-    → s′ .server .recovering ≡ true
-    → length t ≡ files
-    → ((f b : ℕ) → f < files → b < blocks → Recovering (w (viewOf s f b)) (m f b) reported (rowIn t f))
-    → Recovers Recovering s′ m t
-after-table {Recovering} {s} {s′} {m} {t} {reported} {w} p state rows k =
+    → TableStep z s s′ reported w
+    → tableIn s′ .recovering ≡ true
+    → length t ≡ z .files
+    → ((f b : ℕ) → f < z .files → b < z .blocks → Recovering (w (viewOf z s f b)) (m f b) reported (rowIn z t f))
+    → Recovers z Recovering s′ m t
+after-table {z} {Recovering} {s} {s′} {m} {t} {reported} {w} p state rows k =
     record { sized = p .sized; state = state; rows = rows; views = views }
   where
-    views : InRecovery Recovering (reportedAt s′) t s′ m
+    views : InRecovery z Recovering (reportsOf z s′) t s′ m
     views f b hf hb =
-        subst⁻¹ (λ v. Recovering v (m f b) (reportedAt s′) (rowIn t f)) (p .everywhere f b hf)
-        (subst⁻¹ (λ l. Recovering (w (viewOf s f b)) (m f b) l (rowIn t f)) (p .reports) (k f b hf hb))
+        subst⁻¹ (λ v. Recovering v (m f b) (reportsOf z s′) (rowIn z t f)) (p .everywhere f b hf)
+        (subst⁻¹ (λ l. Recovering (w (viewOf z s f b)) (m f b) l (rowIn z t f)) (p .reports) (k f b hf hb))

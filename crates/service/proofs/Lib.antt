@@ -1,17 +1,19 @@
--- The proofs about the service, in reading order: the examples of document 01, the readings of open points and the
--- hand-made states, by evaluation; then Demand 3, which `Consistent` proves from the promises of the protocol of one
--- file.
+-- The proofs about the service, in reading order: the examples of document 01, the readings of open points, the
+-- hand-made states and the sizes as settings, by evaluation; then Demand 3, which `Consistent` proves from the promises of
+-- the protocol of one file.
 pub mod Run
 pub mod Making
 pub mod Edges
 pub mod WholeCase
 pub mod Readings
 pub mod HandMade
-pub mod Rows
+pub mod Sizes
 pub mod Tests
 pub mod Lists
 pub mod Contents
 pub mod Views
+pub mod OneFile
+pub mod FileTurn
 pub mod FileSteps
 pub mod BlockSteps
 pub mod TableSteps
@@ -23,5 +25,3 @@ pub mod WhileRecovering
 pub mod Consistent
 pub mod Demand3
 pub mod Arms
-pub mod Turns
-pub mod Serving

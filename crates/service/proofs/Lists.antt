@@ -1,5 +1,5 @@
--- Reading a list after a store, a run of stores or a repetition, and what a count of none says. A test t says whether
--- the place that is read is the one that was stored. It leads to the places of the service. Assumes nothing.
+-- Reading a list after a store or a run of stores, and what a count of none says. A test t says whether the place that
+-- is read is the one that was stored. It leads to the places of the service. Assumes nothing.
 use Prim.Native.Nat.{ℕ, zero, suc, _+_, _≤_, _<_, zero-le}
 use native.Mathlib.Nat.{not-suc-le-zero, le-refl}
 use native.Mathlib.Omega.{arith}
@@ -7,10 +7,11 @@ use mathlib.Core.Path.{_≡_, refl, sym, ap, _∙_, subst}
 use mathlib.Core.Bool.{Bool, true, false, cond, _&&_}
 use mathlib.Core.List.{List}
 use lib.Dec.{eqb, ltb}
-use lib.ListN.{length, getD, set, replicate, length-set}
+use lib.ListN.{length, getD, set, length-set}
 use lib.Seq.{getD-set-same, getD-set-other}
 use borrow.Author.Tests.{eqb-true, eqb-false, ltb-true, ltb-false, lt-ltb, le-ltb}
-use Rattle.protocol.specs.Lists.{count, stored}
+use Rattle.decision.specs.Lists.{count, stored}
+use Rattle.decision.proofs.Storing.{length-stored}
 use Rattle.service.proofs.Tests.{split, and-true}
 
 module _ {ℓ} {A : Type ℓ} where
@@ -40,17 +41,6 @@ module _ {ℓ} {A : Type ℓ} where
   pub length-put : (l : List A) (p : ℕ) (a : A) (put : Bool) → length (cond put (set l p a) l) ≡ length l
   length-put l p a true = length-set l p a
   length-put l p a false = refl
-
-  pub getD-replicate : (n q : ℕ) (a : A) → getD (replicate n a) q a ≡ a
-  getD-replicate zero q a = refl
-  getD-replicate (suc n) zero a = refl
-  getD-replicate (suc n) (suc q) a = getD-replicate n q a
-
-  pub length-stored : (n : ℕ) (place : ℕ → ℕ) (value : ℕ → A) (l : List A) → length (stored n place value l) ≡ length l
-  unfolding stored
-  length-stored zero place value l = refl
-  length-stored (suc n) place value l =
-      length-set (stored n place value l) (place n) (value n) ∙ length-stored n place value l
 
   -- one store more: at k itself, or not
   stored-next :

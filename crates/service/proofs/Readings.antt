@@ -1,43 +1,49 @@
 -- The readings of open points that docs/DECISIONS.md lists, from the definitions by evaluation. Assumes nothing.
 use mathlib.Core.Path.{_≡_, refl}
 use mathlib.Core.List.{List, [], _∷_, _++_}
-use Rattle.protocol.specs.declared.reply.Reply.the-variants.{Granted, Waiting, Value, Refused, Answered, AnsweredGrant, Done}
-use Rattle.protocol.specs.declared.state.FileState.the-variants.{Closed, OneReader, OneReaderDirty, WriteShared}
-use Rattle.protocol.specs.Lists.{count, stored}
-use Rattle.protocol.specs.State.{stateOf}
-use Rattle.protocol.specs.Permission.{permissionAtGrant}
+use Rattle.protocol.specs.declared.reply.Reply.the-variants.{Granted, Waiting, Value, Refused, AnsweredGrant, Done}
+use Rattle.protocol.specs.declared.step.Step.{Step}
+use Rattle.decision.specs.declared.state.FileState.the-variants.{Closed, OneReader, WriteShared}
+use Rattle.decision.specs.Lists.{count, stored}
+use Rattle.decision.specs.State.{stateOf}
+use Rattle.decision.specs.Permission.{permissionAtGrant}
 use Rattle.service.specs.Contents.{entryAt}
+use Rattle.file.specs.FileStep.{fileStep}
+use Rattle.access.specs.BlockStep.{blockStep}
+use Rattle.table.specs.TableStep.{tableStep}
 use Rattle.service.specs.Step.{stepOf}
 use Rattle.service.specs.Fresh.{fresh}
-use Rattle.service.proofs.Run.{OR, OW, CR, CW, RD, WR, FL, AN, XX, RP, EN, grant, grantUncached, replies, after, answerAfter, recovered, stateAt}
+use Rattle.service.proofs.Run.{freshDefault, OR, OW, CR, CW, RD, WR, FL, AN, XX, RP, grant, grantUncached}
+use Rattle.service.proofs.Run.{replies, after, answerAfter, recovered, stateAt}
 
 -- an invalidation that a crash breaks off: clients 1 and 2 read, 3 opens for write, 1 has answered
-abbrev brokenOff : List Rattle.protocol.specs.declared.step.Step.Step
+abbrev brokenOff : List Step
 brokenOff = OR 1 0 ∷ OR 2 0 ∷ OW 3 0 ∷ AN 1 0 ∷ XX ∷ recovered
 
 pub record Readings : Type 0 where
   -- a step names any number
-  pub anyNumber : answerAfter fresh [] (OR 18446744073709551615 0) ≡ Refused 2
+  pub anyNumber : answerAfter freshDefault [] (OR 18446744073709551615 0) ≡ Refused 2
   -- in recovery a read or a write at a client that is not open is refused with 5, never 11
-  pub readInRecovery : answerAfter fresh (XX ∷ []) (RD 0 0 0) ≡ Refused 5
-  pub writeInRecovery : answerAfter fresh (XX ∷ []) (WR 0 0 0 1) ≡ Refused 5
+  pub readInRecovery : answerAfter freshDefault (XX ∷ []) (RD 0 0 0) ≡ Refused 5
+  pub writeInRecovery : answerAfter freshDefault (XX ∷ []) (WR 0 0 0 1) ≡ Refused 5
   -- the table as it stands, in recovery and with half of the answers in
-  pub tableInRecovery : stateAt (after fresh (OW 0 0 ∷ XX ∷ [])) 0 ≡ Closed
-  pub halfAnswered : stateAt (after fresh (OR 1 0 ∷ OR 2 0 ∷ OW 3 0 ∷ AN 1 0 ∷ [])) 0 ≡ WriteShared
-  -- 9 is for anyone, the waiting opener and an open that would keep its permission included, and comes before 11 at a close
-  pub waitingOpener : answerAfter fresh (OR 0 0 ∷ OW 1 0 ∷ []) (OW 1 0) ≡ Refused 9
-  pub keptOpen : answerAfter fresh (OR 0 0 ∷ OW 1 0 ∷ []) (OR 0 0) ≡ Refused 9
-  pub closeWaits : answerAfter fresh (OR 0 0 ∷ OW 1 0 ∷ []) (CR 2 0) ≡ Refused 9
+  pub tableInRecovery : stateAt (after freshDefault (OW 0 0 ∷ XX ∷ [])) 0 ≡ Closed
+  pub halfAnswered : stateAt (after freshDefault (OR 1 0 ∷ OR 2 0 ∷ OW 3 0 ∷ AN 1 0 ∷ [])) 0 ≡ WriteShared
+  -- 9 is for anyone, the waiting opener and an open that would keep its permission included, and comes before 11 at a
+  -- close
+  pub waitingOpener : answerAfter freshDefault (OR 0 0 ∷ OW 1 0 ∷ []) (OW 1 0) ≡ Refused 9
+  pub keptOpen : answerAfter freshDefault (OR 0 0 ∷ OW 1 0 ∷ []) (OR 0 0) ≡ Refused 9
+  pub closeWaits : answerAfter freshDefault (OR 0 0 ∷ OW 1 0 ∷ []) (CR 2 0) ≡ Refused 9
   -- a repeated write open raises the version
-  pub repeated : replies fresh (OW 0 0 ∷ OW 0 0 ∷ []) ≡ Granted (grant 2 1) ∷ Granted (grant 3 2) ∷ []
+  pub repeated : replies freshDefault (OW 0 0 ∷ OW 0 0 ∷ []) ≡ Granted (grant 2 1) ∷ Granted (grant 3 2) ∷ []
   -- a write open raises the writers alone, and allows reads
-  pub writersAlone : answerAfter fresh (OW 0 0 ∷ []) (CR 0 0) ≡ Refused 11
-  pub readsToo : answerAfter fresh (OW 0 0 ∷ []) (RD 0 0 0) ≡ Value 0
+  pub writersAlone : answerAfter freshDefault (OW 0 0 ∷ []) (CR 0 0) ≡ Refused 11
+  pub readsToo : answerAfter freshDefault (OW 0 0 ∷ []) (RD 0 0 0) ≡ Value 0
   -- the version before 1 is 0
-  pub beforeFirst : answerAfter fresh [] (OR 0 0) ≡ Granted (grant 1 0)
+  pub beforeFirst : answerAfter freshDefault [] (OR 0 0) ≡ Granted (grant 1 0)
   -- a flush is allowed while an open waits, and leaves the callback due, the flag and the last writer
   pub flushWhileWaiting :
-      replies fresh (OW 0 0 ∷ WR 0 0 0 5 ∷ CW 0 0 ∷ OR 1 0 ∷ FL 0 0 0 ∷ AN 0 0 ∷ RD 1 0 0 ∷ [])
+      replies freshDefault (OW 0 0 ∷ WR 0 0 0 5 ∷ CW 0 0 ∷ OR 1 0 ∷ FL 0 0 0 ∷ AN 0 0 ∷ RD 1 0 0 ∷ [])
       ≡ Granted (grant 2 1)
       ∷ Done
       ∷ Done
@@ -48,7 +54,7 @@ pub record Readings : Type 0 where
       ∷ []
   -- a called client goes on reading and writing its copy until it answers
   pub untilAnswer :
-      replies fresh (OW 0 0 ∷ OR 1 0 ∷ WR 0 0 0 6 ∷ RD 0 0 0 ∷ AN 0 0 ∷ RD 1 0 0 ∷ [])
+      replies freshDefault (OW 0 0 ∷ OR 1 0 ∷ WR 0 0 0 6 ∷ RD 0 0 0 ∷ AN 0 0 ∷ RD 1 0 0 ∷ [])
       ≡ Granted (grant 2 1)
       ∷ Waiting
       ∷ Done
@@ -57,15 +63,15 @@ pub record Readings : Type 0 where
       ∷ Value 6
       ∷ []
   -- a report without the flag leaves the last writer as it is
-  pub noFlag : entryAt (after fresh (OW 0 0 ∷ CW 0 0 ∷ XX ∷ RP 0 ∷ RP 1 ∷ [])) 0 .last ≡ 0
+  pub noFlag : entryAt (after freshDefault (OW 0 0 ∷ CW 0 0 ∷ XX ∷ RP 0 ∷ RP 1 ∷ [])) 0 .last ≡ 0
   -- a broken-off invalidation
-  pub brokenWrite : answerAfter fresh brokenOff (OW 2 0) ≡ Granted (grantUncached 2 1)
-  pub brokenRead : answerAfter fresh brokenOff (OR 2 0) ≡ Granted (grant 1 0)
-  pub brokenOther : answerAfter fresh brokenOff (OR 1 0) ≡ Granted (grantUncached 1 0)
-  pub brokenClose : stateAt (after fresh (brokenOff ++ (CR 1 0 ∷ []))) 0 ≡ OneReader
+  pub brokenWrite : answerAfter freshDefault brokenOff (OW 2 0) ≡ Granted (grantUncached 2 1)
+  pub brokenRead : answerAfter freshDefault brokenOff (OR 2 0) ≡ Granted (grant 1 0)
+  pub brokenOther : answerAfter freshDefault brokenOff (OR 1 0) ≡ Granted (grantUncached 1 0)
+  pub brokenClose : stateAt (after freshDefault (brokenOff ++ (CR 1 0 ∷ []))) 0 ≡ OneReader
   -- a second crash takes the reports back
   pub secondCrash :
-      replies fresh (OR 0 0 ∷ RD 0 0 0 ∷ XX ∷ RP 0 ∷ RD 0 0 0 ∷ XX ∷ RD 0 0 0 ∷ [])
+      replies freshDefault (OR 0 0 ∷ RD 0 0 0 ∷ XX ∷ RP 0 ∷ RD 0 0 0 ∷ XX ∷ RD 0 0 0 ∷ [])
       ≡ Granted (grant 1 0)
       ∷ Value 0
       ∷ Done
@@ -76,7 +82,7 @@ pub record Readings : Type 0 where
       ∷ []
 
 pub readings : Readings
-unfolding fresh stepOf stateOf permissionAtGrant count stored
+unfolding fresh stepOf fileStep blockStep tableStep stateOf permissionAtGrant count stored
 readings =
     record {
       anyNumber = refl;

@@ -1,21 +1,26 @@
--- Lists of steps after on a service, for the examples. Assumes nothing.
+-- Lists of steps on a service, for the examples. Assumes nothing.
 use Prim.Native.Nat.{ℕ, zero, suc}
-use mathlib.Core.List.{List, [], _∷_, _++_}
+use mathlib.Core.List.{List, [], _∷_}
 use mathlib.Core.Bool.{true, false}
 use Rattle.records.specs.declared.record.ClientRecord.{ClientRecord}
 use Rattle.records.specs.declared.record.Mode.the-variants.{Read as ForRead, Write as ForWrite}
 use Rattle.protocol.specs.declared.reply.Grant.{Grant}
 use Rattle.protocol.specs.declared.reply.Reply.{Reply}
-use Rattle.protocol.specs.declared.state.FileState.{FileState}
+use Rattle.decision.specs.declared.state.FileState.{FileState}
 use Rattle.protocol.specs.declared.step.Step.{Step}
 use Rattle.protocol.specs.declared.step.Step.the-variants.{Open, Close, Read, Write, Flush, Answer, Crash, Report, End}
-use Rattle.protocol.specs.Sizes.{clients}
+use Rattle.decision.specs.Sizes.{defaultSizes}
 use Rattle.records.specs.Version.{versionOf}
-use Rattle.protocol.specs.State.{stateOf}
+use Rattle.decision.specs.State.{stateOf}
 use Rattle.protocol.specs.Entry.{recordAt}
 use Rattle.service.specs.declared.service.Service.{Service}
-use Rattle.service.specs.Contents.{entryAt}
+use Rattle.service.specs.Contents.{sizesOf, entryAt}
 use Rattle.service.specs.Step.{stepOf}
+use Rattle.service.specs.Fresh.{fresh}
+
+-- "without it 8, 32 and 4 hold" (document 02, Wish 7): the fresh service where no sizes are given
+abbrev pub freshDefault : Service
+freshDefault = fresh defaultSizes
 
 -- the words of the step file
 abbrev pub OR : ℕ → ℕ → Step
@@ -80,7 +85,7 @@ abbrev pub recovered : List Step
 recovered = RP 0 ∷ RP 1 ∷ RP 2 ∷ RP 3 ∷ RP 4 ∷ RP 5 ∷ RP 6 ∷ RP 7 ∷ EN ∷ []
 
 abbrev pub stateAt : Service → ℕ → FileState
-stateAt s f = stateOf clients (recordAt (entryAt s f)) (entryAt s f .last)
+stateAt s f = stateOf (sizesOf s .clients) (recordAt (entryAt s f)) (entryAt s f .last)
 
 abbrev pub serverRecord : Service → ℕ → ℕ → ClientRecord
 serverRecord s i f = recordAt (entryAt s f) i

@@ -2,78 +2,124 @@
 -- whole service. Assumes nothing.
 use Prim.Native.Nat.{ℕ, _<_}
 use mathlib.Core.Path.{_≡_, refl, ap, _∙_, fun-ext}
-use mathlib.Core.Bool.{Bool, true, false}
+use mathlib.Core.Bool.{Bool, true, false, cond}
 use mathlib.Core.List.{List}
-use lib.Dec.{eqb}
-use lib.ListN.{length, getD, set, replicate, length-set, length-replicate}
+use native.Mathlib.Omega.{arith}
+use lib.Dec.{eqb, ltb}
+use lib.ListN.{length, getD, length-set}
+use borrow.Author.Tests.{ltb-true}
+use Rattle.decision.specs.declared.sizes.Sizes.{Sizes}
+use Rattle.decision.specs.Sizes.{maxClients, maxFiles, Permitted}
+use Rattle.decision.specs.Lists.{stored, filled}
+use Rattle.decision.proofs.InForce.{client-fits, file-fits}
+use Rattle.decision.proofs.Storing.{length-stored, getD-stored}
 use Rattle.protocol.specs.declared.entry.Entry.{Entry}
-use Rattle.protocol.specs.Sizes.{clients, files}
-use Rattle.protocol.specs.Lists.{stored}
 use Rattle.protocol.specs.Entry.{crashedEntry, reportedEntry}
+use Rattle.protocol.specs.Table.{seen}
+use Rattle.protocol.proofs.Seen.{crashed-seen, reported-seen}
 use Rattle.protocol.proofs.View.{View, at, withEntry, crashedView, reportedView}
+use Rattle.table.specs.declared.table.Table.{Table}
+use Rattle.table.specs.TableStep.{noEntry, crashed, reported, ended}
 use Rattle.service.specs.declared.service.Service.{Service}
-use Rattle.service.specs.Contents.{noEntry, entryAt, clientAt, reportedAt}
-use Rattle.service.specs.Next.{afterCrash, afterReport, afterEnd}
-use Rattle.service.proofs.Lists.{getD-set, getD-replicate, getD-stored, length-stored}
-use Rattle.service.proofs.Views.{Sized, withTable, sized-table, viewOf}
+use Rattle.service.specs.Contents.{tableIn, entryAt, clientAt, withTable}
+use Rattle.service.proofs.Tests.{split}
+use Rattle.service.proofs.Lists.{getD-set}
+use Rattle.service.proofs.Views.{Sized, within-at, viewOf, reportsOf, client-is}
 
 -- From s to s′ every view v becomes w v, and these are the reports that the server has then.
-pub record TableStep (s s′ : Service) (reported : ℕ → Bool) (w : View → View) : Type 0 where
-  pub sized : Sized s′
-  pub reports : reportedAt s′ ≡ reported
-  pub everywhere : (f b : ℕ) → f < files → viewOf s′ f b ≡ w (viewOf s f b)
+pub record TableStep (z : Sizes) (s s′ : Service) (reported : ℕ → Bool) (w : View → View) : Type 0 where
+  pub sized : Sized z s′
+  pub reports : reportsOf z s′ ≡ reported
+  pub everywhere : (f b : ℕ) → f < z .files → viewOf z s′ f b ≡ w (viewOf z s f b)
 
--- every entry is stored
-abbrev entries : Service → (ℕ → Entry) → List Entry
-entries s entry = stored files (λ f. f) entry (s .server .files)
+sized-table :
+    {z : Sizes} {s : Service} (t : Table)
+    → Sized z s
+    → length (t .files) ≡ maxFiles
+    → length (t .reported) ≡ maxClients
+    → Sized z (withTable s t)
+sized-table t n e r =
+    record {
+      sizes = n .sizes;
+      entries = e;
+      words = n .words;
+      reports = r;
+      files = n .files;
+      sides = n .sides;
+      copies = n .copies;
+      held = n .held;
+      dirty = n .dirty;
+    }
 
-sized-entries : {s : Service} (entry : ℕ → Entry) → Sized s → length (entries s entry) ≡ files
-sized-entries {s} entry n = length-stored files (λ f. f) entry (s .server .files) ∙ n .entries
+module _ {z : Sizes} (most : Permitted z) {s : Service} (n : Sized z s) where
+  -- the entry of every file is stored
+  abbrev entries : (ℕ → Entry) → List Entry
+  entries entry = stored (z .files) (λ f. f) entry (tableIn s .files)
 
-view-entries :
-    {s : Service} (entry : ℕ → Entry) (recovering : Bool) (reported : List Bool) (f b : ℕ)
-    → Sized s
-    → f < files
-    → viewOf (withTable s (entries s entry) recovering reported) f b ≡ withEntry (viewOf s f b) (entry f)
-view-entries {s} entry recovering reported f b n hf =
-    let inside : (g : ℕ) → g < files → g < length (s .server .files) = λ g hg. rw (n .entries) hg in
-    ap (λ e. withEntry (viewOf s f b) e)
-    (getD-stored files (λ g. g) entry (s .server .files) f noEntry true f hf inside (λ g hg. refl))
+  sized-entries : (entry : ℕ → Entry) → length (entries entry) ≡ maxFiles
+  sized-entries entry = length-stored (z .files) (λ f. f) entry (tableIn s .files) ∙ n .entries
 
--- no client has reported
-abbrev noReports : List Bool
-noReports = replicate clients false
+  stored-entry : (entry : ℕ → Entry) (f : ℕ) → f < z .files → getD (entries entry) f noEntry ≡ entry f
+  stored-entry entry f hf =
+      getD-stored (z .files) (λ g. g) entry (tableIn s .files) noEntry f hf (rw (n .entries) (file-fits most hf))
+      (λ g above _. omega arith)
 
-none-reported : _≡_ {A = ℕ → Bool} (λ i. getD noReports i false) (λ i. false)
-none-reported = fun-ext (λ i. getD-replicate clients i false)
+  -- no client has reported
+  abbrev unreported : List Bool
+  unreported = filled (z .clients) false (tableIn s .reported)
 
-module _ {s : Service} (n : Sized s) where
-  pub crash-step : TableStep s (afterCrash s) (λ i. false) (crashedView clients)
+  sized-unreported : length unreported ≡ maxClients
+  sized-unreported = length-stored (z .clients) (λ i. i) (λ i. false) (tableIn s .reported) ∙ n .reports
+
+  none-reported : _≡_ {A = ℕ → Bool} (λ i. cond (ltb i (z .clients)) (getD unreported i false) false) (λ i. false)
+  none-reported =
+      fun-ext
+      (λ i.
+      split (ltb i (z .clients))
+      (λ e.
+      let below = ltb-true i (z .clients) e in
+      rw e
+      (getD-stored (z .clients) (λ j. j) (λ j. false) (tableIn s .reported) false i below
+      (rw (n .reports) (client-fits most below)) (λ j above _. omega arith)))
+      (λ e. rw e))
+
+  pub crash-step : TableStep z s (withTable s (crashed z (tableIn s))) (λ i. false) (crashedView (z .clients))
   crash-step =
-      let entry : ℕ → Entry = λ f. crashedEntry clients (entryAt s f .version) in
+      let m = z .clients in
+      let entry : ℕ → Entry = λ f. crashedEntry m (entryAt s f) in
       record {
-        sized = sized-table (entries s entry) true noReports n (sized-entries entry n) (length-replicate clients false);
+        sized = sized-table (crashed z (tableIn s)) n (sized-entries entry) sized-unreported;
         reports = none-reported;
-        everywhere = λ f b hf. view-entries entry true noReports f b n hf;
+        everywhere = λ f b hf.
+            ap (withEntry (viewOf z s f b)) (ap (seen m) (stored-entry entry f hf) ∙ crashed-seen m (entryAt s f));
       }
 
   pub report-step :
-      {i : ℕ} → i < clients → TableStep s (afterReport s i) (at i true (reportedAt s)) (λ v. reportedView v i)
+      {i : ℕ}
+      → i < z .clients
+      → TableStep z s (withTable s (reported z (tableIn s) (s .clients) i)) (at i true (reportsOf z s))
+      (λ v. reportedView v i)
   report-step {i} hi =
+      let m = z .clients in
       let entry : ℕ → Entry = λ f. reportedEntry (entryAt s f) i (clientAt s i f) in
-      let before : List Bool = s .server .reported in
-      let after : List Bool = set before i true in
-      let size : length after ≡ clients = length-set before i true ∙ n .reports in
+      let before : List Bool = tableIn s .reported in
+      let room : i < length before = rw (n .reports) (client-fits most hi) in
       record {
-        sized = sized-table (entries s entry) (s .server .recovering) after n (sized-entries entry n) size;
-        reports = fun-ext (λ j. getD-set before i j true false (eqb j i) (rw (n .reports) hi) refl);
-        everywhere = λ f b hf. view-entries entry (s .server .recovering) after f b n hf;
+        sized = sized-table (reported z (tableIn s) (s .clients) i) n (sized-entries entry)
+            (length-set before i true ∙ n .reports);
+        reports = fun-ext
+            (λ j. within-at m false i j _ _ true true hi (λ hj. getD-set before i j true false (eqb j i) room refl));
+        everywhere = λ f b hf.
+            ap (withEntry (viewOf z s f b))
+            (ap (seen m) (stored-entry entry f hf)
+            ∙ reported-seen m (entryAt s f) i hi (clientAt s i f)
+            ∙ ap (reportedEntry (seen m (entryAt s f)) i) (client-is z s f b hi));
       }
 
-  pub end-step : TableStep s (afterEnd s) (λ i. false) (λ v. v)
+  pub end-step : TableStep z s (withTable s (ended z (tableIn s))) (λ i. false) (λ v. v)
   end-step =
       record {
-        sized = sized-table (s .server .files) false noReports n (n .entries) (length-replicate clients false);
+        sized = sized-table (ended z (tableIn s)) n (n .entries) sized-unreported;
         reports = none-reported;
         everywhere = λ f b hf. refl;
       }

@@ -1,56 +1,99 @@
 -- What stands where in the service. The definitions of the steps look at it through these alone.
 use Prim.Native.Nat.{ℕ}
-use mathlib.Core.Bool.{Bool, false}
-use mathlib.Core.List.{List, []}
-use lib.ListN.{getD, set}
-use Rattle.records.specs.declared.record.Mode.the-variants.{Read}
-use Rattle.protocol.specs.declared.entry.Entry.{Entry}
+use mathlib.Core.Bool.{Bool}
+use lib.ListN.{set}
+use Rattle.decision.specs.declared.sizes.Sizes.{Sizes}
+use Rattle.decision.specs.Sizes.{inForce}
 use Rattle.protocol.specs.declared.client.ClientFile.{ClientFile}
-use Rattle.protocol.specs.Sizes.{slot, place, cell}
-use Rattle.records.specs.Version.{noVersion}
-use Rattle.records.specs.Record.{notOpen}
-use Rattle.service.specs.declared.server.Server.{Server}
+use Rattle.protocol.specs.declared.client.Sides.{Sides}
+use Rattle.protocol.specs.declared.entry.Entry.{Entry}
+use Rattle.protocol.specs.Client.{sideOf}
+use Rattle.blocks.specs.Stores.{Stores, blockIn, copyIn, heldIn, dirtyIn}
+use Rattle.file.specs.declared.file.SharedFile.{SharedFile}
+use Rattle.table.specs.declared.table.Table.{Table}
+use Rattle.table.specs.TableStep.{entryIn, sidesIn, isReported}
 use Rattle.service.specs.declared.service.Service.{Service}
 
--- what a list gives past its end; no step looks there
-abbrev pub noEntry : Entry
-noEntry = record { records = []; version = noVersion; last = 0; waiter = 0; mode = Read; calls = [] }
+-- the sizes in force
+abbrev pub sizesOf : Service → Sizes
+sizesOf s = inForce (s .sizes)
 
-abbrev pub noClient : ClientFile
-noClient = record { opens = notOpen; marked = false; label = noVersion }
+abbrev pub tableIn : Service → Table
+tableIn s = s .server .table
 
-abbrev pub entryIn : Server → ℕ → Entry
-entryIn v f = getD (v .files) f noEntry
-
+-- the server's entry of file f, and its block b
 abbrev pub entryAt : Service → ℕ → Entry
-entryAt s f = entryIn (s .server) f
+entryAt s f = entryIn (tableIn s) f
+
+abbrev pub storesOf : Service → Stores
+storesOf s = record { blocks = s .server .blocks; copies = s .copies; held = s .held; dirty = s .dirty }
 
 abbrev pub blockAt : Service → ℕ → ℕ → ℕ
-blockAt s f b = getD (s .server .blocks) (place f b) 0
+blockAt s f b = blockIn (storesOf s) f b
 
+-- whether client i has reported
 abbrev pub reportedAt : Service → ℕ → Bool
-reportedAt s i = getD (s .server .reported) i false
+reportedAt s i = isReported (tableIn s .reported) i
 
-abbrev pub clientIn : List ClientFile → ℕ → ℕ → ClientFile
-clientIn cs i f = getD cs (slot i f) noClient
+-- the clients' sides of file f, client i's, and its copy of block b
+abbrev pub sidesAt : Service → ℕ → Sides
+sidesAt s f = sidesIn (s .clients) f
 
 abbrev pub clientAt : Service → ℕ → ℕ → ClientFile
-clientAt s i f = clientIn (s .clients) i f
+clientAt s i f = sideOf (sidesAt s f) i
 
 abbrev pub copyAt : Service → ℕ → ℕ → ℕ → ℕ
-copyAt s i f b = getD (s .copies) (cell i f b) 0
+copyAt s i f b = copyIn (storesOf s) i f b
 
 abbrev pub heldAt : Service → ℕ → ℕ → ℕ → Bool
-heldAt s i f b = getD (s .held) (cell i f b) false
+heldAt s i f b = heldIn (storesOf s) i f b
 
 abbrev pub dirtyAt : Service → ℕ → ℕ → ℕ → Bool
-dirtyAt s i f b = getD (s .dirty) (cell i f b) false
+dirtyAt s i f b = dirtyIn (storesOf s) i f b
 
--- the server with another entry for file f, or another value for a block
-abbrev pub withEntry : Server → ℕ → Entry → Server
-withEntry v f e =
-    record { files = set (v .files) f e; blocks = v .blocks; recovering = v .recovering; reported = v .reported }
+-- file f at both sides
+abbrev pub fileAt : Service → ℕ → SharedFile
+fileAt s f = record { entry = entryAt s f; sides = sidesAt s f }
 
-abbrev pub withBlock : Server → ℕ → ℕ → ℕ → Server
-withBlock v f b x =
-    record { files = v .files; blocks = set (v .blocks) (place f b) x; recovering = v .recovering; reported = v .reported }
+-- the service with other blocks and copies, with another table, and with another file f
+abbrev pub withStores : Service → Stores → Service
+withStores s a =
+    record {
+      sizes = s .sizes;
+      server = record { table = tableIn s; blocks = a .blocks };
+      clients = s .clients;
+      copies = a .copies;
+      held = a .held;
+      dirty = a .dirty;
+    }
+
+abbrev pub withTable : Service → Table → Service
+withTable s t =
+    record {
+      sizes = s .sizes;
+      server = record { table = t; blocks = s .server .blocks };
+      clients = s .clients;
+      copies = s .copies;
+      held = s .held;
+      dirty = s .dirty;
+    }
+
+abbrev pub withFile : Service → ℕ → SharedFile → Stores → Service
+withFile s f x a =
+    record {
+      sizes = s .sizes;
+      server =
+          record {
+            table =
+                record {
+                  files = set (tableIn s .files) f (x .entry);
+                  recovering = tableIn s .recovering;
+                  reported = tableIn s .reported;
+                };
+            blocks = a .blocks;
+          };
+      clients = set (s .clients) f (x .sides);
+      copies = a .copies;
+      held = a .held;
+      dirty = a .dirty;
+    }

@@ -5,15 +5,16 @@ use mathlib.Core.Path.{_≡_}
 use mathlib.Core.Bool.{Bool, true, false, cond, _&&_}
 use mathlib.Core.List.{List, [], _∷_, map}
 use lib.Dec.{eqb}
+use lib.ListN.{take}
 use Rattle.protocol.specs.declared.reply.Reply.the-variants.{Value}
 use Rattle.protocol.specs.declared.step.Step.{Step}
 use Rattle.protocol.specs.declared.step.Step.the-variants.{Open, Close, Read, Write, Flush, Answer, Crash, Report, End}
-use Rattle.protocol.specs.Sizes.{clients, files}
+use Rattle.decision.specs.declared.sizes.Sizes.{Sizes}
 use Rattle.protocol.specs.Reply.{isRefused}
 use Rattle.protocol.specs.Entry.{waits}
-use Rattle.protocol.specs.Table.{Row, rowOf}
+use Rattle.protocol.specs.Table.{Row, rowOf, seen}
 use Rattle.service.specs.declared.service.Service.{Service}
-use Rattle.service.specs.Contents.{entryAt}
+use Rattle.service.specs.Contents.{sizesOf, tableIn, entryAt}
 use Rattle.service.specs.Step.{stepOf}
 use Rattle.service.specs.Fresh.{fresh}
 
@@ -47,12 +48,12 @@ fed m Crash refusal = m
 fed m (Report i) refusal = m
 fed m End refusal = m
 
--- the state table of the service: a row for each file
+-- the state table of the service: a row for each file, with a record for each client
 abbrev pub tableOf : Service → List Row
-tableOf s = map rowOf (s .server .files)
+tableOf s = map (λ e. rowOf (seen (sizesOf s .clients) e)) (take (sizesOf s .files) (tableIn s .files))
 
 abbrev pub NoOpenWaits : Service → Type 0
-NoOpenWaits s = (f : ℕ) → f < files → waits clients (entryAt s f) ≡ false
+NoOpenWaits s = (f : ℕ) → f < sizesOf s .files → waits (sizesOf s .clients) (entryAt s f) ≡ false
 
 -- "A recovery begins with a crash that comes while none is under way, and lasts, through any further crashes, to the
 -- next accepted end": none is under way, or one with the table just before the crash that began it.
@@ -97,6 +98,6 @@ Holds s m r (x ∷ xs) =
 pub record Consistent (s : Service) : Type 0 where
   pub always : (steps : List Step) → Holds s blank none steps
 
--- Demand 3
+-- Demand 3, for any sizes: those out of range count as not given
 abbrev pub Demand3 : Type 0
-Demand3 = Consistent fresh
+Demand3 = (z : Sizes) → Consistent (fresh z)

@@ -2,25 +2,29 @@
 -- permission, mark, last writer, wait, call or report; not recovering".
 use mathlib.Core.Bool.{false}
 use lib.ListN.{replicate}
-use Rattle.protocol.specs.Sizes.{clients}
-use Rattle.records.specs.Version.{firstVersion}
-use Rattle.protocol.specs.Entry.{crashedEntry}
+use Rattle.decision.specs.declared.sizes.Sizes.{Sizes}
+use Rattle.decision.specs.Sizes.{maxClients, maxFiles, maxPlaces, maxCells}
+use Rattle.protocol.specs.Entry.{freshEntry}
+use Rattle.protocol.specs.Client.{noClient}
 use Rattle.service.specs.declared.service.Service.{Service}
-use Rattle.service.specs.Contents.{noClient}
 
--- an entry of which nothing but the version 1 is told is one that a crash leaves
-unfoldable pub fresh : Service
-fresh =
+-- "chosen when the service starts": of any sizes
+unfoldable pub fresh : Sizes → Service
+fresh z =
     record {
+      sizes = z;
       server =
           record {
-            files = replicate 32 (crashedEntry clients firstVersion);
-            blocks = replicate 128 0;
-            recovering = false;
-            reported = replicate clients false;
+            table =
+                record {
+                  files = replicate maxFiles (freshEntry maxClients);
+                  recovering = false;
+                  reported = replicate maxClients false;
+                };
+            blocks = replicate maxPlaces 0;
           };
-      clients = replicate 256 noClient;
-      copies = replicate 1024 0;
-      held = replicate 1024 false;
-      dirty = replicate 1024 false;
+      clients = replicate maxFiles (record { of = replicate maxClients noClient });
+      copies = replicate maxCells 0;
+      held = replicate maxCells false;
+      dirty = replicate maxCells false;
     }

@@ -1,18 +1,32 @@
--- The outcome of a step, from any service: "A refusal gives only its number; server, stations and every lent buffer
--- stay as they came."
+-- The outcome of a step, from any service: what the step on a file, on a block or on the table leaves, put in its place.
 use Prim.Native.Nat.{ℕ}
-use mathlib.Core.Bool.{cond}
-use lib.Dec.{eqb}
-use Rattle.protocol.specs.declared.reply.Reply.the-variants.{Refused}
+use Rattle.protocol.specs.declared.step.Class.{Class}
+use Rattle.protocol.specs.declared.step.Class.the-variants.{OnFile, OnBlock, OnTable}
 use Rattle.protocol.specs.declared.step.Step.{Step}
+use Rattle.protocol.specs.Step.{classOf}
+use Rattle.access.specs.BlockStep.{BlockAfter, blockStep}
+use Rattle.file.specs.FileStep.{FileAfter, noCalls, fileStep}
+use Rattle.table.specs.declared.table.TableOutcome.{TableOutcome}
+use Rattle.table.specs.TableStep.{tableStep}
 use Rattle.service.specs.declared.service.Service.{Service}
 use Rattle.service.specs.declared.outcome.Outcome.{Outcome}
-use Rattle.service.specs.Refusal.{refusalOf}
-use Rattle.service.specs.Next.{nextOf}
-use Rattle.service.specs.Answer.{noCalls, replyOf, callsOf}
+use Rattle.service.specs.Contents.{sizesOf, tableIn, reportedAt, clientAt, fileAt, storesOf, withFile, withStores, withTable}
+
+abbrev pub fileOutcome : Service → ℕ → FileAfter → Outcome
+fileOutcome s f o = record { service = withFile s f (o .file) (o .stores); reply = o .reply; calls = o .calls }
+
+abbrev pub blockOutcome : Service → BlockAfter → Outcome
+blockOutcome s o = record { service = withStores s (o .stores); reply = o .reply; calls = noCalls }
+
+abbrev pub tableOutcome : Service → TableOutcome → Outcome
+tableOutcome s o = record { service = withTable s (o .table); reply = o .reply; calls = noCalls }
+
+abbrev pub outcomeIn : Service → Step → Class → Outcome
+outcomeIn s x (OnFile f) =
+    fileOutcome s f (fileStep (sizesOf s) (tableIn s .recovering) (fileAt s f) (storesOf s) x)
+outcomeIn s x (OnBlock i f) =
+    blockOutcome s (blockStep (sizesOf s) (tableIn s .recovering) (reportedAt s i) (clientAt s i f) (storesOf s) x)
+outcomeIn s x OnTable = tableOutcome s (tableStep (sizesOf s) (tableIn s) (s .clients) x)
 
 unfoldable pub stepOf : Service → Step → Outcome
-stepOf s x =
-    cond (eqb (refusalOf s x) 0)
-    (record { service = nextOf s x; reply = replyOf s x; calls = callsOf s x })
-    (record { service = s; reply = Refused (refusalOf s x); calls = noCalls })
+stepOf s x = outcomeIn s x (classOf x)

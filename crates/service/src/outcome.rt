@@ -1,10 +1,11 @@
 // What a step hands back.
 use crate::service::Service;
+use decision::MAX_CLIENTS;
 use protocol::Reply;
 
 pub struct Outcome {
     pub service: Service,
     pub reply: Reply,
     // The callbacks that the step sends, by ascending client: a kind for each client, 0 for none.
-    pub calls: [u8; 8],
+    pub calls: [u8; MAX_CLIENTS],
 }

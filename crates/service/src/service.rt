@@ -2,51 +2,62 @@
 ghost use mathlib.Core.Path.{_≡_};
 ghost use Rattle.service.specs.Demand3.{Consistent};
 ghost use Rattle.service.specs.Fresh.{fresh};
-use crate::server::Server;
+use decision::MAX_CELLS;
+use decision::MAX_CLIENTS;
+use decision::MAX_FILES;
+use decision::MAX_PLACES;
+use decision::Sizes;
 use protocol::ClientFile;
-use records::ClientRecord;
-use records::Version;
-use table::crashed_entry;
+use protocol::Entry;
+use protocol::Sides;
+use table::Table;
+
+// The server: what a crash takes, and what survives it.
+pub struct Server {
+    pub table: Table,
+    // Block b of file f stands at f * MAX_BLOCKS + b.
+    pub blocks: [u64; MAX_PLACES],
+}
 
 pub struct Service {
+    // As given; a size out of its range counts as not given.
+    pub sizes: Sizes,
     pub server: Server,
-    // Client i's side of file f stands at i * 32 + f.
-    pub clients: [ClientFile; 256],
-    // Client i's copy of block b of file f stands at (i * 32 + f) * 4 + b, here and in the flags.
-    pub copies: [u64; 1024],
-    pub held: [bool; 1024],
-    pub dirty: [bool; 1024],
+    // The clients' sides of each file.
+    pub clients: [Sides; MAX_FILES],
+    // Client i's copy of block b of file f stands at (f * MAX_CLIENTS + i) * MAX_BLOCKS + b, here and in the flags.
+    pub copies: [u64; MAX_CELLS],
+    pub held: [bool; MAX_CELLS],
+    pub dirty: [bool; MAX_CELLS],
 }
 
 impl Service {
-    // The fresh service. From it every list of steps is consistent: Demand 3.
-    pub fn new() -> Self
-        ensures { λ r. ⌜ r ≡ fresh ⌝ }
+    // The fresh service of these sizes. From it every list of steps is consistent: Demand 3.
+    pub fn new(sizes: Sizes) -> Self
+        ensures { λ r. ⌜ r ≡ fresh sizes ⌝ }
         ensures { λ r. ⌜ Consistent r ⌝ }
     {
-        let closed = ClientRecord {
-            readers: 0,
-            writers: 0,
-            caching: false,
+        let none = ClientFile::none();
+        let sides = Sides {
+            of: [none; MAX_CLIENTS],
         };
-        let own = ClientFile {
-            opens: closed,
-            marked: false,
-            label: Version::none(),
-        };
-        let entry = crashed_entry(Version::first());
-        let server = Server {
-            files: [entry; 32],
-            blocks: [0; 128],
+        let entry = Entry::fresh();
+        let table = Table {
+            files: [entry; MAX_FILES],
             recovering: false,
-            reported: [false; 8],
+            reported: [false; MAX_CLIENTS],
+        };
+        let server = Server {
+            table,
+            blocks: [0; MAX_PLACES],
         };
         Service {
+            sizes,
             server,
-            clients: [own; 256],
-            copies: [0; 1024],
-            held: [false; 1024],
-            dirty: [false; 1024],
+            clients: [sides; MAX_FILES],
+            copies: [0; MAX_CELLS],
+            held: [false; MAX_CELLS],
+            dirty: [false; MAX_CELLS],
         }
     }
 }

@@ -89,7 +89,7 @@ numeral-as-written (b ∷ l) n rest e =
     (ap (λ t. t ++ l) (sym first) ∙ r .0, r .1))
     (λ d. absurd (never _ _ _ (unless _ _ d) e₁)))
 
-argument-as-written : (l : List ℕ) (n : ℕ) (rest : List ℕ) → argument l ≡ found n rest → (l ≡ argumentText n ++ rest) × (n < 2 ^ 64)
+pub argument-as-written : (l : List ℕ) (n : ℕ) (rest : List ℕ) → argument l ≡ found n rest → (l ≡ argumentText n ++ rest) × (n < 2 ^ 64)
 unfolding argument AsNumber
 argument-as-written [] n rest e = absurd (never _ _ _ refl e)
 argument-as-written (b ∷ l) n rest e =

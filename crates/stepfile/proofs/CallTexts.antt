@@ -4,7 +4,7 @@ use Prim.Native.Nat.{ℕ, suc}
 use mathlib.Core.Path.{_≡_, refl, sym, _∙_, ap}
 use mathlib.Core.List.{List, [], _∷_, _++_, append-assoc}
 use lib.ListN.{getD}
-use Rattle.protocol.specs.Callback.{callIf, orderedCalls}
+use Rattle.decision.specs.Callback.{callIf, orderedCalls}
 use Rattle.stepfile.specs.Line.{callText, callsText}
 
 pub calls-append : (a b : List (ℕ × ℕ)) → callsText (a ++ b) ≡ callsText a ++ callsText b

@@ -4,17 +4,18 @@ use mathlib.Core.Path.{_≡_, refl}
 use mathlib.Core.List.{List}
 use Rattle.records.specs.Record.{notOpen}
 use Rattle.protocol.specs.declared.entry.Entry.{Entry}
-use Rattle.protocol.specs.Sizes.{nobody}
-use Rattle.protocol.specs.Lists.{count}
-use Rattle.protocol.specs.State.{stateOf}
+use Rattle.decision.specs.Sizes.{nobody}
+use Rattle.decision.specs.Lists.{count}
+use Rattle.decision.specs.State.{stateOf}
 use Rattle.service.specs.Fresh.{fresh}
 use Rattle.service.proofs.Making.{reading, entry, withFile}
 use Rattle.stepfile.specs.Text.{bytes, decimal, digitsOf}
 use Rattle.stepfile.specs.Summary.{filesText, summaryText}
+use Rattle.stepfile.specs.Played.{summaryOf}
 
 -- the summary of the fresh service with this entry for file 0
 abbrev summary : Entry → List ℕ
-summary e = summaryText (withFile e .server .files)
+summary e = summaryOf (withFile e)
 
 pub record HandMade : Type 0 where
   -- a version of 0 is listed as 1, and a CLOSED file with it is not listed

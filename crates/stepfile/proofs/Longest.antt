@@ -1,19 +1,24 @@
--- More than 86 bytes are no step: a word of two letters and four numbers of twenty digits, each after a space. Assumes nothing.
+-- More than 86 bytes are no step: a word of two letters and four numbers of twenty digits, each after a space; and no
+-- settings line. Assumes nothing.
 use Prim.Native.Nat.{ℕ, _+_, _*_, _^_, _≤_, _<_}
 use mathlib.Core.Path.{_≡_, refl, sym, _∙_, ap}
 use mathlib.Core.List.{List, [], _∷_, _++_}
 use native.Mathlib.Omega.{arith}
-use lib.ListN.{length, length-append}
+use lib.ListN.{length, drop, length-append, length-drop}
+use Rattle.records.proofs.Choosing.{when, unless, split}
+use Rattle.decision.specs.declared.sizes.Sizes.{Sizes}
 use Rattle.records.specs.declared.record.Mode.the-variants.{Read as ForRead, Write as ForWrite}
 use Rattle.protocol.specs.declared.step.Step.{Step}
 use Rattle.protocol.specs.declared.step.Step.the-variants.{Open, Close, Read, Write, Flush, Answer, Crash, Report, End}
 use Rattle.stepfile.specs.declared.parsed.Parsed.{Parsed}
 use Rattle.stepfile.specs.declared.parsed.Parsed.the-variants.{Is, NoStep}
 use Rattle.stepfile.specs.Text.{decimal, valuesText}
-use Rattle.stepfile.specs.Grammar.{parseLine}
+use Rattle.stepfile.specs.declared.setting.Setting.the-variants.{Missing}
+use Rattle.stepfile.specs.Grammar.{Reading, found, nothing, onward, argument, parseLine}
+use Rattle.stepfile.specs.Setting.{beginsWithSet, sizesAt, settled, settingOf}
 use Rattle.stepfile.specs.StepText.{wordOf, numbersOf, stepText, EachFits}
 use Rattle.stepfile.proofs.Decimals.{decimal-most}
-use Rattle.stepfile.proofs.AsWritten.{line-as-step}
+use Rattle.stepfile.proofs.AsWritten.{never, argument-as-written, line-as-step}
 
 values-most : (ns : List ℕ) → EachFits ns → length (valuesText ns) ≤ 21 * length ns
 unfolding valuesText
@@ -57,3 +62,41 @@ too-long l long = from (parseLine l) refl
         let w = line-as-step l s e in
         absurd (omega (arith, ap length (w .text), length-append (stepText s) [], step-most s (w .fits)))
     from NoStep e = e
+
+-- ---- nor a settings line: a word of three letters and three numbers
+
+argument-most : (l : List ℕ) (n : ℕ) (rest : List ℕ) → argument l ≡ found n rest → length l ≤ 21 + length rest
+argument-most l n rest e =
+    let w = argument-as-written l n rest e in
+    omega (arith, ap length (w .0), length-append (decimal n) rest, decimal-most 19 n (omega (arith, w .1)))
+
+onward-found : {A B : Type 0} (r : Reading A) (k : A → List ℕ → Reading B) (b : B) (rest : List ℕ) → onward r k ≡ found b rest
+    → (a : A) × (m : List ℕ) × (r ≡ found a m) × (k a m ≡ found b rest)
+onward-found (found a m) k b rest e = (a, m, refl, e)
+onward-found nothing k b rest e = absurd (never nothing b rest refl e)
+
+abbrev restOf : {A : Type 0} → Reading A → List ℕ
+restOf (found a m) = m
+restOf nothing = []
+
+sizes-most : (l : List ℕ) (z : Sizes) (rest : List ℕ) → sizesAt l ≡ found z rest → length l ≤ 63 + length rest
+sizes-most l z rest e =
+    let (n, second, e₁, k₁) = onward-found (argument l) _ z rest e in
+    let (f, third, e₂, k₂) = onward-found (argument second) _ z rest k₁ in
+    let (b, last, e₃, k₃) = onward-found (argument third) _ z rest k₂ in
+    omega (
+      arith,
+      argument-most l n second e₁,
+      argument-most second f third e₂,
+      argument-most third b last e₃,
+      ap (λ (r : Reading Sizes). length (restOf r)) k₃,
+    )
+
+pub no-setting : (l : List ℕ) → 86 < length l → settingOf l ≡ Missing
+unfolding settingOf
+no-setting l long = split (beginsWithSet l) (λ e. when _ _ e ∙ from (sizesAt (drop 3 l)) refl) (λ e. unless _ _ e)
+  where
+    from : (r : Reading Sizes) → sizesAt (drop 3 l) ≡ r → settled r ≡ Missing
+    from (found z []) e = absurd (omega (arith, sizes-most (drop 3 l) z [] e, length-drop 3 l))
+    from (found z (b ∷ m)) e = refl
+    from nothing e = refl

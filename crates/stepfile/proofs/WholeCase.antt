@@ -1,14 +1,18 @@
 -- The whole case of document 01, and an open with three calls, byte for byte, from the definitions by evaluation.
 -- Assumes nothing.
 use mathlib.Core.Path.{_≡_, refl}
-use Rattle.protocol.specs.Lists.{count, stored}
-use Rattle.protocol.specs.State.{stateOf}
-use Rattle.protocol.specs.Callback.{orderedCalls}
-use Rattle.protocol.specs.Permission.{permissionAtGrant}
+use Rattle.decision.specs.Lists.{count, stored}
+use Rattle.decision.specs.State.{stateOf}
+use Rattle.decision.specs.Callback.{orderedCalls}
+use Rattle.decision.specs.Permission.{permissionAtGrant}
+use Rattle.access.specs.BlockStep.{blockStep}
+use Rattle.file.specs.FileStep.{fileStep}
+use Rattle.table.specs.TableStep.{tableStep}
 use Rattle.service.specs.Step.{stepOf}
 use Rattle.service.specs.Fresh.{fresh}
 use Rattle.stepfile.specs.Text.{bytes, decimal, digitsOf, valuesText}
 use Rattle.stepfile.specs.Grammar.{digitsOn, numeral, argument, shapeOf, shaped, step, parseLine}
+use Rattle.stepfile.specs.Setting.{settingOf}
 use Rattle.stepfile.specs.Line.{callsText, lineText}
 use Rattle.stepfile.specs.Summary.{filesText, summaryText}
 use Rattle.stepfile.specs.Transcript.{lines, transcript, after}
@@ -23,7 +27,15 @@ pub record WholeCase : Type 0 where
   pub calls :
       played (bytes "OR 5 0\nOR 2 0\nOR 7 0\nOW 0 0\n")
       ≡ bytes "1 G 1 0 1\n2 G 1 0 1\n3 G 1 0 1\n4 W 2:2 5:2 7:2\nfiles 1\n0 4 1 -\n"
+  -- "a first line SET with the three numbers": the settings hold from there on, and on a later line it is no step
+  pub chosen :
+      played (bytes "SET 3 3 3\nOR 3 0\nOR 2 3\nOR 2 2\nRD 2 2 3\nRD 2 2 2\nSET 8 32 4\n")
+      ≡ bytes "1 K\n2 N 2\n3 N 3\n4 G 1 0 1\n5 N 4\n6 V 0\n7 N 1\nfiles 1\n2 2 1 -\n"
+  -- "refused, it leaves 8, 32 and 4"
+  pub outOfRange :
+      played (bytes "SET 9 32 4\nOR 7 31\nOR 8 0\n")
+      ≡ bytes "1 N 19\n2 G 1 0 1\n3 N 2\nfiles 1\n31 2 1 -\n"
 
 pub wholeCase : WholeCase
-unfolding fresh stepOf stateOf orderedCalls permissionAtGrant count stored digitsOf decimal digitsOn numeral argument shapeOf shaped step parseLine valuesText callsText lineText filesText summaryText lines transcript after replyLine serviceAfter played
-wholeCase = record { empty = refl; case = refl; calls = refl }
+unfolding fresh stepOf fileStep blockStep tableStep stateOf orderedCalls permissionAtGrant count stored digitsOf decimal digitsOn numeral argument shapeOf shaped step parseLine settingOf valuesText callsText lineText filesText summaryText lines transcript after replyLine serviceAfter played
+wholeCase = record { empty = refl; case = refl; calls = refl; chosen = refl; outOfRange = refl }

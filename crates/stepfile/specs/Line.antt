@@ -6,8 +6,8 @@ use mathlib.Core.Bool.{cond}
 use mathlib.Core.List.{List, [], _∷_, _++_}
 use lib.Dec.{eqb}
 use Rattle.protocol.specs.declared.reply.Reply.{Reply}
-use Rattle.protocol.specs.Sizes.{clients}
-use Rattle.protocol.specs.Callback.{orderedCalls}
+use Rattle.decision.specs.Sizes.{maxClients}
+use Rattle.decision.specs.Callback.{orderedCalls}
 use Rattle.protocol.specs.Reply.{letterOf, valuesOf}
 use Rattle.stepfile.specs.Text.{bytes, decimal, argumentText, valuesText}
 
@@ -23,7 +23,7 @@ callsText (call ∷ calls) = callText call ++ callsText calls
 -- What follows the letter: after W the callbacks, "printed, in ascending station number" (document 02, Wish 1); after
 -- another letter its numbers.
 abbrev pub fieldsText : Reply → List ℕ → List ℕ
-fieldsText r kinds = cond (eqb (letterOf r) 87) (callsText (orderedCalls clients kinds)) (valuesText (valuesOf r))
+fieldsText r kinds = cond (eqb (letterOf r) 87) (callsText (orderedCalls maxClients kinds)) (valuesText (valuesOf r))
 
 unfoldable pub lineText : ℕ → Reply → List ℕ → List ℕ
 lineText n r kinds = decimal n ++ ((32 ∷ letterOf r ∷ []) ++ (fieldsText r kinds ++ bytes "\n"))

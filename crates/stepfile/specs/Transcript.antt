@@ -20,12 +20,13 @@ lines (b ∷ l) = before (eqb b 10) b (lines l)
 abbrev pub BreaksLine : List ℕ → Type 0
 BreaksLine a = (b : List ℕ) → lines (a ++ b) ≡ lines a ++ lines b
 
--- what is said of the lines from state s on, the first of them numbered n
-unfoldable pub transcript {ℓ} : {S : Type ℓ} → (S → ℕ → List ℕ → List ℕ) → (S → List ℕ → S) → S → ℕ → List (List ℕ) → List ℕ
+-- what is said of the lines from state s on, the first of them numbered n; a line's number may count for what it does
+unfoldable pub transcript {ℓ} :
+    {S : Type ℓ} → (S → ℕ → List ℕ → List ℕ) → (S → ℕ → List ℕ → S) → S → ℕ → List (List ℕ) → List ℕ
 transcript say next s n [] = []
-transcript say next s n (l ∷ ls) = say s n l ++ transcript say next (next s l) (n + 1) ls
+transcript say next s n (l ∷ ls) = say s n l ++ transcript say next (next s n l) (n + 1) ls
 
 -- the state after the lines
-unfoldable pub after {ℓ} : {S : Type ℓ} → (S → List ℕ → S) → S → List (List ℕ) → S
-after next s [] = s
-after next s (l ∷ ls) = after next (next s l) ls
+unfoldable pub after {ℓ} : {S : Type ℓ} → (S → ℕ → List ℕ → S) → S → ℕ → List (List ℕ) → S
+after next s n [] = s
+after next s n (l ∷ ls) = after next (next s n l) (n + 1) ls

@@ -2,6 +2,8 @@
 // in specs/; crate reader has the functions from lines to steps, and crate writer those from replies and tables to
 // lines.
 mod parsed;
+mod setting;
 
 pub use parsed::Parsed;
 pub use parsed::Read;
+pub use setting::Setting;

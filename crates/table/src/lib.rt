@@ -1,15 +1,11 @@
-// The server's state table: what opens, grants, closes, answers, crashes and reports make of the entry of a file.
-mod entry;
+// The server's state table, and the steps on all of it: a crash, a report, and the end of a recovery.
+mod recovery;
+mod refusal;
+mod table;
 
-pub use entry::answered_entry;
-pub use entry::call_to;
-pub use entry::calls_due;
-pub use entry::calls_out;
-pub use entry::closed_entry;
-pub use entry::count_calls;
-pub use entry::crashed_entry;
-pub use entry::grant_of;
-pub use entry::granted_entry;
-pub use entry::open_waits;
-pub use entry::reported_entry;
-pub use entry::waiting_entry;
+pub use recovery::Recovery;
+pub use recovery::RecoveryOutcome;
+pub use recovery::Sweep;
+pub use recovery::crashed_files;
+pub use table::Table;
+pub use table::TableOutcome;

@@ -7,7 +7,7 @@ use borrow.Author.Tests.{eq-eqb, ne-eqb}
 use Rattle.protocol.specs.declared.reply.Grant.{Grant}
 use Rattle.records.specs.Version.{numberOf}
 use Rattle.protocol.specs.Reply.{grantValues}
-use Rattle.protocol.specs.Callback.{callIf}
+use Rattle.decision.specs.Callback.{callIf}
 use Rattle.records.proofs.Choosing.{when, unless}
 use Rattle.stepfile.specs.Line.{callText, callsText}
 use Rattle.stepfile.specs.Text.{argumentText, valuesText}

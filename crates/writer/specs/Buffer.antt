@@ -26,4 +26,4 @@ abbrev pub lineRoom : ℕ
 lineRoom = 400
 
 abbrev pub summaryRoom : ℕ
-summaryRoom = 4096
+summaryRoom = 8192

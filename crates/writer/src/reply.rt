@@ -4,8 +4,8 @@ ghost use mathlib.Core.Path.{_≡_};
 ghost use mathlib.Core.Bool.{cond};
 ghost use mathlib.Core.List.{[], _∷_};
 ghost use lib.ListN.{length};
-ghost use Rattle.protocol.specs.Sizes.{clients};
-ghost use Rattle.protocol.specs.Callback.{callIf, orderedCalls};
+ghost use Rattle.decision.specs.Sizes.{maxClients};
+ghost use Rattle.decision.specs.Callback.{callIf, orderedCalls};
 ghost use Rattle.protocol.specs.Reply.{grantValues, letterOf};
 ghost use Rattle.stepfile.specs.Line.{callsText, fieldsText, lineText};
 ghost use Rattle.stepfile.specs.Text.{valuesText};
@@ -13,6 +13,7 @@ ghost use Rattle.writer.specs.Buffer.{Wrote, WroteIfRoom, lineRoom};
 use crate::decimal::put_argument;
 use crate::decimal::put_byte;
 use crate::decimal::put_decimal;
+use decision::MAX_CLIENTS;
 use protocol::Grant;
 use protocol::Reply;
 
@@ -21,7 +22,13 @@ pub const LINE_ROOM: usize = 400;
 
 // Writes the line of a reply, and answers the offset past it. Where the buffer has less than LINE_ROOM bytes from the
 // offset on, writes nothing and answers the offset.
-pub fn write_reply(out: &mut [u8], at: usize, number: u64, reply: Reply, calls: [u8; 8]) -> usize
+pub fn write_reply(
+    out: &mut [u8],
+    at: usize,
+    number: u64,
+    reply: Reply,
+    calls: [u8; MAX_CLIENTS],
+) -> usize
     ensures { λ r. ⌜ WroteIfRoom lineRoom (now (out .entry)) at (lineText number reply calls) (now (out .exit)) r ⌝ }
     ensures { λ r. ⌜ r ≤ at + lineRoom ⌝ }
 {
@@ -34,7 +41,13 @@ pub fn write_reply(out: &mut [u8], at: usize, number: u64, reply: Reply, calls: 
     put_reply(out, at, number, reply, calls)
 }
 
-fn put_reply(out: &mut [u8], at: usize, number: u64, reply: Reply, calls: [u8; 8]) -> usize
+fn put_reply(
+    out: &mut [u8],
+    at: usize,
+    number: u64,
+    reply: Reply,
+    calls: [u8; MAX_CLIENTS],
+) -> usize
     requires { ⌜ at + lineRoom ≤ length (now out) ⌝ }
     ensures { λ r. ⌜ Wrote (now (out .entry)) at (lineText number reply calls) (now (out .exit)) r ⌝ }
     ensures { λ r. ⌜ r ≤ at + lineRoom ⌝ }
@@ -70,7 +83,7 @@ fn put_letter(out: &mut [u8], at: usize, letter: u8) -> usize
 }
 
 // What follows the letter.
-fn put_fields(out: &mut [u8], at: usize, reply: Reply, calls: [u8; 8]) -> usize
+fn put_fields(out: &mut [u8], at: usize, reply: Reply, calls: [u8; MAX_CLIENTS]) -> usize
     requires { ⌜ at + 336 ≤ length (now out) ⌝ }
     ensures { λ r. ⌜ Wrote (now (out .entry)) at (fieldsText reply calls) (now (out .exit)) r ⌝ }
     ensures { λ r. ⌜ r ≤ at + 336 ⌝ }
@@ -109,14 +122,14 @@ fn permission(caching: bool) -> u64
 }
 
 // The callbacks, in the order in which they go out.
-fn put_calls(out: &mut [u8], at: usize, calls: [u8; 8]) -> usize
+fn put_calls(out: &mut [u8], at: usize, calls: [u8; MAX_CLIENTS]) -> usize
     requires { ⌜ at + 336 ≤ length (now out) ⌝ }
-    ensures { λ r. ⌜ Wrote (now (out .entry)) at (callsText (orderedCalls clients calls)) (now (out .exit)) r ⌝ }
+    ensures { λ r. ⌜ Wrote (now (out .entry)) at (callsText (orderedCalls maxClients calls)) (now (out .exit)) r ⌝ }
     ensures { λ r. ⌜ r ≤ at + 336 ⌝ }
 {
     let mut next = at;
     let mut client: usize = 0;
-    while client < 8 {
+    while client < MAX_CLIENTS {
         next = put_call(out, next, client, calls[client]);
         client += 1;
     }

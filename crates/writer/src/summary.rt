@@ -2,25 +2,27 @@
 ghost use Prim.Native.Nat.{_+_, _≤_};
 ghost use mathlib.Core.Path.{_≡_};
 ghost use lib.ListN.{length};
-ghost use Rattle.protocol.specs.Sizes.{files};
+ghost use Rattle.decision.specs.Sizes.{maxClients, Permitted};
 ghost use Rattle.stepfile.specs.Summary.{codeIn, versionIn, isListed, listedBelow};
 ghost use Rattle.stepfile.specs.Summary.{headingText, writerText, fieldsText, fileText, filesText, summaryText};
 ghost use Rattle.writer.specs.Buffer.{Wrote, WroteIfRoom, summaryRoom};
 use crate::decimal::put_argument;
 use crate::decimal::put_byte;
 use crate::decimal::put_decimal;
+use decision::Sizes;
 use decision::one_if;
 use decision::state_of;
 use protocol::Entry;
-use service::Server;
+use table::Table;
 
 // The room that the summary is given: more than any summary takes.
-pub const SUMMARY_ROOM: usize = 4096;
+pub const SUMMARY_ROOM: usize = 8192;
 
 // Writes the summary, and answers the offset past it. Where the buffer has less than SUMMARY_ROOM bytes from the offset
 // on, writes nothing and answers the offset.
-pub fn write_summary(out: &mut [u8], at: usize, server: Server) -> usize
-    ensures { λ r. ⌜ WroteIfRoom summaryRoom (now (out .entry)) at (summaryText (server .files)) (now (out .exit)) r ⌝ }
+pub fn write_summary(out: &mut [u8], at: usize, sizes: Sizes, table: Table) -> usize
+    requires { ⌜ Permitted sizes ⌝ }
+    ensures { λ r. ⌜ WroteIfRoom summaryRoom (now (out .entry)) at (summaryText sizes (table .files)) (now (out .exit)) r ⌝ }
     ensures { λ r. ⌜ r ≤ at + summaryRoom ⌝ }
 {
     if out.len() < SUMMARY_ROOM {
@@ -29,16 +31,17 @@ pub fn write_summary(out: &mut [u8], at: usize, server: Server) -> usize
     if out.len() - SUMMARY_ROOM < at {
         return at;
     }
-    put_summary(out, at, server)
+    put_summary(out, at, sizes, table)
 }
 
-fn put_summary(out: &mut [u8], at: usize, server: Server) -> usize
+fn put_summary(out: &mut [u8], at: usize, sizes: Sizes, table: Table) -> usize
+    requires { ⌜ Permitted sizes ⌝ }
     requires { ⌜ at + summaryRoom ≤ length (now out) ⌝ }
-    ensures { λ r. ⌜ Wrote (now (out .entry)) at (summaryText (server .files)) (now (out .exit)) r ⌝ }
+    ensures { λ r. ⌜ Wrote (now (out .entry)) at (summaryText sizes (table .files)) (now (out .exit)) r ⌝ }
     ensures { λ r. ⌜ r ≤ at + summaryRoom ⌝ }
 {
-    let lines = put_heading(out, at, count_listed(server));
-    put_files(out, lines, server)
+    let lines = put_heading(out, at, count_listed(sizes, table));
+    put_files(out, lines, sizes, table)
 }
 
 // The word "files" and how many are told.
@@ -57,24 +60,26 @@ fn put_heading(out: &mut [u8], at: usize, count: u64) -> usize
 }
 
 // How many files are told.
-fn count_listed(server: Server) -> u64
-    ensures { λ r. ⌜ r ≡ listedBelow files (server .files) ⌝ }
+fn count_listed(sizes: Sizes, table: Table) -> u64
+    requires { ⌜ Permitted sizes ⌝ }
+    ensures { λ r. ⌜ r ≡ listedBelow (sizes .clients) (sizes .files) (table .files) ⌝ }
 {
     let mut count: u64 = 0;
     let mut file: usize = 0;
-    while file < 32 {
-        let entry = server.files[file];
-        count += one_if(is_listed(entry)) as u64;
+    while file < sizes.files {
+        let entry = table.files[file];
+        count += one_if(is_listed(entry, sizes.clients)) as u64;
         file += 1;
     }
     count
 }
 
 // A file is told if it is not CLOSED or not at version 1.
-fn is_listed(entry: Entry) -> bool
-    ensures { λ r. ⌜ r ≡ isListed entry ⌝ }
+fn is_listed(entry: Entry, clients: usize) -> bool
+    requires { ⌜ clients ≤ maxClients ⌝ }
+    ensures { λ r. ⌜ r ≡ isListed clients entry ⌝ }
 {
-    let code = code_in(entry);
+    let code = code_in(entry, clients);
     let version = entry.version;
     match code {
         0 => !version.as_read().is_first(),
@@ -82,11 +87,12 @@ fn is_listed(entry: Entry) -> bool
     }
 }
 
-fn code_in(entry: Entry) -> u8
-    ensures { λ r. ⌜ r ≡ codeIn entry ⌝ }
+fn code_in(entry: Entry, clients: usize) -> u8
+    requires { ⌜ clients ≤ maxClients ⌝ }
+    ensures { λ r. ⌜ r ≡ codeIn clients entry ⌝ }
 {
     let records = entry.records;
-    state_of(records, entry.last).code()
+    state_of(records, clients, entry.last).code()
 }
 
 fn version_in(entry: Entry) -> u32
@@ -97,53 +103,64 @@ fn version_in(entry: Entry) -> u32
 }
 
 // The lines of the files, ascending.
-fn put_files(out: &mut [u8], at: usize, server: Server) -> usize
-    requires { ⌜ at + 2688 ≤ length (now out) ⌝ }
-    ensures { λ r. ⌜ Wrote (now (out .entry)) at (filesText files (server .files)) (now (out .exit)) r ⌝ }
-    ensures { λ r. ⌜ r ≤ at + 2688 ⌝ }
+fn put_files(out: &mut [u8], at: usize, sizes: Sizes, table: Table) -> usize
+    requires { ⌜ Permitted sizes ⌝ }
+    requires { ⌜ at + 5376 ≤ length (now out) ⌝ }
+    ensures { λ r. ⌜ Wrote (now (out .entry)) at (filesText (sizes .clients) (sizes .files) (table .files)) (now (out .exit)) r ⌝ }
+    ensures { λ r. ⌜ r ≤ at + 5376 ⌝ }
 {
     let mut next = at;
     let mut file: usize = 0;
-    while file < 32 {
-        let entry = server.files[file];
-        next = put_file(out, next, file, entry);
+    while file < sizes.files {
+        let entry = table.files[file];
+        next = put_file(out, next, file, entry, sizes.clients);
         file += 1;
     }
     next
 }
 
 // The line of a file, if it is told.
-fn put_file(out: &mut [u8], at: usize, file: usize, entry: Entry) -> usize
+fn put_file(out: &mut [u8], at: usize, file: usize, entry: Entry, clients: usize) -> usize
+    requires { ⌜ clients ≤ maxClients ⌝ }
     requires { ⌜ at + 84 ≤ length (now out) ⌝ }
-    ensures { λ r. ⌜ Wrote (now (out .entry)) at (fileText file entry) (now (out .exit)) r ⌝ }
+    ensures { λ r. ⌜ Wrote (now (out .entry)) at (fileText clients file entry) (now (out .exit)) r ⌝ }
     ensures { λ r. ⌜ r ≤ at + 84 ⌝ }
 {
-    if is_listed(entry) {
-        put_fields(out, at, file, code_in(entry), version_in(entry), entry.last)
+    if is_listed(entry, clients) {
+        let code = code_in(entry, clients);
+        put_fields(out, at, clients, file, code, version_in(entry), entry.last)
     } else {
         at
     }
 }
 
-fn put_fields(out: &mut [u8], at: usize, file: usize, code: u8, version: u32, last: u8) -> usize
+fn put_fields(
+    out: &mut [u8],
+    at: usize,
+    clients: usize,
+    file: usize,
+    code: u8,
+    version: u32,
+    last: u8,
+) -> usize
     requires { ⌜ at + 84 ≤ length (now out) ⌝ }
-    ensures { λ r. ⌜ Wrote (now (out .entry)) at (fieldsText file code version last) (now (out .exit)) r ⌝ }
+    ensures { λ r. ⌜ Wrote (now (out .entry)) at (fieldsText clients file code version last) (now (out .exit)) r ⌝ }
     ensures { λ r. ⌜ r ≤ at + 84 ⌝ }
 {
     let second = put_decimal(out, at, file as u64);
     let third = put_argument(out, second, code as u64);
     let fourth = put_argument(out, third, version as u64);
-    let feed = put_writer(out, fourth, last);
+    let feed = put_writer(out, fourth, clients, last);
     put_byte(out, feed, b'\n')
 }
 
 // The last writer, or that there is none.
-fn put_writer(out: &mut [u8], at: usize, last: u8) -> usize
+fn put_writer(out: &mut [u8], at: usize, clients: usize, last: u8) -> usize
     requires { ⌜ at + 21 ≤ length (now out) ⌝ }
-    ensures { λ r. ⌜ Wrote (now (out .entry)) at (writerText last) (now (out .exit)) r ⌝ }
+    ensures { λ r. ⌜ Wrote (now (out .entry)) at (writerText clients last) (now (out .exit)) r ⌝ }
     ensures { λ r. ⌜ r ≤ at + 21 ⌝ }
 {
-    if last < 8 {
+    if (last as usize) < clients {
         put_argument(out, at, last as u64)
     } else {
         let dash = put_byte(out, at, b' ');

@@ -1,6 +1,6 @@
 //! The callbacks of one open (document 01: calls): who is called, and for what.
 
-use crate::{CLIENTS, ClientSet};
+use crate::{CLIENTS, ClientSet, Sizes};
 
 /// Document 01's kinds 1, 2 and 3.
 #[derive(Clone, Copy, PartialEq, Eq, Debug)]
@@ -58,5 +58,11 @@ impl Callbacks {
     pub fn without(mut self, client: usize) -> Self {
         self.0[client] = 0;
         self
+    }
+
+    /// These for the clients in force, and the others' past them.
+    pub fn over(self, sizes: Sizes, mut others: Callbacks) -> Self {
+        others.0[..sizes.clients].copy_from_slice(&self.0[..sizes.clients]);
+        others
     }
 }

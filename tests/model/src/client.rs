@@ -1,6 +1,6 @@
 //! The client's end: its own record of each file, and the copies of blocks that it holds.
 
-use crate::{BLOCKS, FILES, Grant, Kind, Mode, Record};
+use crate::{BLOCKS, FILES, Grant, Kind, Mode, Record, Sizes};
 
 #[derive(Clone, PartialEq, Eq, Debug)]
 pub struct Client {
@@ -31,19 +31,28 @@ pub struct Copies {
     pub dirty: [bool; BLOCKS],
 }
 
+impl Copies {
+    /// "A dropped block is not held, not dirty and zero."
+    fn drop_blocks(&mut self, sizes: Sizes) {
+        self.values[..sizes.blocks].fill(0);
+        self.held[..sizes.blocks].fill(false);
+        self.dirty[..sizes.blocks].fill(false);
+    }
+}
+
 /// "The copy is kept when its label equals the latest version, or for a write open the previous one."
 fn copy_kept(cached_version: u32, mode: Mode, grant: &Grant) -> bool {
     cached_version == grant.latest || (mode == Mode::Write && cached_version == grant.previous)
 }
 
 impl ClientFile {
-    pub fn grant(&mut self, mode: Mode, grant: &Grant) {
+    pub fn grant(&mut self, sizes: Sizes, mode: Mode, grant: &Grant) {
         self.record.grant(mode, grant.may_cache);
         if !grant.may_cache {
-            self.drop_copy();
+            self.drop_copy(sizes);
         } else {
             if !copy_kept(self.cached_version, mode, grant) {
-                self.drop_copy();
+                self.drop_copy(sizes);
             }
             self.cached_version = grant.latest;
         }
@@ -85,18 +94,18 @@ impl ClientFile {
     }
 
     /// The client's part of a callback reply: kind 3 is 1, then 2.
-    pub fn answer(&mut self, kind: Kind, server: &mut [u64; BLOCKS]) {
+    pub fn answer(&mut self, sizes: Sizes, kind: Kind, server: &mut [u64; BLOCKS]) {
         if kind.writes_back() {
-            self.write_back(server);
+            self.write_back(sizes, server);
         }
         if kind.invalidates() {
-            self.drop_copy();
+            self.drop_copy(sizes);
             self.record.may_cache = false;
         }
     }
 
-    fn write_back(&mut self, server: &mut [u64; BLOCKS]) {
-        for block in 0..BLOCKS {
+    fn write_back(&mut self, sizes: Sizes, server: &mut [u64; BLOCKS]) {
+        for block in 0..sizes.blocks {
             if self.copies.dirty[block] {
                 self.flush(block, server);
             }
@@ -104,8 +113,8 @@ impl ClientFile {
         self.last_writer_flag = false;
     }
 
-    fn drop_copy(&mut self) {
-        self.copies = Copies::default();
+    fn drop_copy(&mut self, sizes: Sizes) {
+        self.copies.drop_blocks(sizes);
         self.cached_version = 0;
     }
 }

@@ -13,6 +13,11 @@ impl ClientSet {
         ClientSet(1 << client)
     }
 
+    /// The first so many.
+    pub fn first(count: usize) -> Self {
+        ClientSet(((1u16 << count) - 1) as u8)
+    }
+
     /// Those of whom this holds.
     pub fn of(has: impl Fn(usize) -> bool) -> Self {
         let with = |set: ClientSet, client| if has(client) { set.with(client) } else { set };

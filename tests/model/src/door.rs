@@ -1,23 +1,11 @@
 //! Who can cause a refusal: for each step the tests that document 01 lists for it, in the order of their numbers.
 
-use crate::{BLOCKS, CLIENTS, ClientFile, ClientSet, Entry, FILES, Kind, Mode, Refusal, Service, Step};
+use crate::{ClientFile, Entry, Kind, Mode, Refusal, Service, Step};
 
 pub type Admission = Result<(), Refusal>;
 
 fn unless(refused: bool, refusal: Refusal) -> Admission {
     if refused { Err(refusal) } else { Ok(()) }
-}
-
-fn client_exists(client: u64) -> Admission {
-    unless(client >= CLIENTS as u64, Refusal::NoSuchClient)
-}
-
-fn file_exists(file: u64) -> Admission {
-    unless(file >= FILES as u64, Refusal::NoSuchFile)
-}
-
-fn block_exists(block: u64) -> Admission {
-    unless(block >= BLOCKS as u64, Refusal::NoSuchBlock)
 }
 
 /// "A read unless the station is open, may cache and holds the block."
@@ -32,8 +20,8 @@ fn write_needs_server(file: &ClientFile) -> bool {
 
 impl Service {
     pub fn may_open(&self, mode: Mode, client: u64, file: u64) -> Admission {
-        client_exists(client)?;
-        file_exists(file)?;
+        self.client_exists(client)?;
+        self.file_exists(file)?;
         self.running()?;
         self.nothing_waits(file)?;
         unless(self.at_client(client, file).record.count(mode) == u8::MAX, Refusal::CountAtLimit)?;
@@ -41,17 +29,17 @@ impl Service {
     }
 
     pub fn may_close(&self, mode: Mode, client: u64, file: u64) -> Admission {
-        client_exists(client)?;
-        file_exists(file)?;
+        self.client_exists(client)?;
+        self.file_exists(file)?;
         self.running()?;
         self.nothing_waits(file)?;
         unless(self.at_client(client, file).record.count(mode) == 0, Refusal::NotOpen)
     }
 
     pub fn may_read(&self, client: u64, file: u64, block: u64) -> Admission {
-        client_exists(client)?;
-        file_exists(file)?;
-        block_exists(block)?;
+        self.client_exists(client)?;
+        self.file_exists(file)?;
+        self.block_exists(block)?;
         let copy = self.at_client(client, file);
         if self.server.recovering {
             unless(self.has_reported(client) || read_needs_server(copy, block), Refusal::Recovering)?;
@@ -60,9 +48,9 @@ impl Service {
     }
 
     pub fn may_write(&self, client: u64, file: u64, block: u64) -> Admission {
-        client_exists(client)?;
-        file_exists(file)?;
-        block_exists(block)?;
+        self.client_exists(client)?;
+        self.file_exists(file)?;
+        self.block_exists(block)?;
         let copy = self.at_client(client, file);
         if self.server.recovering {
             unless(self.has_reported(client) || write_needs_server(copy), Refusal::Recovering)?;
@@ -71,30 +59,30 @@ impl Service {
     }
 
     pub fn may_flush(&self, client: u64, file: u64, block: u64) -> Admission {
-        client_exists(client)?;
-        file_exists(file)?;
-        block_exists(block)?;
+        self.client_exists(client)?;
+        self.file_exists(file)?;
+        self.block_exists(block)?;
         self.running()?;
         unless(!self.at_client(client, file).copies.dirty[block as usize], Refusal::NotDirty)
     }
 
     /// A reply that is admitted has the kind of its callback.
     pub fn may_reply(&self, client: u64, file: u64) -> Result<Kind, Refusal> {
-        client_exists(client)?;
-        file_exists(file)?;
+        self.client_exists(client)?;
+        self.file_exists(file)?;
         self.running()?;
-        self.entry(file).callback(client as usize).ok_or(Refusal::NoCallback)
+        self.entry(file).callback(self.sizes(), client as usize).ok_or(Refusal::NoCallback)
     }
 
     pub fn may_report(&self, client: u64) -> Admission {
-        client_exists(client)?;
+        self.client_exists(client)?;
         self.in_recovery()?;
         unless(self.has_reported(client), Refusal::AlreadyReported)
     }
 
     pub fn may_end(&self) -> Admission {
         self.in_recovery()?;
-        unless(self.server.reported != ClientSet::ALL, Refusal::ReportsMissing)
+        unless(!self.server.reports_missing(self.sizes()).is_empty(), Refusal::ReportsMissing)
     }
 
     /// The refusal that this step would get now, if any.
@@ -113,6 +101,18 @@ impl Service {
         .err()
     }
 
+    fn client_exists(&self, client: u64) -> Admission {
+        unless(client >= self.sizes().clients as u64, Refusal::NoSuchClient)
+    }
+
+    fn file_exists(&self, file: u64) -> Admission {
+        unless(file >= self.sizes().files as u64, Refusal::NoSuchFile)
+    }
+
+    fn block_exists(&self, block: u64) -> Admission {
+        unless(block >= self.sizes().blocks as u64, Refusal::NoSuchBlock)
+    }
+
     fn running(&self) -> Admission {
         unless(self.server.recovering, Refusal::Recovering)
     }
@@ -126,7 +126,7 @@ impl Service {
     }
 
     fn nothing_waits(&self, file: u64) -> Admission {
-        unless(self.entry(file).waiting.read().is_some(), Refusal::OpenWaits)
+        unless(self.entry(file).waiting.read(self.sizes()).is_some(), Refusal::OpenWaits)
     }
 
     fn entry(&self, file: u64) -> &Entry {

@@ -1,7 +1,8 @@
 //! One file at the server: its entry in the state table, its blocks and its waiting open.
 
 use crate::{
-    BLOCKS, CLIENTS, Callbacks, ClientField, ClientSet, Grant, Kind, Mode, Record, State, VersionField, WaitField,
+    BLOCKS, CLIENTS, Callbacks, ClientField, ClientSet, Grant, Kind, Mode, Record, Sizes, State, VersionField,
+    WaitField,
 };
 
 #[derive(Clone, PartialEq, Eq, Debug)]
@@ -32,60 +33,69 @@ impl Entry {
         }
     }
 
-    fn clients_with(&self, has: impl Fn(&Record) -> bool) -> ClientSet {
-        ClientSet::of(|client| has(&self.records[client]))
+    fn clients_with(&self, sizes: Sizes, has: impl Fn(&Record) -> bool) -> ClientSet {
+        ClientSet::of(|client| has(&self.records[client])).and(sizes.client_set())
     }
 
-    pub fn open_clients(&self) -> ClientSet {
-        self.clients_with(Record::is_open)
+    pub fn open_clients(&self, sizes: Sizes) -> ClientSet {
+        self.clients_with(sizes, Record::is_open)
     }
 
-    pub fn writing_clients(&self) -> ClientSet {
-        self.clients_with(|record| record.writers > 0)
+    pub fn writing_clients(&self, sizes: Sizes) -> ClientSet {
+        self.clients_with(sizes, |record| record.writers > 0)
     }
 
-    pub fn caching_clients(&self) -> ClientSet {
-        self.clients_with(|record| record.may_cache)
+    pub fn caching_clients(&self, sizes: Sizes) -> ClientSet {
+        self.clients_with(sizes, |record| record.may_cache)
     }
 
     /// The table "Opening" of document 01, row by row.
-    pub fn callbacks_due(&self, opener: usize, mode: Mode) -> Callbacks {
+    pub fn callbacks_due(&self, sizes: Sizes, opener: usize, mode: Mode) -> Callbacks {
         if self.records[opener].keeps_permission(mode) {
             return Callbacks::NONE;
         }
-        let others = self.open_clients().without(opener);
-        match (State::of(self), mode) {
+        let others = self.open_clients(sizes).without(opener);
+        match (State::of(sizes, self), mode) {
             (State::Closed, _) => Callbacks::NONE,
             (State::ClosedDirty | State::OneRdrDirty, Mode::Read) => {
-                Callbacks::to(self.other_last_writer(opener), Kind::WriteBack)
+                Callbacks::to(self.other_last_writer(sizes, opener), Kind::WriteBack)
             }
             (State::ClosedDirty | State::OneRdrDirty, Mode::Write) => {
-                Callbacks::to(self.other_last_writer(opener), Kind::Both)
+                Callbacks::to(self.other_last_writer(sizes, opener), Kind::Both)
             }
             (State::OneReader | State::MultReaders, Mode::Read) => Callbacks::NONE,
             (State::OneReader | State::MultReaders, Mode::Write) => Callbacks::to(others, Kind::Invalidate),
             (State::OneWriter, _) => Callbacks::to(others, Kind::Both),
-            (State::WriteShared, _) => Callbacks::to(others.and(self.caching_clients()), Kind::Invalidate),
+            (State::WriteShared, _) => Callbacks::to(others.and(self.caching_clients(sizes)), Kind::Invalidate),
         }
     }
 
-    fn other_last_writer(&self, opener: usize) -> ClientSet {
-        self.last_writer.read().map_or(ClientSet::NONE, ClientSet::only).without(opener)
+    fn other_last_writer(&self, sizes: Sizes, opener: usize) -> ClientSet {
+        self.last_writer.read(sizes).map_or(ClientSet::NONE, ClientSet::only).without(opener)
     }
 
     /// Whether the opener may cache, on the table just before the grant.
-    pub fn permission_at_grant(&self, opener: usize, mode: Mode) -> bool {
+    pub fn permission_at_grant(&self, sizes: Sizes, opener: usize, mode: Mode) -> bool {
         let record = &self.records[opener];
-        if record.keeps_permission(mode) { record.may_cache } else { self.permission_judged(opener, mode) }
+        if record.keeps_permission(mode) { record.may_cache } else { self.permission_judged(sizes, opener, mode) }
     }
 
     /// Permission where none is kept.
-    pub fn permission_judged(&self, opener: usize, mode: Mode) -> bool {
-        let open = self.open_clients();
-        let another_writes = !self.writing_clients().without(opener).is_empty();
+    pub fn permission_judged(&self, sizes: Sizes, opener: usize, mode: Mode) -> bool {
+        let open = self.open_clients(sizes);
+        let another_writes = !self.writing_clients(sizes).without(opener).is_empty();
         let shared_for_write = mode == Mode::Write && !open.without(opener).is_empty();
-        let one_may_not = !open.minus(self.caching_clients()).is_empty();
+        let one_may_not = !open.minus(self.caching_clients(sizes)).is_empty();
         !(another_writes || shared_for_write || one_may_not)
+    }
+
+    pub fn wait(&mut self, sizes: Sizes, waiting: WaitingOpen) {
+        self.waiting = WaitField::from(waiting).over(sizes, self.waiting);
+    }
+
+    /// No open waits any more, and no callback is out.
+    pub fn end_wait(&mut self, sizes: Sizes) {
+        self.waiting = WaitField::NONE.over(sizes, self.waiting);
     }
 
     /// "A grant that would pass the limit of .. 14 leaves that number."
@@ -106,8 +116,8 @@ impl Entry {
     }
 
     /// The kind of the callback that this client has still to reply to.
-    pub fn callback(&self, client: usize) -> Option<Kind> {
-        self.waiting.read()?.callbacks.kind(client)
+    pub fn callback(&self, sizes: Sizes, client: usize) -> Option<Kind> {
+        self.waiting.read(sizes)?.callbacks.kind(client)
     }
 
     /// The server's part of a callback reply. "The table changes in that same step."
@@ -122,10 +132,10 @@ impl Entry {
     }
 
     /// Versions and blocks survive; the rest does not.
-    pub fn crash(&mut self) {
-        self.records = [Record::default(); CLIENTS];
+    pub fn crash(&mut self, sizes: Sizes) {
+        self.records[..sizes.clients].fill(Record::default());
         self.last_writer = ClientField::NONE;
-        self.waiting = WaitField::NONE;
+        self.end_wait(sizes);
     }
 
     /// A report of one client on this file; a report without the flag leaves the last writer as it is.

@@ -1,7 +1,7 @@
 //! Fields of the state table as they are stored. A step stores values that stand for themselves; a hand-made state may
 //! hold any, and `read` gives what document 01 takes it for. A field stays as it is until a step sets it.
 
-use crate::{CLIENTS, Callbacks, Mode, WaitingOpen};
+use crate::{Callbacks, Mode, Sizes, WaitingOpen};
 
 /// A client or none.
 #[derive(Clone, Copy, PartialEq, Eq, Debug)]
@@ -14,10 +14,10 @@ impl ClientField {
         ClientField(client as u8)
     }
 
-    /// "A station field of 8 or more reads as none."
-    pub fn read(self) -> Option<usize> {
+    /// "A station field of 8 or more reads as none", and so does one past the settings.
+    pub fn read(self, sizes: Sizes) -> Option<usize> {
         let client = usize::from(self.0);
-        (client < CLIENTS).then_some(client)
+        (client < sizes.clients).then_some(client)
     }
 }
 
@@ -45,9 +45,15 @@ impl WaitField {
     pub const NONE: WaitField = WaitField { opener: ClientField::NONE, mode: Mode::Read, callbacks: Callbacks::NONE };
 
     /// Without an opener nothing waits, and no callback is out.
-    pub fn read(self) -> Option<WaitingOpen> {
+    pub fn read(self, sizes: Sizes) -> Option<WaitingOpen> {
         let WaitField { opener, mode, callbacks } = self;
-        opener.read().map(|opener| WaitingOpen { opener, mode, callbacks })
+        let callbacks = callbacks.over(sizes, Callbacks::NONE);
+        opener.read(sizes).map(|opener| WaitingOpen { opener, mode, callbacks })
+    }
+
+    /// This wait in the place of another, whose callbacks past the clients stay.
+    pub fn over(self, sizes: Sizes, other: WaitField) -> Self {
+        WaitField { callbacks: self.callbacks.over(sizes, other.callbacks), ..self }
     }
 }
 

@@ -1,5 +1,6 @@
-//! A model of document 01, written from its text alone and sharing nothing with the proved engine, together with the
-//! tools that compare the two. Names follow the field; each definition gives document 01's word where it differs.
+//! A model of document 01 and of the wishes of document 02 that have landed, written from their text alone and sharing
+//! nothing with the proved engine, together with the tools that compare the two. Names follow the field; each definition
+//! gives document 01's word where it differs.
 
 pub mod check;
 pub mod generate;
@@ -19,6 +20,7 @@ mod record;
 mod rules;
 mod server;
 mod service;
+mod sizes;
 mod state;
 mod step;
 
@@ -30,16 +32,18 @@ pub use entry::{Entry, WaitingOpen};
 pub use fields::{ClientField, VersionField, WaitField};
 pub use outcome::{Grant, Outcome, Refusal};
 pub use player::{play, replay, replay_from};
-pub use reader::{LONGEST_STEP, read_line};
+pub use reader::{LONGEST_STEP, read_line, read_settings};
 pub use record::Record;
 pub use rules::{Document01, Rules};
 pub use server::Server;
 pub use service::Service;
+pub use sizes::{Settings, Sizes};
 pub use state::State;
 pub use step::{Mode, Step};
 
-/// Document 01's stations.
+/// The most clients that a service can have (document 01: stations).
 pub const CLIENTS: usize = 8;
-pub const FILES: usize = 32;
-/// Blocks in each file.
-pub const BLOCKS: usize = 4;
+/// The most files.
+pub const FILES: usize = 64;
+/// The most blocks in each file.
+pub const BLOCKS: usize = 8;

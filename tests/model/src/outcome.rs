@@ -13,7 +13,7 @@ pub enum Outcome {
     Refused(Refusal),
     /// A callback reply, with the opener and its grant if this was the last one: `A`.
     Replied(Option<(usize, Grant)>),
-    /// Any other accepted step: `K`.
+    /// Any other accepted step, and a line SET: `K`.
     Done,
 }
 
@@ -25,8 +25,8 @@ pub struct Grant {
     pub may_cache: bool,
 }
 
-/// The refusals, by document 01's numbers.
-#[derive(Clone, Copy, PartialEq, Eq, PartialOrd, Ord, Debug)]
+/// The refusals, by their numbers in documents 01 and 02.
+#[derive(Clone, Copy, PartialEq, Eq, Debug)]
 #[repr(u8)]
 pub enum Refusal {
     NotAStep = 1,
@@ -43,10 +43,12 @@ pub enum Refusal {
     CountAtLimit = 12,
     NotDirty = 13,
     VersionAtLimit = 14,
+    SettingOutOfRange = 19,
 }
 
 impl Refusal {
-    pub const COUNT: usize = 14;
+    pub const NUMBERS: [usize; 15] = [1, 2, 3, 4, 5, 6, 7, 8, 9, 10, 11, 12, 13, 14, 19];
+    pub const LAST_NUMBER: usize = 19;
 
     pub fn number(self) -> usize {
         self as usize

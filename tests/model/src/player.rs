@@ -7,35 +7,50 @@ use crate::check::Witness;
 use crate::input::Input;
 use crate::printer::Printer;
 use crate::reader::{Taker, take_line};
-use crate::{Outcome, Refusal, Rules, Service, Step, read_line};
+use crate::{Outcome, Refusal, Rules, Service, Settings, Sizes, Step, read_line, read_settings};
 
 /// Plays a stream in constant memory. What is said of a buffer of input is out before the next one is read.
 pub fn play<R: Rules>(input: impl Read, output: impl Write) -> Result<()> {
     let mut input = Input::new(input);
-    let mut player = Player::<R, _> { service: Service::fresh(), printer: Printer::new(output), rules: PhantomData };
+    let (service, printer) = (Service::fresh(), Printer::new(output));
+    let mut player = Player::<R, _> { service, printer, begun: false, rules: PhantomData };
     while input.advance()? {
         player.lines(input.whole_lines())?;
         player.printer.flush()?;
     }
     player.lines(input.last_line())?;
-    player.printer.summary(&player.service.server)?;
+    player.printer.summary(&player.service, R::files_in_summary(player.service.sizes()))?;
     player.printer.flush()
 }
 
 struct Player<R, W> {
     service: Service,
     printer: Printer<W>,
+    /// Whether the first line has come.
+    begun: bool,
     rules: PhantomData<R>,
 }
 
 impl<R: Rules, W: Write> Player<R, W> {
     fn lines(&mut self, mut bytes: &[u8]) -> Result<()> {
+        if !self.begun && !bytes.is_empty() {
+            bytes = self.first_line(bytes)?;
+        }
         while !bytes.is_empty() {
             let (printed, length) = take_line(bytes, &mut *self);
             printed?;
             bytes = &bytes[length..];
         }
         Ok(())
+    }
+
+    /// Takes the first line if it is a line SET. Gives what is left.
+    fn first_line<'a>(&mut self, bytes: &'a [u8]) -> Result<&'a [u8]> {
+        self.begun = true;
+        let Some((settings, length)) = read_settings(bytes) else { return Ok(bytes) };
+        let outcome = R::set(&mut self.service, settings);
+        self.printer.outcome(&outcome)?;
+        Ok(&bytes[length..])
     }
 }
 
@@ -60,32 +75,44 @@ pub fn replay<R: Rules>(input: &[u8], witness: &mut dyn Witness) -> Vec<u8> {
 
 /// The same from any service, which is left as the last step leaves it.
 pub fn replay_from<R: Rules>(service: &mut Service, input: &[u8], witness: &mut dyn Witness) -> Vec<u8> {
-    replay_with(Service::take::<R>, service, input, witness)
+    let seams =
+        Seams { set: R::set, late_set: R::late_set, take: Service::take::<R>, files_in_summary: R::files_in_summary };
+    replay_with(&seams, service, input, witness)
+}
+
+/// What `replay` takes from a set of rules.
+struct Seams {
+    set: fn(&mut Service, Settings) -> Outcome,
+    late_set: fn(&mut Service, Settings) -> Outcome,
+    take: fn(&mut Service, &Step) -> Outcome,
+    files_in_summary: fn(Sizes) -> usize,
+}
+
+impl Seams {
+    fn step(&self, service: &mut Service, step: &Step, witness: &mut dyn Witness) -> Outcome {
+        witness.before(service, step);
+        let outcome = (self.take)(service, step);
+        witness.after(service, step, &outcome);
+        outcome
+    }
 }
 
 /// Apart from `replay`, so that it is compiled once and not for each set of rules.
-fn replay_with(
-    take: fn(&mut Service, &Step) -> Outcome,
-    service: &mut Service,
-    mut input: &[u8],
-    witness: &mut dyn Witness,
-) -> Vec<u8> {
+fn replay_with(seams: &Seams, service: &mut Service, mut input: &[u8], witness: &mut dyn Witness) -> Vec<u8> {
     let mut printer = Printer::new(Vec::new());
+    let mut set = seams.set;
     while !input.is_empty() {
-        let (step, length) = read_line(input);
-        let outcome = match step {
-            Some(step) => {
-                witness.before(service, &step);
-                let outcome = take(service, &step);
-                witness.after(service, &step, &outcome);
-                outcome
-            }
-            None => Outcome::Refused(Refusal::NotAStep),
+        let (outcome, length) = match (read_settings(input), read_line(input)) {
+            (Some((settings, length)), _) => (set(service, settings), length),
+            (None, (Some(step), length)) => (seams.step(service, &step, witness), length),
+            (None, (None, length)) => (Outcome::Refused(Refusal::NotAStep), length),
         };
+        set = seams.late_set;
         witness.answered(&outcome);
         printer.outcome(&outcome).expect("a vector takes every byte");
         input = &input[length..];
     }
-    printer.summary(&service.server).expect("a vector takes every byte");
+    let files = (seams.files_in_summary)(service.sizes());
+    printer.summary(service, files).expect("a vector takes every byte");
     printer.into_inner().expect("a vector takes every byte")
 }

@@ -2,7 +2,7 @@
 
 use std::io::{Result, Write};
 
-use crate::{Callbacks, Entry, Grant, Outcome, Server, State};
+use crate::{Callbacks, Entry, Grant, Outcome, Service, Sizes, State};
 
 const BUFFER: usize = 64 * 1024;
 
@@ -33,19 +33,22 @@ impl<W: Write> Printer<W> {
         Ok(())
     }
 
-    pub fn summary(&mut self, server: &Server) -> Result<()> {
-        let listed = |entry: &Entry| State::of(entry) != State::Closed || entry.version.read() != 1;
-        let count = server.entries.iter().filter(|entry| listed(entry)).count();
+    /// The summary of the first so many files.
+    pub fn summary(&mut self, service: &Service, files: usize) -> Result<()> {
+        let sizes = service.sizes();
+        let listed = |entry: &Entry| State::of(sizes, entry) != State::Closed || entry.version.read() != 1;
+        let entries = &service.server.entries[..files];
+        let count = entries.iter().filter(|entry| listed(entry)).count();
         self.make_room()?;
         let mut text = Text { bytes: &mut self.buffer, at: self.filled };
         text.bytes(b"files ");
         text.number(count as u64);
         text.byte(b'\n');
         self.filled = text.at;
-        for (file, entry) in server.entries.iter().enumerate().filter(|(_, entry)| listed(entry)) {
+        for (file, entry) in entries.iter().enumerate().filter(|(_, entry)| listed(entry)) {
             self.make_room()?;
             let mut text = Text { bytes: &mut self.buffer, at: self.filled };
-            text.entry(file, entry);
+            text.entry(sizes, file, entry);
             self.filled = text.at;
         }
         Ok(())
@@ -118,12 +121,12 @@ impl Text<'_> {
         }
     }
 
-    fn entry(&mut self, file: usize, entry: &Entry) {
-        for field in [file as u64, State::of(entry).code(), u64::from(entry.version.read())] {
+    fn entry(&mut self, sizes: Sizes, file: usize, entry: &Entry) {
+        for field in [file as u64, State::of(sizes, entry).code(), u64::from(entry.version.read())] {
             self.number(field);
             self.byte(b' ');
         }
-        match entry.last_writer.read() {
+        match entry.last_writer.read(sizes) {
             Some(client) => self.number(client as u64),
             None => self.byte(b'-'),
         }

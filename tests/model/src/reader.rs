@@ -1,6 +1,6 @@
 //! Lines to steps, in one pass over the bytes as they lie in the input buffer.
 
-use crate::{Mode, Step};
+use crate::{Mode, Settings, Step};
 
 /// `WR` and four numbers of twenty digits: a line of more bytes gives no step.
 pub const LONGEST_STEP: usize = 86;
@@ -53,6 +53,13 @@ pub fn read_line(bytes: &[u8]) -> (Option<Step>, usize) {
     take_line(bytes, Keep)
 }
 
+/// The settings of the first line, if it is a line SET, and how many bytes the line has.
+pub fn read_settings(bytes: &[u8]) -> Option<(Settings, usize)> {
+    let mut line = Line { bytes, rest: bytes.strip_prefix(b"SET")? };
+    let settings = Settings { clients: line.number()?, files: line.number()?, blocks: line.number()? };
+    line.end().map(|length| (settings, length))
+}
+
 #[cold]
 fn no_step<T: Taker>(bytes: &[u8], taker: T) -> (T::Answer, usize) {
     let length = bytes.iter().position(|&byte| byte == b'\n').map_or(bytes.len(), |lf| lf + 1);
@@ -70,15 +77,21 @@ impl Line<'_> {
     #[inline(always)]
     fn step<T: Taker>(mut self, taker: T, fields: impl FnOnce(&mut Self) -> Option<Step>) -> (T::Answer, usize) {
         let step = fields(&mut self);
-        let next = match self.rest {
-            [] => Some(self.rest),
-            [b'\n', next @ ..] => Some(next),
-            _ => None,
-        };
-        match (step, next) {
-            (Some(step), Some(next)) => (taker.step(step), self.bytes.len() - next.len()),
+        match (step, self.end()) {
+            (Some(step), Some(length)) => (taker.step(step), length),
             _ => no_step(self.bytes, taker),
         }
+    }
+
+    /// How many bytes the line has, if it ends here.
+    #[inline(always)]
+    fn end(&self) -> Option<usize> {
+        let next = match self.rest {
+            [] => self.rest,
+            [b'\n', next @ ..] => next,
+            _ => return None,
+        };
+        Some(self.bytes.len() - next.len())
     }
 
     /// One space and a decimal number below 2 to the 64th without a leading zero.

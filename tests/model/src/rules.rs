@@ -1,10 +1,24 @@
 //! The seams at which the fault study replaces one rule by a wrong one. The plain model takes every default.
 
 use crate::{
-    Admission, BLOCKS, Callbacks, ClientFile, Entry, Grant, Kind, Mode, Refusal, Server, Service, WaitingOpen,
+    Admission, BLOCKS, Callbacks, ClientFile, Entry, Grant, Kind, Mode, Outcome, Refusal, Server, Service, Settings,
+    Sizes, WaitingOpen,
 };
 
 pub trait Rules {
+    /// A first line SET.
+    fn set(service: &mut Service, settings: Settings) -> Outcome {
+        service.set(settings)
+    }
+    /// A line SET that is not the first; the stream player takes it for no step without asking.
+    fn late_set(_service: &mut Service, _settings: Settings) -> Outcome {
+        Outcome::Refused(Refusal::NotAStep)
+    }
+    /// How many files the summary looks at.
+    fn files_in_summary(sizes: Sizes) -> usize {
+        sizes.files
+    }
+
     fn may_open(service: &Service, mode: Mode, client: u64, file: u64) -> Admission {
         service.may_open(mode, client, file)
     }
@@ -30,20 +44,20 @@ pub trait Rules {
         service.may_end()
     }
 
-    fn callbacks_due(entry: &Entry, opener: usize, mode: Mode) -> Callbacks {
-        entry.callbacks_due(opener, mode)
+    fn callbacks_due(sizes: Sizes, entry: &Entry, opener: usize, mode: Mode) -> Callbacks {
+        entry.callbacks_due(sizes, opener, mode)
     }
-    fn wait(entry: &mut Entry, waiting: WaitingOpen) {
-        entry.waiting = waiting.into();
+    fn wait(sizes: Sizes, entry: &mut Entry, waiting: WaitingOpen) {
+        entry.wait(sizes, waiting);
     }
-    fn permission_at_grant(entry: &Entry, opener: usize, mode: Mode) -> bool {
-        entry.permission_at_grant(opener, mode)
+    fn permission_at_grant(sizes: Sizes, entry: &Entry, opener: usize, mode: Mode) -> bool {
+        entry.permission_at_grant(sizes, opener, mode)
     }
     fn grant_at_server(entry: &mut Entry, opener: usize, mode: Mode, may_cache: bool) -> Grant {
         entry.grant(opener, mode, may_cache)
     }
-    fn grant_at_client(file: &mut ClientFile, mode: Mode, grant: &Grant) {
-        file.grant(mode, grant);
+    fn grant_at_client(sizes: Sizes, file: &mut ClientFile, mode: Mode, grant: &Grant) {
+        file.grant(sizes, mode, grant);
     }
     fn close_at_server(entry: &mut Entry, client: usize, mode: Mode) {
         entry.close(client, mode);
@@ -61,21 +75,21 @@ pub trait Rules {
     fn flush(file: &mut ClientFile, block: usize, server: &mut [u64; BLOCKS]) {
         file.flush(block, server);
     }
-    fn answer_at_client(file: &mut ClientFile, kind: Kind, server: &mut [u64; BLOCKS]) {
-        file.answer(kind, server);
+    fn answer_at_client(sizes: Sizes, file: &mut ClientFile, kind: Kind, server: &mut [u64; BLOCKS]) {
+        file.answer(sizes, kind, server);
     }
     fn answer_at_server(entry: &mut Entry, client: usize, kind: Kind) {
         entry.callback_answered(client, kind);
     }
 
     fn crash(service: &mut Service) {
-        service.server.crash();
+        service.server.crash(service.sizes());
     }
     fn report(entry: &mut Entry, client: usize, file: &ClientFile) {
         entry.report(client, file.record, file.last_writer_flag);
     }
-    fn end(server: &mut Server) {
-        server.end();
+    fn end(sizes: Sizes, server: &mut Server) {
+        server.end(sizes);
     }
 }
 

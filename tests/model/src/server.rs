@@ -1,6 +1,6 @@
 //! The server: an entry for each file, and how far a recovery has come.
 
-use crate::{ClientSet, Entry, FILES};
+use crate::{ClientSet, Entry, FILES, Sizes};
 
 #[derive(Clone, PartialEq, Eq, Debug)]
 pub struct Server {
@@ -15,14 +15,23 @@ impl Server {
         Server { entries: std::array::from_fn(|_| Entry::fresh()), recovering: false, reported: ClientSet::NONE }
     }
 
-    pub fn crash(&mut self) {
-        self.entries.iter_mut().for_each(Entry::crash);
+    pub fn crash(&mut self, sizes: Sizes) {
+        self.entries[..sizes.files].iter_mut().for_each(|entry| entry.crash(sizes));
         self.recovering = true;
-        self.reported = ClientSet::NONE;
+        self.forget_reports(sizes);
     }
 
-    pub fn end(&mut self) {
+    pub fn end(&mut self, sizes: Sizes) {
         self.recovering = false;
-        self.reported = ClientSet::NONE;
+        self.forget_reports(sizes);
+    }
+
+    fn forget_reports(&mut self, sizes: Sizes) {
+        self.reported = self.reported.minus(sizes.client_set());
+    }
+
+    /// The clients that have still to report.
+    pub fn reports_missing(&self, sizes: Sizes) -> ClientSet {
+        sizes.client_set().minus(self.reported)
     }
 }

@@ -1,9 +1,12 @@
 //! The server's end and the clients' ends together: one step at a time, changed in place.
 
-use crate::{CLIENTS, Callbacks, Client, Grant, Mode, Outcome, Refusal, Rules, Server, Step, WaitField, WaitingOpen};
+use crate::{
+    CLIENTS, Callbacks, Client, Grant, Mode, Outcome, Refusal, Rules, Server, Settings, Sizes, Step, WaitingOpen,
+};
 
 #[derive(Clone, PartialEq, Eq, Debug)]
 pub struct Service {
+    pub settings: Settings,
     pub server: Server,
     pub clients: [Client; CLIENTS],
 }
@@ -12,7 +15,24 @@ type Answer = Result<Outcome, Refusal>;
 
 impl Service {
     pub fn fresh() -> Self {
-        Service { server: Server::fresh(), clients: std::array::from_fn(|_| Client::fresh()) }
+        Service::fresh_of(Settings::NOT_GIVEN)
+    }
+
+    pub fn fresh_of(settings: Settings) -> Self {
+        Service { settings, server: Server::fresh(), clients: std::array::from_fn(|_| Client::fresh()) }
+    }
+
+    pub fn sizes(&self) -> Sizes {
+        self.settings.read()
+    }
+
+    /// A first line SET: the service is then a fresh one of these sizes, or as it came if the line is refused.
+    pub fn set(&mut self, settings: Settings) -> Outcome {
+        if !settings.are_in_range() {
+            return Outcome::Refused(Refusal::SettingOutOfRange);
+        }
+        *self = Service::fresh_of(settings);
+        Outcome::Done
     }
 
     #[inline(always)]
@@ -34,21 +54,23 @@ impl Service {
     fn open<R: Rules>(&mut self, mode: Mode, client: u64, file: u64) -> Answer {
         R::may_open(self, mode, client, file)?;
         let (opener, file) = (client as usize, file as usize);
+        let sizes = self.sizes();
         let entry = &mut self.server.entries[file];
-        let callbacks = R::callbacks_due(entry, opener, mode);
+        let callbacks = R::callbacks_due(sizes, entry, opener, mode);
         if callbacks == Callbacks::NONE {
             return Ok(Outcome::Granted(self.grant::<R>(opener, file, mode)));
         }
-        R::wait(entry, WaitingOpen { opener, mode, callbacks });
+        R::wait(sizes, entry, WaitingOpen { opener, mode, callbacks });
         Ok(Outcome::Waits(callbacks))
     }
 
     fn grant<R: Rules>(&mut self, opener: usize, file: usize, mode: Mode) -> Grant {
+        let sizes = self.sizes();
         let entry = &mut self.server.entries[file];
-        let may_cache = R::permission_at_grant(entry, opener, mode);
+        let may_cache = R::permission_at_grant(sizes, entry, opener, mode);
         let grant = R::grant_at_server(entry, opener, mode, may_cache);
-        entry.waiting = WaitField::NONE;
-        R::grant_at_client(&mut self.clients[opener].files[file], mode, &grant);
+        entry.end_wait(sizes);
+        R::grant_at_client(sizes, &mut self.clients[opener].files[file], mode, &grant);
         grant
     }
 
@@ -63,10 +85,11 @@ impl Service {
     fn reply<R: Rules>(&mut self, client: u64, file: u64) -> Answer {
         let kind = R::may_reply(self, client, file)?;
         let (client, file) = (client as usize, file as usize);
+        let sizes = self.sizes();
         let entry = &mut self.server.entries[file];
-        R::answer_at_client(&mut self.clients[client].files[file], kind, &mut entry.blocks);
+        R::answer_at_client(sizes, &mut self.clients[client].files[file], kind, &mut entry.blocks);
         R::answer_at_server(entry, client, kind);
-        let due = entry.waiting.read().filter(|waiting| waiting.callbacks.is_empty());
+        let due = entry.waiting.read(sizes).filter(|waiting| waiting.callbacks.is_empty());
         let granted = due.map(|open| (open.opener, self.grant::<R>(open.opener, file, open.mode)));
         Ok(Outcome::Replied(granted))
     }
@@ -102,7 +125,8 @@ impl Service {
     fn report<R: Rules>(&mut self, client: u64) -> Answer {
         R::may_report(self, client)?;
         let client = client as usize;
-        for (entry, file) in self.server.entries.iter_mut().zip(&self.clients[client].files) {
+        let files = self.sizes().files;
+        for (entry, file) in self.server.entries[..files].iter_mut().zip(&self.clients[client].files) {
             R::report(entry, client, file);
         }
         self.server.reported = self.server.reported.with(client);
@@ -111,7 +135,7 @@ impl Service {
 
     fn end<R: Rules>(&mut self) -> Answer {
         R::may_end(self)?;
-        R::end(&mut self.server);
+        R::end(self.sizes(), &mut self.server);
         Ok(Outcome::Done)
     }
 }

@@ -1,6 +1,6 @@
 //! The state of a file, by the 1989 paper's names and document 01's codes.
 
-use crate::Entry;
+use crate::{Entry, Sizes};
 
 #[derive(Clone, Copy, PartialEq, Eq, Debug)]
 #[repr(u8)]
@@ -20,17 +20,17 @@ impl State {
     }
 
     /// "Names, first that fits."
-    pub fn of(entry: &Entry) -> State {
-        let open = entry.open_clients();
+    pub fn of(sizes: Sizes, entry: &Entry) -> State {
+        let open = entry.open_clients(sizes);
         if open.is_empty() {
-            return if entry.last_writer.read().is_none() { State::Closed } else { State::ClosedDirty };
+            return if entry.last_writer.read(sizes).is_none() { State::Closed } else { State::ClosedDirty };
         }
-        if !open.minus(entry.caching_clients()).is_empty() {
+        if !open.minus(entry.caching_clients(sizes)).is_empty() {
             return State::WriteShared;
         }
         match open.single() {
             Some(client) if entry.records[client].writers > 0 => State::OneWriter,
-            Some(client) if entry.last_writer.read() == Some(client) => State::OneRdrDirty,
+            Some(client) if entry.last_writer.read(sizes) == Some(client) => State::OneRdrDirty,
             Some(_) => State::OneReader,
             None => State::MultReaders,
         }

@@ -1,6 +1,6 @@
 //! The steps of a step file, with their numbers as written.
 
-use crate::{CLIENTS, FILES};
+use crate::Sizes;
 
 #[derive(Clone, Copy, PartialEq, Eq, Debug)]
 pub enum Mode {
@@ -38,8 +38,8 @@ impl Step {
     }
 
     /// The client and the file, if both exist.
-    pub fn existing_place(&self) -> Option<(usize, usize)> {
+    pub fn existing_place(&self, sizes: Sizes) -> Option<(usize, usize)> {
         let (client, file) = self.place()?;
-        (client < CLIENTS as u64 && file < FILES as u64).then_some((client as usize, file as usize))
+        (client < sizes.clients as u64 && file < sizes.files as u64).then_some((client as usize, file as usize))
     }
 }

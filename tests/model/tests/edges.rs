@@ -3,7 +3,9 @@
 mod common;
 
 use common::{RECOVERY, check, played};
-use model::{ClientFile, Copies, Document01, Grant, Mode, Outcome, Refusal, Service, State, Step, VersionField};
+use model::{
+    ClientFile, Copies, Document01, Grant, Mode, Outcome, Refusal, Service, Settings, State, Step, VersionField,
+};
 
 const WHOLE_CASE: [(&str, &str); 8] = [
     ("OW 0 3", "G 2 1 1"),
@@ -50,12 +52,13 @@ fn the_256th_read_open_by_one_station_gets_12() {
 
 #[test]
 fn a_copy_labelled_5_meets_latest_6() {
-    let copies = Copies { values: [9, 0, 0, 0], held: [true, false, false, false], ..Copies::default() };
+    let mut copies = Copies::default();
+    (copies.values[0], copies.held[0]) = (9, true);
     let labelled_5 = ClientFile { cached_version: 5, copies: copies.clone(), ..ClientFile::default() };
     let grant = Grant { latest: 6, previous: 5, may_cache: true };
     for (mode, kept) in [(Mode::Write, copies), (Mode::Read, Copies::default())] {
         let mut file = labelled_5.clone();
-        file.grant(mode, &grant);
+        file.grant(Settings::NOT_GIVEN.read(), mode, &grant);
         assert_eq!(file.copies, kept, "{mode:?}");
         assert_eq!(file.cached_version, 6);
     }
@@ -109,9 +112,9 @@ fn broken_off_invalidation_leaves_1_without_permission_and_2_with_it() {
         assert!(!matches!(service.take::<Document01>(&step), Outcome::Refused(_)), "{step:?}");
     }
     let entry = &service.server.entries[0];
-    assert_eq!(State::of(entry), State::WriteShared);
+    assert_eq!(State::of(service.sizes(), entry), State::WriteShared);
     assert_eq!([1, 2].map(|client| entry.records[client].may_cache), [false, true]);
-    assert!(entry.waiting.read().is_none());
+    assert!(entry.waiting.read(service.sizes()).is_none());
 }
 
 #[test]

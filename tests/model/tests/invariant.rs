@@ -3,20 +3,25 @@
 use model::check::{CLAUSES, Demand3, Invariant, Tally, Witness, broken_clauses};
 use model::generate::{FileKind, step_file};
 use model::{
-    Callbacks, ClientField, ClientSet, Document01, FILES, Kind, Mode, Record, Refusal, Service, Step, VersionField,
-    WaitField, WaitingOpen, replay,
+    Callbacks, ClientField, ClientSet, Document01, Kind, Mode, Record, Refusal, Service, Step, VersionField, WaitField,
+    WaitingOpen, replay,
 };
 
 /// Plays seeded files under the invariant; tells what they met.
 fn hold(kind: FileKind, seeds: std::ops::Range<u64>, lines: usize) -> Tally {
     let mut tally = Tally::default();
     for seed in seeds {
-        let mut invariant = Invariant::default();
-        replay::<Document01>(&step_file(kind, seed, lines), &mut (&mut tally, &mut invariant));
-        assert_eq!(invariant.broken(), None, "{} seed {seed}", kind.name());
-        assert_eq!(invariant.demand3().breach(), None, "{} seed {seed}", kind.name());
+        hold_with(&mut tally, kind, seed, lines);
     }
     tally
+}
+
+/// Plays one file, and adds what it met.
+fn hold_with(tally: &mut Tally, kind: FileKind, seed: u64, lines: usize) {
+    let mut invariant = Invariant::default();
+    replay::<Document01>(&step_file(kind, seed, lines), &mut (tally, &mut invariant));
+    assert_eq!(invariant.broken(), None, "{} seed {seed}", kind.name());
+    assert_eq!(invariant.demand3().breach(), None, "{} seed {seed}", kind.name());
 }
 
 #[test]
@@ -32,6 +37,19 @@ fn hot_files_keep_the_invariant() {
 #[test]
 fn wide_files_keep_the_invariant() {
     hold(FileKind::Wide, 0..24, 2000);
+}
+
+/// Seeds 3, 5, 8 and 10 of every eleven.
+#[test]
+fn files_with_settings_keep_the_invariant() {
+    let mut tally = Tally::default();
+    for kind in FileKind::ALL {
+        for seed in (0..10).flat_map(|round| [3, 5, 8, 10].map(|seed| 11 * round + seed)) {
+            hold_with(&mut tally, kind, seed, 1000);
+        }
+    }
+    assert!(tally.refused(Refusal::SettingOutOfRange) > 10);
+    assert!(tally.waits() > 1000 && tally.recoveries() > 200);
 }
 
 #[test]
@@ -67,7 +85,7 @@ impl Run {
             let outcome = run.service.take::<Document01>(step);
             run.demand3.after(&run.service, step, &outcome);
         }
-        assert_eq!(broken_clauses(&run.service, &run.demand3, 0..FILES).next(), None);
+        assert_eq!(broken_clauses(&run.service, &run.demand3, 0..run.service.sizes().files).next(), None);
         run
     }
 }

@@ -1,7 +1,7 @@
 //! The reader against a plain one, which splits lines at spaces and takes numbers that print as they were written.
 
 use model::generate::{FileKind, step_file};
-use model::{LONGEST_STEP, Mode, Step, read_line};
+use model::{LONGEST_STEP, Mode, Settings, Step, read_line, read_settings};
 
 fn plainly_read(line: &[u8]) -> Option<Step> {
     let mut fields = str::from_utf8(line).ok()?.split(' ');
@@ -23,6 +23,12 @@ fn plainly_read(line: &[u8]) -> Option<Step> {
     })
 }
 
+fn plainly_read_settings(line: &[u8]) -> Option<Settings> {
+    let fields: Vec<&str> = str::from_utf8(line).ok()?.split(' ').collect();
+    let ["SET", clients, files, blocks] = fields[..] else { return None };
+    Some(Settings { clients: number(clients)?, files: number(files)?, blocks: number(blocks)? })
+}
+
 fn number(field: &str) -> Option<u64> {
     let value: u64 = field.parse().ok()?;
     (value.to_string() == field).then_some(value)
@@ -33,6 +39,9 @@ fn assert_read_alike(line: &[u8]) {
     assert_eq!(read_line(line), (plain, line.len()), "{}", line.escape_ascii());
     let with_lf = [line, b"\nOR 0 0\n"].concat();
     assert_eq!(read_line(&with_lf), (plain, line.len() + 1), "{}", line.escape_ascii());
+    let settings = plainly_read_settings(line);
+    assert_eq!(read_settings(line), settings.map(|set| (set, line.len())), "{}", line.escape_ascii());
+    assert_eq!(read_settings(&with_lf), settings.map(|set| (set, line.len() + 1)), "{}", line.escape_ascii());
 }
 
 #[test]
@@ -73,6 +82,58 @@ fn numbers_about_powers_of_ten_and_two_are_read_alike() {
                 assert_read_alike(format!("WR 0 0 0 {value}").as_bytes());
             }
         }
+    }
+}
+
+/// A line SET is never a step as well.
+#[test]
+fn settings_are_read_alike() {
+    let mut settings = 0;
+    for seed in 0..200 {
+        for kind in FileKind::ALL {
+            for line in step_file(kind, seed, 60).split(|&byte| byte == b'\n') {
+                assert_read_alike(line);
+                assert!(plainly_read(line).is_none() || plainly_read_settings(line).is_none());
+                settings += usize::from(plainly_read_settings(line).is_some());
+            }
+        }
+    }
+    assert!(settings > 200);
+    let max = u64::MAX;
+    for line in ["SET 1 2 3", "SET 0 0 0", &format!("SET {max} {max} {max}")] {
+        assert!(read_settings(line.as_bytes()).is_some(), "{line}");
+    }
+    let spoilt = [
+        "SET",
+        "SET ",
+        "SET 1",
+        "SET 1 2",
+        "SET 1 2 ",
+        "SET 1 2 3 ",
+        "SET 1 2 3 4",
+        " SET 1 2 3",
+        "SET  1 2 3",
+        "SET 1  2 3",
+        "SET 01 2 3",
+        "SET 1 2 00",
+        "SET 1 2 3\r",
+        "set 1 2 3",
+        "Set 1 2 3",
+        "SE 1 2 3",
+        "SETS 1 2 3",
+        "SET1 2 3",
+        "SET\t1 2 3",
+        "SET 18446744073709551616 2 3",
+        "SET 1 2 +3",
+        "SET 1 -2 3",
+        "SET 1 2 3.0",
+        "SET 1,2,3",
+        "T 1 2 3",
+        "XX SET 1 2 3",
+    ];
+    for line in spoilt {
+        assert_read_alike(line.as_bytes());
+        assert!(read_settings(line.as_bytes()).is_none(), "{line}");
     }
 }
 

@@ -35,7 +35,7 @@ fn streamed(input: &[u8], limit: usize) -> Vec<u8> {
 #[test]
 fn pieces_of_any_size_are_played_alike() {
     for kind in FileKind::ALL {
-        for seed in 0..6 {
+        for seed in 0..9 {
             let input = step_file(kind, seed, 3000);
             let expected = replay::<Document01>(&input, &mut ());
             for limit in [1, 7, 100, 5000, 65_535, 65_536, 1_000_000] {
@@ -93,6 +93,19 @@ impl Read for Dialogue<'_> {
         buffer[..line.len()].copy_from_slice(line.as_bytes());
         Ok(line.len())
     }
+}
+
+#[test]
+fn a_first_line_set_comes_in_pieces() {
+    let input = b"SET 2 64 8\nOW 1 63\nWR 1 63 7 5\nRD 1 63 7\nOR 2 0\nSET 8 32 4\n";
+    let expected = "1 K\n2 G 2 1 1\n3 K\n4 V 5\n5 N 2\n6 N 1\nfiles 1\n63 5 2 -\n";
+    for limit in [1, 3, 11, 100] {
+        assert_eq!(String::from_utf8_lossy(&streamed(input, limit)), expected, "{limit}");
+    }
+    assert_eq!(streamed(b"SET 1 1 1", 2), b"1 K\nfiles 0\n");
+    assert_eq!(streamed(b"\nSET 1 1 1", 1), b"1 N 1\n2 N 1\nfiles 0\n");
+    let long = [b"SET 1 1 1".to_vec(), vec![b' '; 200_000], b"\nSET 1 1 1\n".to_vec()].concat();
+    assert_eq!(streamed(&long, 1_000_000), b"1 N 1\n2 N 1\nfiles 0\n");
 }
 
 #[test]

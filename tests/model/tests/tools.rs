@@ -32,6 +32,15 @@ fn a_seed_gives_the_same_file_again() {
     }
 }
 
+/// Of eleven seeds four have files about settings; most of these begin with a line SET, right or wrong.
+#[test]
+fn a_third_of_the_files_begin_with_settings() {
+    let begins = |kind: &str, seed: u64| run(GEN, &[kind, &seed.to_string(), "3"]).stdout.starts_with(b"SET ");
+    let count = (0..110).filter(|&seed| begins("wide", seed)).count();
+    assert!((25..45).contains(&count), "{count}");
+    assert!(!begins("hot", 1) && !begins("session", 1), "these are the files of the benchmark");
+}
+
 #[test]
 fn the_model_does_not_differ_from_itself() {
     let output = run(DIFFER, &["--player", MODEL, "--seeds", "0..8", "--lines", "500"]);

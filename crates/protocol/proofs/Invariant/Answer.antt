@@ -13,10 +13,10 @@ use Rattle.records.specs.declared.record.Mode.{Mode}
 use Rattle.records.specs.declared.version.Version.{Version}
 use Rattle.protocol.specs.declared.client.ClientFile.{ClientFile}
 use Rattle.protocol.specs.declared.entry.Entry.{Entry}
-use Rattle.protocol.specs.Sizes.{nobody}
+use Rattle.decision.specs.Sizes.{nobody}
 use Rattle.records.specs.Version.{noVersion, numberOf}
 use Rattle.records.specs.Record.{uncached, isWrite}
-use Rattle.protocol.specs.Callback.{writesBack, invalidates}
+use Rattle.decision.specs.Callback.{writesBack, invalidates}
 use Rattle.protocol.specs.Client.{answeredClient}
 use Rattle.protocol.specs.Entry.{recordAt, waits, kindOf, callTo, answeredEntry}
 use Rattle.protocol.proofs.View.{View, at, callAnsweredView}

@@ -9,14 +9,15 @@ use lib.Dec.{eqb, ltb}
 use lib.ListN.{length, set}
 use borrow.Author.Tests.{ne-eqb, ltb-true, ltb-false}
 use Rattle.records.specs.declared.record.ClientRecord.{ClientRecord}
-use Rattle.protocol.specs.declared.state.Property.{Property}
-use Rattle.protocol.specs.declared.state.Property.the-variants.{Open, Uncached, Writing}
+use Rattle.decision.specs.declared.state.Property.{Property}
+use Rattle.decision.specs.declared.state.Property.the-variants.{Open, Uncached, Writing}
 use Rattle.records.specs.declared.version.Version.{Version}
 use Rattle.protocol.specs.declared.client.ClientFile.{ClientFile}
 use Rattle.records.specs.Version.{numberOf}
 use Rattle.records.specs.Record.{notOpen, isOpen}
-use Rattle.protocol.specs.State.{recordIn, has}
-use Rattle.protocol.proofs.View.{at, freshClient}
+use Rattle.decision.specs.State.{recordIn, has}
+use Rattle.protocol.specs.Client.{noClient}
+use Rattle.protocol.proofs.View.{at}
 use Rattle.protocol.proofs.Invariant.{hasOpen, Own, Apart, Clients, Agrees}
 use Rattle.protocol.proofs.Invariant.Lists.{getD-at}
 use Rattle.protocol.proofs.Invariant.Flags.{conflict, split, and-left, or-right, change, at-other}
@@ -33,7 +34,7 @@ counted-open Writing r w = writers-open r w
 
 module _ {n : ℕ} {version : Version} {client : ℕ → ClientFile} (h : Clients n version client) where
   -- who is open or marked is a client
-  is-client : (flag : ClientFile → Bool) → flag freshClient ≡ false → (s : ℕ) → flag (client s) ≡ true → s < n
+  is-client : (flag : ClientFile → Bool) → flag noClient ≡ false → (s : ℕ) → flag (client s) ≡ true → s < n
   is-client flag unset s e =
       split (ltb s n) (ltb-true s n)
       (λ out. absurd (conflict e (ap flag (h .beyond s (ltb-false s n out)) ∙ unset)))

@@ -6,7 +6,7 @@ use mathlib.Core.Bool.{Bool, true, false, cond}
 use native.Mathlib.Omega.{arith}
 use lib.Dec.{eqb}
 use borrow.Author.Tests.{eqb-true, eqb-false, ne-eqb}
-use Rattle.protocol.specs.Lists.{count}
+use Rattle.decision.specs.Lists.{count}
 use Rattle.protocol.proofs.Invariant.Flags.{split, is-false}
 
 -- one more number is counted or not

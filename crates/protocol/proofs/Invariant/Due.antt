@@ -11,14 +11,14 @@ use borrow.Author.Tests.{eqb-true, eqb-false, eq-eqb, ltb-true, ltb-false, not-t
 use Rattle.records.specs.declared.record.Mode.{Mode}
 use Rattle.records.specs.declared.record.Mode.the-variants.{Read, Write}
 use Rattle.records.specs.declared.record.ClientRecord.{ClientRecord}
-use Rattle.protocol.specs.declared.state.Property.{Property}
-use Rattle.protocol.specs.declared.state.Property.the-variants.{Open, Uncached, Writing}
+use Rattle.decision.specs.declared.state.Property.{Property}
+use Rattle.decision.specs.declared.state.Property.the-variants.{Open, Uncached, Writing}
 use Rattle.records.specs.declared.version.Version.{Version}
 use Rattle.protocol.specs.declared.client.ClientFile.{ClientFile}
 use Rattle.records.specs.Version.{isLastVersion}
 use Rattle.records.specs.Record.{isOpen, isWrite, keepsPermission}
-use Rattle.protocol.specs.State.{has, tally, stateOf}
-use Rattle.protocol.specs.Callback.{callbackDue, writesBack, invalidates}
+use Rattle.decision.specs.State.{has, tally, stateOf}
+use Rattle.decision.specs.Callback.{callbackDue, writesBack, invalidates}
 use Rattle.protocol.proofs.Invariant.{mayCache, hasOpen, hasWriters, Clients, Agrees, Waiting, everybody}
 use Rattle.protocol.proofs.Invariant.Flags.{conflict, is-false, split, and-left, and-right, other-sym, change}
 use Rattle.protocol.proofs.Invariant.Count.{none, some, one, only}

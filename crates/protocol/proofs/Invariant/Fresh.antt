@@ -6,16 +6,17 @@ use mathlib.Core.Logic.{⊎-elim}
 use native.Mathlib.Omega.{arith}
 use lib.ListN.{length-replicate}
 use borrow.Author.Tests.{le-ltb}
-use Rattle.protocol.specs.Sizes.{nobody}
+use Rattle.decision.specs.Sizes.{nobody}
 use Rattle.records.specs.Version.{firstVersion}
 use Rattle.records.specs.Record.{notOpen}
-use Rattle.protocol.proofs.View.{freshView, freshClient}
+use Rattle.protocol.specs.Client.{noClient}
+use Rattle.protocol.proofs.View.{freshView}
 use Rattle.protocol.proofs.Invariant.{Sound, Running}
 use Rattle.protocol.proofs.Invariant.Flags.{conflict}
 use Rattle.protocol.proofs.Invariant.Last.{last-none}
-use Rattle.protocol.proofs.Invariant.Lists.{getD-alike}
+use Rattle.decision.proofs.Beyond.{getD-alike}
 
-fresh-sound : (n : ℕ) → Sound n firstVersion (λ s. freshClient) 0 (λ s. 0) (λ s. false) (λ s. false) 0
+fresh-sound : (n : ℕ) → Sound n firstVersion (λ s. noClient) 0 (λ s. 0) (λ s. false) (λ s. false) 0
 fresh-sound n =
     record {
       clients = record {

@@ -7,7 +7,7 @@ use mathlib.Core.Logic.{_⊎_, inl, inr, ⊎-elim}
 use native.Mathlib.Nat.{le-trans}
 use native.Mathlib.Omega.{arith}
 use lib.Dec.{eqb, ltb}
-use lib.ListN.{length-set, length-replicate}
+use lib.ListN.{length-set}
 use borrow.Author.Tests.{eqb-true, eq-eqb, lt-ltb, le-ltb}
 use Rattle.records.specs.declared.record.Mode.{Mode}
 use Rattle.records.specs.declared.record.Mode.the-variants.{Read, Write}
@@ -15,16 +15,19 @@ use Rattle.records.specs.declared.version.Version.{Version}
 use Rattle.protocol.specs.declared.client.ClientFile.{ClientFile}
 use Rattle.protocol.specs.declared.entry.Entry.{Entry}
 use Rattle.protocol.specs.declared.reply.Grant.{Grant}
-use Rattle.protocol.specs.Sizes.{nobody}
+use Rattle.decision.specs.Sizes.{nobody}
 use Rattle.records.specs.Version.{noVersion, numberOf, isLastVersion}
 use Rattle.records.specs.Record.{isWrite, raised, opened}
-use Rattle.protocol.specs.Callback.{writesBack, invalidates}
-use Rattle.protocol.specs.Permission.{permissionAtGrant}
+use Rattle.decision.specs.Callback.{writesBack, invalidates}
+use Rattle.decision.specs.Permission.{permissionAtGrant}
 use Rattle.protocol.specs.Entry.{recordAt, grantOf, grantedEntry}
 use Rattle.protocol.specs.Client.{grantedClient, keepsBlocks}
+use Rattle.decision.proofs.Storing.{length-stored}
 use Rattle.protocol.proofs.View.{View, at, grantedView}
-use Rattle.protocol.proofs.Invariant.{mayCache, hasOpen, hasWriters, isLatest, Own, Apart, Copied, Clients, Sound, Agrees, Waiting, everybody, Running}
-use Rattle.protocol.proofs.Invariant.Flags.{conflict, is-false, split, cases, and-left, and-right, and-both, or-left, or-right, or-cases, other-sym, change, at-same, at-other}
+use Rattle.protocol.proofs.Invariant.{mayCache, hasOpen, hasWriters, isLatest, Own, Apart, Copied, Clients}
+use Rattle.protocol.proofs.Invariant.{Sound, Agrees, Waiting, everybody, Running}
+use Rattle.protocol.proofs.Invariant.Flags.{conflict, is-false, split, cases, and-left, and-right, and-both}
+use Rattle.protocol.proofs.Invariant.Flags.{or-left, or-right, or-cases, other-sym, change, at-same, at-other}
 use Rattle.protocol.proofs.Invariant.Change.{clients-at, known-at}
 use Rattle.protocol.proofs.Invariant.Last.{last-none-at, last-same-at}
 use Rattle.protocol.proofs.Invariant.Block.{dirty-latest}
@@ -280,6 +283,6 @@ grant-kept n v k i mode bound h below left free =
     record {
       sound = rw (next .stored) (sound-granted clients i mode g next may free (h .sound) below);
       table = table-granted clients i mode g next may free e below bound (h .table);
-      calls = length-replicate n 0;
+      calls = length-stored n (λ j. j) (λ j. 0) (e .calls) ∙ h .calls;
       waiting = λ is. absurd (conflict is (le-ltb nobody n bound));
     }

@@ -10,12 +10,12 @@ use borrow.Author.Tests.{eq-eqb, ne-eqb, lt-ltb, le-ltb, lt-leb, leb-false}
 use Rattle.records.specs.declared.record.Mode.{Mode}
 use Rattle.records.specs.declared.record.Mode.the-variants.{Read, Write}
 use Rattle.records.specs.declared.record.ClientRecord.{ClientRecord}
-use Rattle.protocol.specs.declared.state.FileState.{FileState}
-use Rattle.protocol.specs.declared.state.FileState.the-variants.{Closed, ClosedDirty, OneReader, OneReaderDirty, MultReaders, OneWriter, WriteShared}
-use Rattle.protocol.specs.declared.state.Property.the-variants.{Open, Uncached, Writing}
+use Rattle.decision.specs.declared.state.FileState.{FileState}
+use Rattle.decision.specs.declared.state.FileState.the-variants.{Closed, ClosedDirty, OneReader, OneReaderDirty, MultReaders, OneWriter, WriteShared}
+use Rattle.decision.specs.declared.state.Property.the-variants.{Open, Uncached, Writing}
 use Rattle.records.specs.Record.{isOpen}
-use Rattle.protocol.specs.State.{tally, stateOf}
-use Rattle.protocol.specs.Callback.{callbackKind, writesBack, invalidates}
+use Rattle.decision.specs.State.{tally, stateOf}
+use Rattle.decision.specs.Callback.{callbackKind, writesBack, invalidates}
 use Rattle.protocol.specs.Entry.{kindOf}
 use Rattle.protocol.proofs.Invariant.Flags.{conflict, split, cases}
 

@@ -1,9 +1,9 @@
--- Lists of one value for each client: what stands at a place after one was set, or where all are alike. Assumes nothing.
-use Prim.Native.Nat.{ℕ, zero, suc, _<_}
-use mathlib.Core.Path.{_≡_, refl}
+-- Lists of one value for each client: what stands at a place after one was set. Assumes nothing.
+use Prim.Native.Nat.{ℕ, _<_}
+use mathlib.Core.Path.{_≡_}
 use mathlib.Core.Bool.{cond}
 use mathlib.Core.List.{List}
-use lib.ListN.{length, getD, set, replicate}
+use lib.ListN.{length, getD, set}
 use lib.Seq.{getD-set-same, getD-set-other}
 use borrow.Author.Tests.{eqb-false}
 use Rattle.protocol.proofs.View.{at}
@@ -18,8 +18,3 @@ module _ {ℓ} {A : Type ℓ} where
   getD-at l i a d below =
       change (λ s b. getD (set l i a) s d ≡ cond b a (getD l s d)) i (getD-set-same l i a d below)
       (λ s e. getD-set-other l i s a d (eqb-false s i e))
-
-  pub getD-alike : (n : ℕ) (a : A) (s : ℕ) → getD (replicate n a) s a ≡ a
-  getD-alike zero a s = refl
-  getD-alike (suc n) a zero = refl
-  getD-alike (suc n) a (suc s) = getD-alike n a s

@@ -4,22 +4,24 @@ use Prim.Native.Nat.{ℕ, _<_, _≤_}
 use mathlib.Core.Path.{_≡_, refl, sym, _∙_, ap, subst, fun-ext}
 use mathlib.Core.Bool.{true, false, cond, not, _&&_}
 use mathlib.Core.List.{List}
+use native.Mathlib.Nat.{le-refl}
 use native.Mathlib.Omega.{arith}
 use lib.Dec.{eqb, ltb}
-use lib.ListN.{length, getD, replicate, length-replicate, List·getD-eq-default}
+use lib.ListN.{length, getD, List·getD-eq-default}
 use borrow.Author.Tests.{eqb-true, ltb-true, ltb-false}
 use Rattle.records.specs.declared.record.Mode.{Mode}
 use Rattle.records.specs.declared.version.Version.{Version}
 use Rattle.protocol.specs.declared.client.ClientFile.{ClientFile}
 use Rattle.protocol.specs.declared.entry.Entry.{Entry}
-use Rattle.protocol.specs.Sizes.{nobody}
-use Rattle.protocol.specs.Lists.{count}
+use Rattle.decision.specs.Sizes.{nobody}
+use Rattle.decision.specs.Lists.{count}
 use Rattle.records.specs.Version.{isLastVersion}
 use Rattle.records.specs.Record.{isWrite}
-use Rattle.protocol.specs.Callback.{callbackDue}
-use Rattle.protocol.specs.Entry.{recordAt, waits, kindOf, callTo, callsOut, callsIn, callsDue}
-use Rattle.protocol.proofs.Storing.{length-stored}
-use Rattle.protocol.proofs.CallOrder.{kind-due}
+use Rattle.decision.specs.Callback.{callbackDue}
+use Rattle.protocol.specs.Entry.{recordAt, waits, kindOf, callTo, callsOut, callsFor, callsDue}
+use Rattle.decision.proofs.Counting.{count-agree}
+use Rattle.decision.proofs.Storing.{length-stored}
+use Rattle.decision.proofs.CallOrder.{kind-due}
 use Rattle.protocol.proofs.View.{View, waitingView, grantedView, callAnsweredView, waiterGrantedView}
 use Rattle.protocol.proofs.Invariant.{Waiting, Running}
 use Rattle.protocol.proofs.Invariant.Flags.{split, cases}
@@ -79,14 +81,18 @@ module _
     (left : (isWrite mode && isLastVersion (v .entry .version)) ≡ false)
   where
     abbrev due : List ℕ
-    due = callsDue n (v .entry) i mode
+    due = callsDue n (v .entry) i mode (v .entry .calls)
 
     due-size : length due ≡ n
-    due-size = length-stored n (λ j. j) _ (replicate n 0) ∙ length-replicate n 0
+    due-size = length-stored n (λ j. j) _ (v .entry .calls) ∙ h .calls
+
+    -- the callback that a client finds is the one that it is due
+    found : (t : ℕ) → t < n → getD due t 0 ≡ callbackDue n (recordAt (v .entry)) (v .entry .last) i mode t
+    found = kind-due n (recordAt (v .entry)) (v .entry .last) i mode (v .entry .calls) (rw (h .calls) (le-refl n))
 
     due-at : (t : ℕ) → t < n → getD due t 0 ≡ callbackDue n (λ s. v .client s .opens) (v .entry .last) i mode t
     due-at t is =
-        kind-due n (recordAt (v .entry)) (v .entry .last) i mode t is
+        found t is
         ∙ ap (λ r. callbackDue n r (v .entry .last) i mode t) (fun-ext (λ s. h .table .known s refl))
 
     due-waiting : Waiting (v .entry .version) (v .client) i mode (λ t. getD due t 0)
@@ -103,10 +109,14 @@ module _
               (fun-ext (λ t. ap (λ b. cond b (kindOf (getD due t 0)) 0) (sym is))) (waiting-kinds due-waiting);
         }
 
-    pub open-kept : n ≤ nobody → eqb (callsIn n due) 0 ≡ true → Running n (grantedView n v i mode) k
+    calls-found : count n (λ t. not (eqb (getD due t 0) 0)) ≡ callsFor n (v .entry) i mode
+    calls-found = count-agree n _ _ (λ t is. ap (λ x. not (eqb x 0)) (found t is))
+
+    pub open-kept : n ≤ nobody → eqb (callsFor n (v .entry) i mode) 0 ≡ true → Running n (grantedView n v i mode) k
     open-kept bound quiet =
         grant-kept n v k i mode bound h below left
-        (ready due-waiting (silent n (λ t. getD due t 0) quiet (beyond n due due-size)))
+        (ready due-waiting
+        (silent n (λ t. getD due t 0) (ap (λ x. eqb x 0) calls-found ∙ quiet) (beyond n due due-size)))
 
 -- The last answer grants the open that waits.
 pub answer-last-kept :

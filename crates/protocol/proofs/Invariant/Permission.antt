@@ -9,13 +9,13 @@ use borrow.Author.Tests.{not-true, lt-ltb, le-ltb}
 use Rattle.records.specs.declared.record.Mode.{Mode}
 use Rattle.records.specs.declared.record.Mode.the-variants.{Read, Write}
 use Rattle.records.specs.declared.record.ClientRecord.{ClientRecord}
-use Rattle.protocol.specs.declared.state.Property.{Property}
-use Rattle.protocol.specs.declared.state.Property.the-variants.{Open, Uncached, Writing}
+use Rattle.decision.specs.declared.state.Property.{Property}
+use Rattle.decision.specs.declared.state.Property.the-variants.{Open, Uncached, Writing}
 use Rattle.records.specs.declared.version.Version.{Version}
 use Rattle.protocol.specs.declared.client.ClientFile.{ClientFile}
 use Rattle.records.specs.Record.{isOpen, isWrite, keepsPermission}
-use Rattle.protocol.specs.State.{has, tally, others}
-use Rattle.protocol.specs.Permission.{permissionAtGrant}
+use Rattle.decision.specs.State.{has, tally, others}
+use Rattle.decision.specs.Permission.{permissionAtGrant}
 use Rattle.protocol.proofs.Invariant.{mayCache, hasOpen, hasWriters, Clients}
 use Rattle.protocol.proofs.Invariant.Flags.{conflict, split, and-left, and-right, and-both, other-sym, change}
 use Rattle.protocol.proofs.Invariant.Count.{none, some}

@@ -6,17 +6,18 @@ use mathlib.Core.Bool.{Bool, true, false, cond, false≢true}
 use mathlib.Core.Logic.{inr}
 use mathlib.Core.List.{List}
 use lib.Dec.{ltb}
-use lib.ListN.{length, length-set, length-replicate, List·getD-eq-default}
+use lib.ListN.{length, length-set, List·getD-eq-default}
 use lib.Seq.{ext-getD, getD-set-same, getD-set-other}
 use borrow.Author.Tests.{eqb-false, le-ltb, ltb-true, ltb-false}
 use Rattle.records.specs.declared.record.ClientRecord.{ClientRecord}
 use Rattle.records.specs.declared.version.Version.{Version}
 use Rattle.protocol.specs.declared.client.ClientFile.{ClientFile}
 use Rattle.protocol.specs.declared.entry.Entry.{Entry}
-use Rattle.protocol.specs.Sizes.{nobody}
+use Rattle.decision.specs.Sizes.{nobody}
 use Rattle.records.specs.Record.{notOpen}
 use Rattle.protocol.specs.Entry.{recordAt, waits, crashedEntry, reportedEntry}
 use Rattle.protocol.specs.Table.{Row, rowOf}
+use Rattle.decision.proofs.Storing.{length-stored}
 use Rattle.protocol.proofs.View.{View, at, crashedView, reportedView}
 use Rattle.protocol.proofs.Invariant.{Clients, LastWriter, Agrees, everybody, Running, Recovering}
 use Rattle.protocol.proofs.Invariant.Flags.{conflict, split, change}
@@ -25,12 +26,13 @@ use Rattle.protocol.proofs.Invariant.Change.{marked-is-client}
 
 -- the table after a crash, which has heard nobody
 crashed-table :
-    (n : ℕ) (v : Version) (client : ℕ → ClientFile)
+    (n : ℕ) (e : Entry) (client : ℕ → ClientFile)
     → n ≤ nobody
-    → Agrees n (crashedEntry n v .records) (crashedEntry n v .last) client (λ s. false)
-crashed-table n v client bound =
+    → length (e .records) ≡ n
+    → Agrees n (crashedEntry n e .records) (crashedEntry n e .last) client (λ s. false)
+crashed-table n e client bound size =
     record {
-      size = length-replicate n notOpen;
+      size = length-stored n (λ j. j) (λ j. notOpen) (e .records) ∙ size;
       known = λ s t. absurd (false≢true t);
       lastWriter = last-none bound (λ s t _. false≢true t);
     }
@@ -43,8 +45,8 @@ pub crash-kept :
 crash-kept n v k bound h =
     record {
       sound = h .sound;
-      table = crashed-table n (v .entry .version) (v .client) bound;
-      calls = length-replicate n 0;
+      table = crashed-table n (v .entry) (v .client) bound (h .table .size);
+      calls = length-stored n (λ j. j) (λ j. 0) (v .entry .calls) ∙ h .calls;
       noneWaits = le-ltb nobody n bound;
       before = h .table;
       version = refl;
@@ -58,8 +60,8 @@ pub crash-again-kept :
 crash-again-kept n v k reported row bound h =
     record {
       sound = h .sound;
-      table = crashed-table n (v .entry .version) (v .client) bound;
-      calls = length-replicate n 0;
+      table = crashed-table n (v .entry) (v .client) bound (h .table .size);
+      calls = length-stored n (λ j. j) (λ j. 0) (v .entry .calls) ∙ h .calls;
       noneWaits = le-ltb nobody n bound;
       before = h .before;
       version = h .version;

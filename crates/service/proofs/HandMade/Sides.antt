@@ -1,28 +1,31 @@
--- Hand-made states in which the two sides of a file differ, and the flags of a copy: rows of docs/DECISIONS.md, "Hand-made
--- states", by evaluation. Assumes nothing.
+-- Hand-made states in which the two sides of a file differ, and the flags of a copy: rows of docs/DECISIONS.md,
+-- "Hand-made states", by evaluation. Assumes nothing.
 use Prim.Native.Nat.{ℕ}
 use mathlib.Core.Path.{_≡_, refl}
 use mathlib.Core.Bool.{true, false}
 use Rattle.records.specs.declared.record.ClientRecord.{ClientRecord}
 use Rattle.records.specs.declared.record.Mode.the-variants.{Read}
 use Rattle.protocol.specs.declared.reply.Reply.the-variants.{Granted, Value, Refused}
-use Rattle.protocol.specs.Sizes.{nobody}
-use Rattle.protocol.specs.Lists.{count, stored}
+use Rattle.decision.specs.Sizes.{nobody}
+use Rattle.decision.specs.Lists.{count, stored}
 use Rattle.records.specs.Record.{notOpen}
-use Rattle.protocol.specs.State.{stateOf}
-use Rattle.protocol.specs.Permission.{permissionAtGrant}
-use Rattle.protocol.specs.Entry.{waitingEntry}
+use Rattle.decision.specs.State.{stateOf}
+use Rattle.decision.specs.Permission.{permissionAtGrant}
 use Rattle.service.specs.declared.service.Service.{Service}
+use Rattle.file.specs.FileStep.{fileStep}
+use Rattle.access.specs.BlockStep.{blockStep}
+use Rattle.table.specs.TableStep.{tableStep}
 use Rattle.service.specs.Step.{stepOf}
 use Rattle.service.specs.Fresh.{fresh}
-use Rattle.service.proofs.Run.{OR, CR, CW, RD, WR, FL, AN, grant, grantUncached}
-use Rattle.service.proofs.Making.{opens, reading, readingUncached, writing, writingUncached, side, entry, kinds}
+use Rattle.service.proofs.Run.{freshDefault, OR, CR, CW, RD, WR, FL, AN, grant, grantUncached}
+use Rattle.service.proofs.Making.{opens, reading, readingUncached, writing, writingUncached}
+use Rattle.service.proofs.Making.{side, entry, kinds, waiting}
 use Rattle.service.proofs.Making.{withFile, withSide, withCopy, inRecovery}
 use Rattle.service.proofs.Making.{reply, entryAfter, sideAfter, copyAfter, blockAfter}
 
 -- "The two sides apart", "The last writer", "A close at a side whose count is 0", "The permission that a kept grant
--- tells where the two sides differ", "Permission at a client that is not open": the server's record of client 0, and its
--- own
+-- tells where the two sides differ", "Permission at a client that is not open": the server's record of client 0, and
+-- its own
 abbrev sides : ClientRecord → ClientRecord → Service
 sides known own = withSide 0 (side own false 1) (withFile (entry 1 known notOpen nobody))
 
@@ -62,7 +65,7 @@ pub record Apart : Type 0 where
   pub idleRecovering : reply (inRecovery true false idle) (RD 0 0 0) ≡ Refused 5
 
 pub apart : Apart
-unfolding fresh stepOf stateOf permissionAtGrant count stored
+unfolding fresh stepOf fileStep blockStep tableStep stateOf permissionAtGrant count stored
 apart =
     record {
       tableCalls = refl;
@@ -97,7 +100,7 @@ abbrev unheld : ℕ → Service
 unheld kind =
     withCopy 7 false true
     (withSide 0 (side writing false 1)
-    (withFile (waitingEntry (entry 1 writing notOpen nobody) 1 Read (kinds kind 0))))
+    (withFile (waiting (entry 1 writing notOpen nobody) 1 Read (kinds kind 0))))
 
 abbrev uncached : Service
 uncached = withCopy 7 true false (sides readingUncached readingUncached)
@@ -115,13 +118,13 @@ pub record Blocks : Type 0 where
   pub dropped : blockAfter (unheld 2) (AN 0 0) ≡ 0
   pub droppedCopy : copyAfter (unheld 2) (AN 0 0) ≡ (0, false, false)
   -- a flush looks at the dirty flag alone: the client need not be open
-  pub flushedClosed : blockAfter (withCopy 7 true true fresh) (FL 0 0 0) ≡ 7
+  pub flushedClosed : blockAfter (withCopy 7 true true freshDefault) (FL 0 0 0) ≡ 7
   -- a copy held without permission is not read, and stays
   pub unread : reply uncached (RD 0 0 0) ≡ Value 0
   pub unreadCopy : copyAfter uncached (RD 0 0 0) ≡ (7, true, false)
 
 pub blocks : Blocks
-unfolding fresh stepOf stateOf permissionAtGrant count stored
+unfolding fresh stepOf fileStep blockStep tableStep stateOf permissionAtGrant count stored
 blocks =
     record {
       flushed = refl;

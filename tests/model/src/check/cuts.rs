@@ -3,7 +3,7 @@
 //! write opens, a recovery half reported or just ended.
 
 use super::Witness;
-use crate::{ClientSet, Mode, Outcome, Service, State, Step};
+use crate::{Mode, Outcome, Service, State, Step};
 
 #[derive(Default)]
 pub struct Cuts {
@@ -28,8 +28,9 @@ fn first_lines(input: &[u8], lines: usize) -> &[u8] {
 }
 
 fn is_partly_answered(service: &Service) -> bool {
-    let mut entries = service.server.entries.iter();
-    entries.any(|entry| entry.waiting.read().is_some() && State::of(entry) == State::WriteShared)
+    let sizes = service.sizes();
+    let mut entries = service.server.entries[..sizes.files].iter();
+    entries.any(|entry| entry.waiting.read(sizes).is_some() && State::of(sizes, entry) == State::WriteShared)
 }
 
 fn is_partly_closed(service: &Service, step: &Step) -> bool {
@@ -38,8 +39,9 @@ fn is_partly_closed(service: &Service, step: &Step) -> bool {
 }
 
 fn is_half_reported(service: &Service) -> bool {
-    let server = &service.server;
-    server.recovering && server.reported != ClientSet::NONE && server.reported != ClientSet::ALL
+    let all = service.sizes().client_set();
+    let missing = service.server.reports_missing(service.sizes());
+    service.server.recovering && missing != all && !missing.is_empty()
 }
 
 impl Witness for Cuts {

@@ -44,10 +44,11 @@ impl Demand3 {
         if *step != Step::End || *outcome != Outcome::Done {
             return None;
         }
-        if self.before_recovery != Some(StateTable::of(&service.server)) {
+        if self.before_recovery != Some(StateTable::of(service)) {
             return Some(Breach::TableNotRestored { line });
         }
-        let waits = service.server.entries.iter().any(|entry| entry.waiting.read().is_some());
+        let sizes = service.sizes();
+        let waits = service.server.entries[..sizes.files].iter().any(|entry| entry.waiting.read(sizes).is_some());
         waits.then_some(Breach::OpenWaitsAfterRecovery { line })
     }
 }
@@ -56,7 +57,7 @@ impl Witness for Demand3 {
     /// The table is noted by the steps alone: a recovery begins with a crash and ends with an accepted end.
     fn before(&mut self, service: &Service, step: &Step) {
         if *step == Step::Crash && self.before_recovery.is_none() {
-            self.before_recovery = Some(StateTable::of(&service.server));
+            self.before_recovery = Some(StateTable::of(service));
         }
     }
 

@@ -3,7 +3,7 @@
 use std::ops::Range;
 
 use super::{Demand3, TableEntry, Witness};
-use crate::{BLOCKS, CLIENTS, ClientFile, Entry, FILES, Kind, Mode, Outcome, Server, Service, Step, WaitingOpen};
+use crate::{BLOCKS, CLIENTS, ClientFile, Entry, Kind, Mode, Outcome, Server, Service, Sizes, Step, WaitingOpen};
 
 /// A clause that does not hold after the step of this line.
 #[derive(Clone, Copy, PartialEq, Eq, Debug)]
@@ -16,6 +16,7 @@ pub struct BrokenClause {
 /// One file: both ends of it, the reference memory's blocks, and in a recovery the table's entry before it. The words
 /// are the clauses' own: a client is marked when it has the last-writer flag, its label is the cached version.
 pub struct FileView<'a> {
+    sizes: Sizes,
     server: &'a Server,
     entry: &'a Entry,
     clients: [&'a ClientFile; CLIENTS],
@@ -29,7 +30,7 @@ type Clause = fn(&FileView) -> bool;
 pub const CLAUSES: [(&str, Clause); 21] = [
     ("A1", |file| file.recovering() || file.each(|s| file.record_agrees(s))),
     ("A2", |file| file.recovering() || file.each(|s| file.last_writer(s) == file.marked(s))),
-    ("B1", |file| file.running() || file.entry.waiting.read().is_none()),
+    ("B1", |file| file.running() || file.waiting().is_none()),
     ("B2", |file| file.running() || file.each(|s| implies(file.reported(s), file.record_agrees(s)))),
     ("B3", |file| {
         file.running()
@@ -59,12 +60,10 @@ pub const CLAUSES: [(&str, Clause); 21] = [
     ("D3", |file| file.copies(|s, b| implies(file.held(s, b) && file.current(s), file.value(s, b) == file.memory[b]))),
     ("D4", |file| {
         let clean = |b| file.each(|s| !file.dirty(s, b));
-        (0..BLOCKS).all(|b| implies(clean(b), file.entry.blocks[b] == file.memory[b]))
+        (0..file.sizes.blocks).all(|b| implies(clean(b), file.entry.blocks[b] == file.memory[b]))
     }),
-    ("WS", |file| file.entry.waiting.read().is_none_or(|open| file.callbacks_suffice(&open))),
-    ("W6", |file| {
-        file.entry.waiting.read().is_none_or(|open| implies(open.mode == Mode::Write, file.version() < u32::MAX))
-    }),
+    ("WS", |file| file.waiting().is_none_or(|open| file.callbacks_suffice(&open))),
+    ("W6", |file| file.waiting().is_none_or(|open| implies(open.mode == Mode::Write, file.version() < u32::MAX))),
 ];
 
 fn implies(premise: bool, conclusion: bool) -> bool {
@@ -73,7 +72,7 @@ fn implies(premise: bool, conclusion: bool) -> bool {
 
 impl FileView<'_> {
     fn each(&self, holds: impl Fn(usize) -> bool) -> bool {
-        (0..CLIENTS).all(holds)
+        (0..self.sizes.clients).all(holds)
     }
 
     /// Pairs of different clients.
@@ -82,7 +81,7 @@ impl FileView<'_> {
     }
 
     fn copies(&self, holds: impl Fn(usize, usize) -> bool) -> bool {
-        self.each(|s| (0..BLOCKS).all(|b| holds(s, b)))
+        self.each(|s| (0..self.sizes.blocks).all(|b| holds(s, b)))
     }
 
     fn recovering(&self) -> bool {
@@ -91,6 +90,10 @@ impl FileView<'_> {
 
     fn running(&self) -> bool {
         !self.server.recovering
+    }
+
+    fn waiting(&self) -> Option<WaitingOpen> {
+        self.entry.waiting.read(self.sizes)
     }
 
     fn record_agrees(&self, s: usize) -> bool {
@@ -102,7 +105,7 @@ impl FileView<'_> {
     }
 
     fn last_writer(&self, s: usize) -> bool {
-        self.entry.last_writer.read() == Some(s)
+        self.entry.last_writer.read(self.sizes) == Some(s)
     }
 
     fn reported(&self, s: usize) -> bool {
@@ -175,6 +178,7 @@ pub fn broken_clauses<'a>(
 ) -> impl Iterator<Item = (&'static str, usize)> + 'a {
     files.flat_map(move |file| {
         let view = FileView {
+            sizes: service.sizes(),
             server: &service.server,
             entry: &service.server.entries[file],
             clients: std::array::from_fn(|client| &service.clients[client].files[file]),
@@ -212,7 +216,8 @@ impl Witness for Invariant {
     fn after(&mut self, service: &Service, step: &Step, outcome: &Outcome) {
         self.demand3.after(service, step, outcome);
         if self.broken.is_none() {
-            let files = step.existing_place().map_or(0..FILES, |(_, file)| file..file + 1);
+            let sizes = service.sizes();
+            let files = step.existing_place(sizes).map_or(0..sizes.files, |(_, file)| file..file + 1);
             let first = broken_clauses(service, &self.demand3, files).next();
             self.broken = first.map(|(name, file)| BrokenClause { name, file, line: self.line + 1 });
         }

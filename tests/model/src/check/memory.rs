@@ -2,9 +2,14 @@
 
 use crate::{BLOCKS, FILES, Step};
 
-#[derive(Default)]
 pub struct ReferenceMemory {
     blocks: [[u64; BLOCKS]; FILES],
+}
+
+impl Default for ReferenceMemory {
+    fn default() -> Self {
+        ReferenceMemory { blocks: [[0; BLOCKS]; FILES] }
+    }
 }
 
 impl ReferenceMemory {

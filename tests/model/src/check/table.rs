@@ -1,27 +1,35 @@
 //! The state table as Demand 3 means it: records, version and last writer of each file, without waiting opens.
 
-use crate::{CLIENTS, Entry, FILES, Record, Server};
+use crate::{Entry, Record, Service, Sizes};
 
 #[derive(Clone, PartialEq, Eq, Debug)]
 pub struct TableEntry {
-    pub records: [Record; CLIENTS],
+    /// Of each client.
+    pub records: Vec<Record>,
     pub version: u32,
     pub last_writer: Option<usize>,
 }
 
 #[derive(Clone, PartialEq, Eq, Debug)]
 pub struct StateTable {
-    pub entries: [TableEntry; FILES],
+    /// Of each file.
+    pub entries: Vec<TableEntry>,
 }
 
 impl TableEntry {
-    fn of(entry: &Entry) -> Self {
-        TableEntry { records: entry.records, version: entry.version.read(), last_writer: entry.last_writer.read() }
+    fn of(sizes: Sizes, entry: &Entry) -> Self {
+        TableEntry {
+            records: entry.records[..sizes.clients].to_vec(),
+            version: entry.version.read(),
+            last_writer: entry.last_writer.read(sizes),
+        }
     }
 }
 
 impl StateTable {
-    pub fn of(server: &Server) -> Self {
-        StateTable { entries: std::array::from_fn(|file| TableEntry::of(&server.entries[file])) }
+    pub fn of(service: &Service) -> Self {
+        let sizes = service.sizes();
+        let entries = &service.server.entries[..sizes.files];
+        StateTable { entries: entries.iter().map(|entry| TableEntry::of(sizes, entry)).collect() }
     }
 }

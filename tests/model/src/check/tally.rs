@@ -12,7 +12,7 @@ pub struct Tally {
     waits: u64,
     grants_after_waits: u64,
     recoveries: u64,
-    refusals: [u64; Refusal::COUNT + 1],
+    refusals: [u64; Refusal::LAST_NUMBER + 1],
 }
 
 impl Tally {
@@ -60,7 +60,7 @@ impl fmt::Display for Tally {
         writeln!(out, "grants after waits {}", self.grants_after_waits)?;
         writeln!(out, "recoveries completed {}", self.recoveries)?;
         write!(out, "refusals")?;
-        for number in 1..=Refusal::COUNT {
+        for number in Refusal::NUMBERS {
             write!(out, " {number}:{}", self.refusals[number])?;
         }
         Ok(())

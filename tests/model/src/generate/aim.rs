@@ -1,7 +1,7 @@
 //! Aims: what the next step shall bring about, how often each is taken up, and the search for a step that meets it.
 
 use super::stage::{Stage, StepKind};
-use crate::{ClientSet, Entry, Refusal, State, Step};
+use crate::{Entry, Refusal, Sizes, State, Step};
 
 #[derive(Clone, Copy)]
 pub enum Aim {
@@ -118,20 +118,20 @@ const ALL_REPORTED: [(usize, Aim); 4] =
 
 /// What is aimed at, by what goes on at the server.
 pub fn aims_for(stage: &Stage, turns: bool) -> &'static Aims {
-    let server = &stage.service.server;
+    let (server, sizes) = (&stage.service.server, stage.sizes());
     if server.recovering {
-        if server.reported == ClientSet::ALL { &ALL_REPORTED } else { &RECOVERING }
-    } else if stage.any(|entry| entry.waiting.read().is_some()) {
-        if stage.any(|entry| entry.waiting.read().is_some() && is_broken_off(entry)) {
+        if server.reports_missing(sizes).is_empty() { &ALL_REPORTED } else { &RECOVERING }
+    } else if stage.any_open_waits() {
+        if stage.any(|entry| entry.waiting.read(sizes).is_some() && is_broken_off(sizes, entry)) {
             &PARTLY_ANSWERED
         } else {
             &WAITING
         }
-    } else if stage.any(is_broken_off) {
+    } else if stage.any(|entry| is_broken_off(sizes, entry)) {
         &BROKEN_OFF
-    } else if stage.any(|entry| State::of(entry) == State::WriteShared) {
+    } else if stage.any(|entry| State::of(sizes, entry) == State::WriteShared) {
         &SHARED
-    } else if !stage.any(|entry| !entry.open_clients().is_empty()) {
+    } else if !stage.any(|entry| !entry.open_clients(sizes).is_empty()) {
         &IDLE
     } else if turns {
         &TURNS
@@ -140,8 +140,8 @@ pub fn aims_for(stage: &Stage, turns: bool) -> &'static Aims {
     }
 }
 
-fn is_broken_off(entry: &Entry) -> bool {
-    State::of(entry) == State::WriteShared && !entry.caching_clients().is_empty()
+fn is_broken_off(sizes: Sizes, entry: &Entry) -> bool {
+    State::of(sizes, entry) == State::WriteShared && !entry.caching_clients(sizes).is_empty()
 }
 
 const TRIES: usize = 60;
@@ -190,6 +190,7 @@ impl Stage {
 
     fn calls_somebody(&self, step: &Step) -> bool {
         let Step::Open { mode, client, file } = *step else { return false };
-        !self.service.server.entries[file as usize].callbacks_due(client as usize, mode).is_empty()
+        let entry = &self.service.server.entries[file as usize];
+        !entry.callbacks_due(self.sizes(), client as usize, mode).is_empty()
     }
 }

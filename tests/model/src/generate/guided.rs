@@ -9,7 +9,7 @@ use super::rng::Rng;
 use super::stage::{Scope, Stage};
 use super::text::write_step;
 use super::tide::Tide;
-use crate::{CLIENTS, Mode, Step};
+use crate::{Mode, Settings, Step};
 
 /// One step in so many, while the server neither recovers nor has an open that waits, begins a scene.
 const SCENE: usize = 80;
@@ -24,15 +24,17 @@ pub struct Guided {
 }
 
 impl Guided {
-    pub fn hot(seed: u64) -> Self {
+    pub fn hot(seed: u64, settings: Settings) -> Self {
         let mut rng = Rng::new(seed);
-        let scope = Scope { clients: 2 + rng.below(5), files: 1 + rng.below(2), blocks: 1 + rng.below(3) };
+        let few = Scope { clients: 2 + rng.below(5), files: 1 + rng.below(2), blocks: 1 + rng.below(3) };
+        let whole = Scope::whole(settings.read());
+        let scope = if settings == Settings::NOT_GIVEN { few } else { Scope { files: whole.files.min(2), ..whole } };
         let tide = (seed % 8 == 7).then(|| Tide::new(&mut rng));
-        Guided { stage: Stage::new(rng, scope), turns: seed.is_multiple_of(2), tide, scene: VecDeque::new() }
+        Guided { stage: Stage::new(rng, settings, scope), turns: seed.is_multiple_of(2), tide, scene: VecDeque::new() }
     }
 
-    pub fn wide(seed: u64) -> Self {
-        let stage = Stage::new(Rng::new(!seed), Scope::WHOLE);
+    pub fn wide(seed: u64, settings: Settings) -> Self {
+        let stage = Stage::new(Rng::new(!seed), settings, Scope::whole(settings.read()));
         Guided { stage, turns: seed.is_multiple_of(2), tide: None, scene: VecDeque::new() }
     }
 
@@ -44,7 +46,7 @@ impl Guided {
         if let Some(step) = self.tide.as_mut().and_then(|tide| tide.step(&mut self.stage)) {
             return step;
         }
-        let at_rest = !self.stage.service.server.recovering && !self.stage.any(|entry| entry.waiting.read().is_some());
+        let at_rest = !self.stage.service.server.recovering && !self.stage.any_open_waits();
         if at_rest && self.stage.rng.one_in(SCENE) {
             self.begin_broken_off_invalidation();
         }
@@ -66,8 +68,9 @@ impl Guided {
             Step::Reply { client: first, file },
             Step::Crash,
         ]);
-        let turn = self.stage.rng.below(CLIENTS);
-        self.scene.extend((0..CLIENTS).map(|client| Step::Report { client: ((client + turn) % CLIENTS) as u64 }));
+        let clients = self.stage.sizes().clients;
+        let turn = self.stage.rng.below(clients);
+        self.scene.extend((0..clients).map(|client| Step::Report { client: ((client + turn) % clients) as u64 }));
         self.scene.push_back(Step::End);
         if self.stage.rng.one_in(3) {
             self.scene.extend([
@@ -85,7 +88,7 @@ impl Guided {
 }
 
 impl Author for Guided {
-    fn line(&mut self, text: &mut Vec<u8>) {
+    fn line(&mut self, _offset: usize, text: &mut Vec<u8>) {
         let step = self.choose();
         self.stage.take(&step);
         write_step(&step, text);

@@ -4,10 +4,10 @@ use super::Author;
 use super::guided::Guided;
 use super::rng::Rng;
 use super::text::write_step;
-use crate::{LONGEST_STEP, read_line};
+use crate::{LONGEST_STEP, Settings, read_line};
 
 /// A player's buffer may be of this size: lines are made that end at its edge or reach past it.
-const BUFFER: usize = 64 * 1024;
+const BUFFER: usize = 256 * 1024;
 
 type Spoil = fn(&mut Rng, &mut Vec<u8>);
 
@@ -120,26 +120,28 @@ fn longest_step(rng: &mut Rng, line: &mut Vec<u8>) {
     }
 }
 
+pub fn spoil_once(rng: &mut Rng, line: &mut Vec<u8>) {
+    rng.pick(&SPOILS)(rng, line);
+}
+
 pub struct Malformed {
     steps: Guided,
     rng: Rng,
-    /// Bytes written so far, with their LFs.
-    offset: usize,
     ends_with_lf: bool,
 }
 
 impl Malformed {
-    pub fn new(seed: u64) -> Self {
+    pub fn new(seed: u64, settings: Settings) -> Self {
         let rng = Rng::new(seed ^ 0x0ddb_17e5);
-        Malformed { steps: Guided::hot(seed), rng, offset: 0, ends_with_lf: seed.is_multiple_of(2) }
+        Malformed { steps: Guided::hot(seed, settings), rng, ends_with_lf: seed.is_multiple_of(2) }
     }
 
-    fn spoil(&mut self, line: &mut Vec<u8>) {
+    fn spoil(&mut self, offset: usize, line: &mut Vec<u8>) {
         match self.rng.below(400) {
             0 => self.lengthen(line),
-            1 => self.end_at_buffer(line),
+            1 => self.end_at_buffer(offset, line),
             2..=160 => {}
-            _ => self.rng.pick(&SPOILS)(&mut self.rng, line),
+            _ => spoil_once(&mut self.rng, line),
         }
     }
 
@@ -151,20 +153,19 @@ impl Malformed {
     }
 
     /// So that the LF is the last byte of a buffer, the one before or the one after.
-    fn end_at_buffer(&mut self, line: &mut Vec<u8>) {
-        let end = (self.offset + line.len() + 2).next_multiple_of(BUFFER) + self.rng.below(3) - 1;
-        line.resize(end - self.offset - 1, b'x');
+    fn end_at_buffer(&mut self, offset: usize, line: &mut Vec<u8>) {
+        let end = (offset + line.len() + 2).next_multiple_of(BUFFER) + self.rng.below(3) - 1;
+        line.resize(end - offset - 1, b'x');
     }
 }
 
 impl Author for Malformed {
-    fn line(&mut self, text: &mut Vec<u8>) {
+    fn line(&mut self, offset: usize, text: &mut Vec<u8>) {
         write_step(&self.steps.choose(), text);
-        self.spoil(text);
+        self.spoil(offset, text);
         if let (Some(step), _) = read_line(text) {
             self.steps.stage().take(&step);
         }
-        self.offset += text.len() + 1;
     }
 
     fn ends_with_lf(&self) -> bool {

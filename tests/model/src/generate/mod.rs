@@ -5,6 +5,7 @@ mod guided;
 mod malformed;
 mod rng;
 mod session;
+mod settings;
 mod stage;
 mod text;
 mod tide;
@@ -14,6 +15,9 @@ use std::io::{Result, Write};
 use guided::Guided;
 use malformed::Malformed;
 use session::Session;
+use settings::{SettingsLines, WithSettings};
+
+use crate::Settings;
 
 pub use rng::Rng;
 
@@ -21,11 +25,11 @@ pub use rng::Rng;
 pub enum FileKind {
     /// Few clients, files and blocks: waits, crashes and every refusal are frequent.
     Hot,
-    /// All clients, files and blocks.
+    /// All clients, files and blocks that there are.
     Wide,
     /// Steps and lines that are nearly steps.
     Malformed,
-    /// Eight desks at work: mostly reads and writes, prompt replies, a crash now and then.
+    /// All desks at work: mostly reads and writes, prompt replies, a crash now and then.
     Session,
 }
 
@@ -48,7 +52,8 @@ impl FileKind {
 
 /// Writes the lines of a step file, one at a time and without their LF.
 trait Author {
-    fn line(&mut self, text: &mut Vec<u8>);
+    /// The line that begins at this offset in the file.
+    fn line(&mut self, offset: usize, text: &mut Vec<u8>);
 
     /// Whether the last line has its LF.
     fn ends_with_lf(&self) -> bool {
@@ -57,23 +62,31 @@ trait Author {
 }
 
 pub fn generate(kind: FileKind, seed: u64, lines: usize, output: &mut impl Write) -> Result<()> {
-    match kind {
-        FileKind::Hot => write_lines(Guided::hot(seed), lines, output),
-        FileKind::Wide => write_lines(Guided::wide(seed), lines, output),
-        FileKind::Malformed => write_lines(Malformed::new(seed), lines, output),
-        FileKind::Session => write_lines(Session::new(seed), lines, output),
+    let settings_lines = SettingsLines::of(kind, seed);
+    let settings = settings_lines.as_ref().map_or(Settings::NOT_GIVEN, SettingsLines::left);
+    let mut author: Box<dyn Author> = match kind {
+        FileKind::Hot => Box::new(Guided::hot(seed, settings)),
+        FileKind::Wide => Box::new(Guided::wide(seed, settings)),
+        FileKind::Malformed => Box::new(Malformed::new(seed, settings)),
+        FileKind::Session => Box::new(Session::new(seed, settings)),
+    };
+    match settings_lines {
+        Some(settings_lines) => write_lines(&mut WithSettings::new(settings_lines, author), lines, output),
+        None => write_lines(&mut *author, lines, output),
     }
 }
 
-fn write_lines(mut author: impl Author, lines: usize, output: &mut impl Write) -> Result<()> {
+fn write_lines(author: &mut dyn Author, lines: usize, output: &mut impl Write) -> Result<()> {
     let mut text = Vec::new();
+    let mut offset = 0;
     for line in 1..=lines {
         text.clear();
-        author.line(&mut text);
+        author.line(offset, &mut text);
         if line < lines || author.ends_with_lf() {
             text.push(b'\n');
         }
         output.write_all(&text)?;
+        offset += text.len();
     }
     Ok(())
 }

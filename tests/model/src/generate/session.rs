@@ -1,5 +1,5 @@
-//! A working session: eight desks open files, read and write their blocks and close them again. Callbacks are replied
-//! to at once; now and then the server crashes and all eight report.
+//! A working session: all desks open files, read and write their blocks and close them again. Callbacks are replied to
+//! at once; now and then the server crashes and all of them report.
 
 use std::collections::VecDeque;
 
@@ -7,11 +7,10 @@ use super::Author;
 use super::rng::Rng;
 use super::stage::{Scope, Stage};
 use super::text::write_step;
-use crate::{BLOCKS, CLIENTS, FILES, Mode, Outcome, Step};
+use crate::{CLIENTS, Mode, Outcome, Settings, Step};
 
-/// Files that every desk works on; the others belong to one desk each.
+/// So many files, or all if there are fewer, are for every desk to work on.
 const SHARED_FILES: usize = 8;
-const OWN_FILES: usize = (FILES - SHARED_FILES) / CLIENTS;
 const LINES_BETWEEN_CRASHES: usize = 20_000;
 
 #[derive(Clone, Copy)]
@@ -24,27 +23,34 @@ struct Job {
 
 pub struct Session {
     stage: Stage,
+    shared_files: usize,
+    /// The other files belong to one desk each: so many to each desk.
+    own_files: usize,
     desks: [Option<Job>; CLIENTS],
     /// Steps that follow at once: callback replies, or reports and the end.
     due: VecDeque<Step>,
 }
 
 impl Session {
-    pub fn new(seed: u64) -> Self {
-        let stage = Stage::new(Rng::new(seed ^ 0x5e55_1017), Scope::WHOLE);
-        Session { stage, desks: [None; CLIENTS], due: VecDeque::new() }
+    pub fn new(seed: u64, settings: Settings) -> Self {
+        let sizes = settings.read();
+        let stage = Stage::new(Rng::new(seed ^ 0x5e55_1017), settings, Scope::whole(sizes));
+        let shared_files = sizes.files.min(SHARED_FILES);
+        let own_files = (sizes.files - shared_files) / sizes.clients;
+        Session { stage, shared_files, own_files, desks: [None; CLIENTS], due: VecDeque::new() }
     }
 
     fn choose(&mut self) -> Step {
         if let Some(step) = self.due.pop_front() {
             return step;
         }
+        let clients = self.stage.sizes().clients;
         if self.stage.rng.one_in(LINES_BETWEEN_CRASHES) {
-            self.due.extend((0..CLIENTS as u64).map(|client| Step::Report { client }));
+            self.due.extend((0..clients as u64).map(|client| Step::Report { client }));
             self.due.push_back(Step::End);
             return Step::Crash;
         }
-        let desk = self.stage.rng.below(CLIENTS);
+        let desk = self.stage.rng.below(clients);
         match self.desks[desk] {
             None => self.begin(desk),
             Some(Job { mode, file, accesses: 0 }) => {
@@ -61,14 +67,17 @@ impl Session {
     fn begin(&mut self, desk: usize) -> Step {
         let rng = &mut self.stage.rng;
         let mode = if rng.below(10) < 7 { Mode::Read } else { Mode::Write };
-        let own = SHARED_FILES + desk * OWN_FILES + rng.below(OWN_FILES);
-        let file = if rng.one_in(3) { rng.below(SHARED_FILES) } else { own } as u64;
+        let own = match self.own_files {
+            0 => rng.below(self.shared_files),
+            files => self.shared_files + desk * files + rng.below(files),
+        };
+        let file = if rng.one_in(3) { rng.below(self.shared_files) } else { own } as u64;
         self.desks[desk] = Some(Job { mode, file, accesses: 10 + rng.below(40) });
         Step::Open { mode, client: desk as u64, file }
     }
 
     fn access(&mut self, desk: usize, job: Job) -> Step {
-        let (client, file, block) = (desk as u64, job.file, self.stage.rng.below(BLOCKS) as u64);
+        let (client, file, block) = (desk as u64, job.file, self.stage.some_block());
         if job.mode == Mode::Read || self.stage.rng.one_in(2) {
             return Step::Read { client, file, block };
         }
@@ -81,7 +90,7 @@ impl Session {
 }
 
 impl Author for Session {
-    fn line(&mut self, text: &mut Vec<u8>) {
+    fn line(&mut self, _offset: usize, text: &mut Vec<u8>) {
         let step = self.choose();
         write_step(&step, text);
         if let (Step::Open { file, .. }, Outcome::Waits(callbacks)) = (step, self.stage.take(&step)) {

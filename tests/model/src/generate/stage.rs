@@ -1,7 +1,7 @@
 //! The model run beside the author, so that steps are chosen with knowledge of the state.
 
 use super::rng::Rng;
-use crate::{BLOCKS, CLIENTS, Document01, Entry, FILES, Mode, Outcome, Service, Step};
+use crate::{Document01, Entry, Mode, Outcome, Service, Settings, Sizes, Step};
 
 /// The clients, files and blocks that are drawn from, the first of each.
 #[derive(Clone, Copy)]
@@ -12,7 +12,9 @@ pub struct Scope {
 }
 
 impl Scope {
-    pub const WHOLE: Scope = Scope { clients: CLIENTS, files: FILES, blocks: BLOCKS };
+    pub fn whole(sizes: Sizes) -> Self {
+        Scope { clients: sizes.clients, files: sizes.files, blocks: sizes.blocks }
+    }
 }
 
 #[derive(Clone, Copy)]
@@ -49,12 +51,16 @@ pub struct Stage {
 }
 
 impl Stage {
-    pub fn new(rng: Rng, scope: Scope) -> Self {
-        Stage { rng, service: Service::fresh(), scope, stray: 200, latest: (0, 0) }
+    pub fn new(rng: Rng, settings: Settings, scope: Scope) -> Self {
+        Stage { rng, service: Service::fresh_of(settings), scope, stray: 200, latest: (0, 0) }
+    }
+
+    pub fn sizes(&self) -> Sizes {
+        self.service.sizes()
     }
 
     pub fn take(&mut self, step: &Step) -> Outcome {
-        if let Some((client, file)) = step.existing_place() {
+        if let Some((client, file)) = step.existing_place(self.sizes()) {
             self.latest = (client as u64, file as u64);
         }
         self.service.take::<Document01>(step)
@@ -63,6 +69,10 @@ impl Stage {
     /// Whether some file of the scope is like this at the server.
     pub fn any(&self, fits: impl Fn(&Entry) -> bool) -> bool {
         self.service.server.entries[..self.scope.files].iter().any(fits)
+    }
+
+    pub fn any_open_waits(&self) -> bool {
+        self.any(|entry| entry.waiting.read(self.sizes()).is_some())
     }
 
     /// Any step but a crash.
@@ -90,7 +100,10 @@ impl Stage {
                 Step::Write { client, file, block, value: self.value() }
             }
             StepKind::Flush => Step::Flush { client: self.client(), file: self.file(), block: self.block() },
-            StepKind::Report => Step::Report { client: self.number(CLIENTS, CLIENTS) },
+            StepKind::Report => {
+                let clients = self.sizes().clients;
+                Step::Report { client: self.number(clients, clients) }
+            }
             StepKind::End => Step::End,
         }
     }
@@ -114,15 +127,15 @@ impl Stage {
     }
 
     fn client(&mut self) -> u64 {
-        if self.rng.one_in(3) { self.latest.0 } else { self.number(self.scope.clients, CLIENTS) }
+        if self.rng.one_in(3) { self.latest.0 } else { self.number(self.scope.clients, self.sizes().clients) }
     }
 
     fn file(&mut self) -> u64 {
-        if self.rng.one_in(3) { self.latest.1 } else { self.number(self.scope.files, FILES) }
+        if self.rng.one_in(3) { self.latest.1 } else { self.number(self.scope.files, self.sizes().files) }
     }
 
     fn block(&mut self) -> u64 {
-        self.number(self.scope.blocks, BLOCKS)
+        self.number(self.scope.blocks, self.sizes().blocks)
     }
 
     /// A number below `scope`, or now and then one of `limit` or more.

@@ -36,7 +36,7 @@ impl Tide {
         let other_mode = if self.first_mode == Mode::Read { Mode::Write } else { Mode::Read };
         let mode = if cycle.is_multiple_of(2) { self.first_mode } else { other_mode };
         let open = Step::Open { mode, client: 0, file: 0 };
-        if stage.service.server.recovering || stage.any(|entry| entry.waiting.read().is_some()) {
+        if stage.service.server.recovering || stage.any_open_waits() {
             return stage.rng.one_in(3).then_some(open);
         }
         self.turn += 1;

@@ -19,12 +19,12 @@ fn cut(field: u8) -> usize {
 fn a_last_writer_of_8_or_more_is_none_in_the_state_names() {
     for field in NO_CLIENT {
         let made = HandMade::fresh().last_writer(field);
-        assert_eq!(State::of(made.entry()), State::Closed, "{field}");
-        assert_eq!(State::of(made.at_server(cut(field), READER).entry()), State::OneReader, "{field}");
+        assert_eq!(made.state(), State::Closed, "{field}");
+        assert_eq!(made.at_server(cut(field), READER).state(), State::OneReader, "{field}");
     }
     let made = HandMade::fresh().last_writer(7);
-    assert_eq!(State::of(made.entry()), State::ClosedDirty);
-    assert_eq!(State::of(made.at_server(7, READER).entry()), State::OneRdrDirty);
+    assert_eq!(made.state(), State::ClosedDirty);
+    assert_eq!(made.at_server(7, READER).state(), State::OneRdrDirty);
 }
 
 /// The rows "CLOSED: none, none" and "ONE_READER: none, each other open one: 2", not those of a last writer.

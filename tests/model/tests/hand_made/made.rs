@@ -1,8 +1,8 @@
 //! Services made by hand: file 0 as a test wants it, the other files fresh.
 
 use model::{
-    Callbacks, ClientField, ClientFile, ClientSet, Copies, Document01, Entry, Mode, Outcome, Record, Service, Step,
-    VersionField, WaitField,
+    Callbacks, ClientField, ClientFile, ClientSet, Copies, Document01, Entry, Mode, Outcome, Record, Service, Settings,
+    Sizes, State, Step, VersionField, WaitField,
 };
 
 use crate::listing::{Listing, check_from};
@@ -38,6 +38,24 @@ impl HandMade {
 
     pub fn client(&self, client: usize) -> &ClientFile {
         &self.service.clients[client].files[0]
+    }
+
+    pub fn sizes(&self) -> Sizes {
+        self.service.sizes()
+    }
+
+    pub fn state(&self) -> State {
+        State::of(self.sizes(), self.entry())
+    }
+
+    pub fn permission_at_grant(&self, opener: usize, mode: Mode) -> bool {
+        self.entry().permission_at_grant(self.sizes(), opener, mode)
+    }
+
+    /// The settings as they are stored, in range or not.
+    pub fn settings(mut self, clients: u64, files: u64, blocks: u64) -> Self {
+        self.service.settings = Settings { clients, files, blocks };
+        self
     }
 
     fn with_entry(mut self, change: impl FnOnce(&mut Entry)) -> Self {

@@ -15,4 +15,6 @@ mod promises;
 mod random;
 mod recovery;
 mod refusals;
+mod settings;
+mod sizes;
 mod waits;

@@ -11,7 +11,7 @@ fn table(records: &[(usize, Record)]) -> HandMade {
 /// "Names, first that fits."
 #[test]
 fn names_first_that_fits() {
-    let named = |records: &[(usize, Record)], last_writer| State::of(table(records).last_writer(last_writer).entry());
+    let named = |records: &[(usize, Record)], last_writer| table(records).last_writer(last_writer).state();
     assert_eq!(named(&[], 255), State::Closed);
     assert_eq!(named(&[], 7), State::ClosedDirty);
     assert_eq!(named(&[(0, uncached(READER))], 255), State::WriteShared);
@@ -27,8 +27,8 @@ fn names_first_that_fits() {
 #[test]
 fn permission_of_a_closed_client_names_no_state() {
     let closed_with_permission = Record { may_cache: true, ..Record::default() };
-    assert_eq!(State::of(table(&[(0, closed_with_permission)]).entry()), State::Closed);
-    assert_eq!(State::of(table(&[(0, closed_with_permission), (1, READER)]).entry()), State::OneReader);
+    assert_eq!(table(&[(0, closed_with_permission)]).state(), State::Closed);
+    assert_eq!(table(&[(0, closed_with_permission), (1, READER)]).state(), State::OneReader);
 }
 
 /// "0 CLOSED .. 1 CLOSED_DIRTY .. 6 WRITE_SHARED .. 5 ONE_WRITER .. 3 ONE_RDRDIRTY .. 2 ONE_READER .. 4 MULT_READERS"
@@ -50,24 +50,24 @@ fn codes_are_those_of_the_document() {
 #[test]
 fn another_writer_shuts_caching_out() {
     let shared = table(&[(1, WRITER)]);
-    assert!(!shared.entry().permission_at_grant(0, Mode::Read));
-    assert!(shared.entry().permission_at_grant(1, Mode::Read));
+    assert!(!shared.permission_at_grant(0, Mode::Read));
+    assert!(shared.permission_at_grant(1, Mode::Read));
 }
 
 /// ".. or this is a write open with some other station open .."
 #[test]
 fn another_open_client_shuts_caching_out_for_write() {
     let shared = table(&[(1, READER)]);
-    assert!(shared.entry().permission_at_grant(0, Mode::Read));
-    assert!(!shared.entry().permission_at_grant(0, Mode::Write));
+    assert!(shared.permission_at_grant(0, Mode::Read));
+    assert!(!shared.permission_at_grant(0, Mode::Write));
 }
 
 /// ".. or some station open before the grant, the opener included, may not cache."
 #[test]
 fn a_missing_permission_shuts_caching_out() {
-    assert!(!table(&[(1, uncached(READER))]).entry().permission_at_grant(0, Mode::Read));
-    assert!(!table(&[(0, uncached(READER))]).entry().permission_at_grant(0, Mode::Write));
-    assert!(table(&[(0, READER)]).entry().permission_at_grant(0, Mode::Write));
+    assert!(!table(&[(1, uncached(READER))]).permission_at_grant(0, Mode::Read));
+    assert!(!table(&[(0, uncached(READER))]).permission_at_grant(0, Mode::Write));
+    assert!(table(&[(0, READER)]).permission_at_grant(0, Mode::Write));
 }
 
 /// "CLOSED_DIRTY, ONE_RDRDIRTY: last writer": a last writer is called in no other state.

@@ -1,9 +1,11 @@
-//! Document 01 read once more: plainly, apart from the model's own rules, and for any service.
+//! Document 01 and Wish 7 of document 02 read once more: plainly, apart from the model's own rules, and for any service.
 
 use model::{
-    BLOCKS, Callbacks, ClientField, ClientFile, ClientSet, Copies, Entry, Grant, Mode, Outcome, Record, Server,
-    Service, Step, VersionField, WaitField,
+    CLIENTS, Callbacks, ClientField, ClientFile, Entry, Grant, Mode, Outcome, Record, Service, Sizes, Step,
+    VersionField,
 };
+
+use crate::sizes::in_force;
 
 /// Takes a step that is not refused.
 pub fn accept(service: &mut Service, step: &Step) -> Outcome {
@@ -16,37 +18,55 @@ pub fn accept(service: &mut Service, step: &Step) -> Outcome {
             File::of(service, file).write(client as usize, block as usize, value)
         }
         Step::Flush { client, file, block } => File::of(service, file).flush(client as usize, block as usize),
-        Step::Crash => crash(&mut service.server),
+        Step::Crash => crash(service),
         Step::Report { client } => report(service, client as usize),
-        Step::End => end(&mut service.server),
+        Step::End => end(service),
     }
 }
 
 /// "'files' and how many files are not CLOSED or not at version 1, and for each, ascending: file, state code, version,
 /// last writer or '-'."
-pub fn summary(server: &Server) -> String {
-    let line = |(file, entry): (usize, &Entry)| {
-        let (state, version) = (state(entry), entry.version.0.max(1));
-        let last_writer = if entry.last_writer.0 < 8 { entry.last_writer.0.to_string() } else { "-".into() };
+pub fn summary(service: &Service) -> String {
+    let Sizes { clients, files, .. } = in_force(service);
+    let line = |file: usize| {
+        let entry = &service.server.entries[file];
+        let (state, version) = (state(clients, entry), entry.version.0.max(1));
+        let last_writer = last_writer(clients, entry).map_or("-".into(), |client| client.to_string());
         ((state, version) != (0, 1)).then(|| format!("{file} {state} {version} {last_writer}\n"))
     };
-    let lines: Vec<String> = server.entries.iter().enumerate().filter_map(line).collect();
+    let lines: Vec<String> = (0..files).filter_map(line).collect();
     format!("files {}\n{}", lines.len(), lines.concat())
 }
 
 /// "The server's readers, writers, permissions, last writers, waits and reports are lost; nothing at a station changes;
 /// recovery begins."
-fn crash(server: &mut Server) -> Outcome {
-    for entry in &mut server.entries {
-        *entry = Entry { version: entry.version, blocks: entry.blocks, ..Entry::fresh() };
+fn crash(service: &mut Service) -> Outcome {
+    let Sizes { clients, files, .. } = in_force(service);
+    for entry in &mut service.server.entries[..files] {
+        entry.last_writer = ClientField::NONE;
+        no_wait(clients, entry);
+        entry.records[..clients].fill(Record { readers: 0, writers: 0, may_cache: false });
     }
-    (server.recovering, server.reported) = (true, ClientSet::NONE);
+    no_reports(clients, service);
+    service.server.recovering = true;
     Outcome::Done
+}
+
+fn no_reports(clients: usize, service: &mut Service) {
+    for client in 0..clients {
+        service.server.reported = service.server.reported.without(client);
+    }
+}
+
+fn no_wait(clients: usize, entry: &mut Entry) {
+    (entry.waiting.opener, entry.waiting.mode) = (ClientField::NONE, Mode::Read);
+    entry.waiting.callbacks.0[..clients].fill(0);
 }
 
 /// "A station gives counts, permissions and marks for all files; the table takes them."
 fn report(service: &mut Service, client: usize) -> Outcome {
-    for (entry, own) in service.server.entries.iter_mut().zip(&service.clients[client].files) {
+    for file in 0..in_force(service).files {
+        let (entry, own) = (&mut service.server.entries[file], &service.clients[client].files[file]);
         entry.records[client] = own.record;
         if own.last_writer_flag {
             entry.last_writer = ClientField(client as u8);
@@ -56,9 +76,10 @@ fn report(service: &mut Service, client: usize) -> Outcome {
     Outcome::Done
 }
 
-/// "After eight reports the service runs again."
-fn end(server: &mut Server) -> Outcome {
-    (server.recovering, server.reported) = (false, ClientSet::NONE);
+/// "After eight reports the service runs again": after those of all clients.
+fn end(service: &mut Service) -> Outcome {
+    no_reports(in_force(service).clients, service);
+    service.server.recovering = false;
     Outcome::Done
 }
 
@@ -67,19 +88,21 @@ fn is_open(record: &Record) -> bool {
     (record.readers, record.writers) != (0, 0)
 }
 
-fn is_last_writer(entry: &Entry, client: usize) -> bool {
-    usize::from(entry.last_writer.0) == client
+/// "A station field of 8 or more reads as none", and so does one past the settings.
+fn last_writer(clients: usize, entry: &Entry) -> Option<usize> {
+    (0..clients).find(|&client| usize::from(entry.last_writer.0) == client)
 }
 
 /// The code of "Names, first that fits".
-fn state(entry: &Entry) -> u8 {
-    let open: Vec<usize> = (0..8).filter(|&client| is_open(&entry.records[client])).collect();
+fn state(clients: usize, entry: &Entry) -> u8 {
+    let open: Vec<usize> = (0..clients).filter(|&client| is_open(&entry.records[client])).collect();
+    let last_writer = last_writer(clients, entry);
     match open[..] {
-        [] if entry.last_writer.0 > 7 => 0,
+        [] if last_writer.is_none() => 0,
         [] => 1,
         _ if open.iter().any(|&client| !entry.records[client].may_cache) => 6,
         [one] if entry.records[one].writers > 0 => 5,
-        [one] if is_last_writer(entry, one) => 3,
+        [one] if last_writer == Some(one) => 3,
         [_] => 2,
         _ => 4,
     }
@@ -92,12 +115,13 @@ fn keeps_permission(record: &Record, mode: Mode) -> bool {
 }
 
 /// "Otherwise these other stations are called (1 write-back, 2 invalidate, 3 both)."
-fn calls(entry: &Entry, opener: usize, mode: Mode) -> [u8; 8] {
-    let state = state(entry);
+fn calls(clients: usize, entry: &Entry, opener: usize, mode: Mode) -> [u8; CLIENTS] {
+    let (state, last_writer) = (state(clients, entry), last_writer(clients, entry));
     std::array::from_fn(|client| match (state, mode) {
+        _ if client >= clients => 0,
         _ if client == opener || keeps_permission(&entry.records[opener], mode) => 0,
-        (1 | 3, Mode::Read) if is_last_writer(entry, client) => 1,
-        (1 | 3, Mode::Write) if is_last_writer(entry, client) => 3,
+        (1 | 3, Mode::Read) if last_writer == Some(client) => 1,
+        (1 | 3, Mode::Write) if last_writer == Some(client) => 3,
         (2 | 4, Mode::Write) if is_open(&entry.records[client]) => 2,
         (5, _) if is_open(&entry.records[client]) => 3,
         (6, _) if is_open(&entry.records[client]) && entry.records[client].may_cache => 2,
@@ -108,14 +132,14 @@ fn calls(entry: &Entry, opener: usize, mode: Mode) -> [u8; 8] {
 /// "Save where permission is kept as above, the opener may cache unless some other station is open with writers, or this
 /// is a write open with some other station open, or some station open before the grant, the opener included, may not
 /// cache."
-fn permission(entry: &Entry, opener: usize, mode: Mode) -> bool {
+fn permission(clients: usize, entry: &Entry, opener: usize, mode: Mode) -> bool {
     let shuts_out = |client: usize| {
         let record = &entry.records[client];
         let shares = client != opener && (record.writers > 0 || mode == Mode::Write);
         is_open(record) && (shares || !record.may_cache)
     };
     let own = &entry.records[opener];
-    if keeps_permission(own, mode) { own.may_cache } else { !(0..8).any(shuts_out) }
+    if keeps_permission(own, mode) { own.may_cache } else { !(0..clients).any(shuts_out) }
 }
 
 /// "Close in a mode lowers that count by 1", and "a count of 0 stays 0". "A final close takes its permission away." Gives
@@ -131,55 +155,66 @@ fn lower(record: &mut Record, mode: Mode) -> bool {
 /// "With permission, the copy is kept when its label equals the latest version, or for a write open the previous one;
 /// otherwise its blocks are dropped. The label becomes the latest. Without permission the copy is dropped, label 0. A
 /// write open clears the mark."
-fn check_copy(own: &mut ClientFile, mode: Mode, grant: &Grant) {
+fn check_copy(blocks: usize, own: &mut ClientFile, mode: Mode, grant: &Grant) {
     let oldest = if mode == Mode::Write { grant.previous } else { grant.latest };
     if !(grant.may_cache && (oldest..=grant.latest).contains(&own.cached_version)) {
-        own.copies = Copies::default();
+        drop_blocks(blocks, own);
     }
     own.cached_version = if grant.may_cache { grant.latest } else { 0 };
     own.last_writer_flag &= mode == Mode::Read;
 }
 
-/// One file: the server's end and the eight clients'.
+/// "A dropped block is not held, not dirty and zero."
+fn drop_blocks(blocks: usize, own: &mut ClientFile) {
+    for block in 0..blocks {
+        (own.copies.values[block], own.copies.held[block], own.copies.dirty[block]) = (0, false, false);
+    }
+}
+
+/// One file: the server's end and the clients'.
 struct File<'a> {
+    sizes: Sizes,
     entry: &'a mut Entry,
-    clients: [&'a mut ClientFile; 8],
+    clients: [&'a mut ClientFile; CLIENTS],
 }
 
 impl<'a> File<'a> {
     fn of(service: &'a mut Service, file: u64) -> Self {
-        let file = file as usize;
+        let (file, sizes) = (file as usize, in_force(service));
         let clients = service.clients.each_mut().map(|client| &mut client.files[file]);
-        File { entry: &mut service.server.entries[file], clients }
+        File { sizes, entry: &mut service.server.entries[file], clients }
     }
 
     /// "With no call due the open is granted in that step; else it waits."
     fn open(&mut self, opener: usize, mode: Mode) -> Outcome {
-        let callbacks = Callbacks(calls(self.entry, opener, mode));
-        if callbacks.0 == [0; 8] {
+        let clients = self.sizes.clients;
+        let kinds = calls(clients, self.entry, opener, mode);
+        if kinds == [0; CLIENTS] {
             return Outcome::Granted(self.grant(opener, mode));
         }
-        self.entry.waiting = WaitField { opener: ClientField(opener as u8), mode, callbacks };
-        Outcome::Waits(callbacks)
+        let waiting = &mut self.entry.waiting;
+        (waiting.opener, waiting.mode) = (ClientField(opener as u8), mode);
+        waiting.callbacks.0[..clients].copy_from_slice(&kinds[..clients]);
+        Outcome::Waits(Callbacks(kinds))
     }
 
     /// "The count of that mode rises by 1. For write, the version rises by 1 and the last writer becomes none. .. The
     /// grant tells latest version, previous (latest less 1) and permission."
     fn grant(&mut self, opener: usize, mode: Mode) -> Grant {
-        let may_cache = permission(self.entry, opener, mode);
+        let may_cache = permission(self.sizes.clients, self.entry, opener, mode);
         let mut latest = self.entry.version.0.max(1);
         if mode == Mode::Write {
             latest = latest.checked_add(1).unwrap_or(latest);
             (self.entry.version, self.entry.last_writer) = (VersionField(latest), ClientField::NONE);
         }
-        self.entry.waiting = WaitField::NONE;
+        no_wait(self.sizes.clients, self.entry);
         for record in [&mut self.entry.records[opener], &mut self.clients[opener].record] {
             let count = if mode == Mode::Read { &mut record.readers } else { &mut record.writers };
             *count = count.checked_add(1).unwrap_or(255);
             record.may_cache = may_cache;
         }
         let grant = Grant { latest, previous: latest - 1, may_cache };
-        check_copy(self.clients[opener], mode, &grant);
+        check_copy(self.sizes.blocks, self.clients[opener], mode, &grant);
         grant
     }
 
@@ -199,17 +234,18 @@ impl<'a> File<'a> {
         let kind = std::mem::take(&mut self.entry.waiting.callbacks.0[client]);
         if kind != 2 {
             let dirty = self.clients[client].copies.dirty;
-            (0..BLOCKS).filter(|&block| dirty[block]).for_each(|block| self.send(client, block));
+            (0..self.sizes.blocks).filter(|&block| dirty[block]).for_each(|block| self.send(client, block));
             (self.clients[client].last_writer_flag, self.entry.last_writer) = (false, ClientField::NONE);
         }
         if kind != 1 {
             let own = &mut self.clients[client];
-            (own.copies, own.cached_version) = (Copies::default(), 0);
+            drop_blocks(self.sizes.blocks, own);
+            own.cached_version = 0;
             (own.record.may_cache, self.entry.records[client].may_cache) = (false, false);
         }
-        let WaitField { opener, mode, callbacks } = self.entry.waiting;
-        let opener = usize::from(opener.0);
-        let was_last = !callbacks.0.iter().any(|kind| (1..=3).contains(kind));
+        let (opener, mode) = (usize::from(self.entry.waiting.opener.0), self.entry.waiting.mode);
+        let kinds = &self.entry.waiting.callbacks.0[..self.sizes.clients];
+        let was_last = !kinds.iter().any(|kind| (1..=3).contains(kind));
         Outcome::Replied(was_last.then(|| (opener, self.grant(opener, mode))))
     }
 

@@ -1,9 +1,11 @@
 //! What holds of every step from every service, hand-made or not.
 
 use model::{
-    CLIENTS, Callbacks, ClientField, Document01, Entry, FILES, Outcome, Service, Step, VersionField, WaitField,
+    CLIENTS, Callbacks, ClientField, Document01, Entry, FILES, Mode, Outcome, Record, Service, Settings, Sizes, Step,
+    VersionField,
 };
 
+use crate::sizes::{in_force, with_past_of};
 use crate::{plain, refusals};
 
 /// A step, and the service before and after it.
@@ -21,6 +23,15 @@ impl Taken {
         Taken { before, step, outcome, after }
     }
 
+    fn sizes(&self) -> Sizes {
+        in_force(&self.before)
+    }
+
+    /// The client and the file of the step, if both exist.
+    fn place(&self) -> Option<(usize, usize)> {
+        self.step.existing_place(self.sizes())
+    }
+
     /// The refusal's number.
     fn refusal(&self) -> Option<usize> {
         match self.outcome {
@@ -31,7 +42,7 @@ impl Taken {
 
     /// The opener that is granted in this step, and its file.
     fn granted(&self) -> Option<(usize, usize)> {
-        let (client, file) = self.step.existing_place()?;
+        let (client, file) = self.place()?;
         match self.outcome {
             Outcome::Granted(_) => Some((client, file)),
             Outcome::Replied(granted) => granted.map(|(opener, _)| (opener, file)),
@@ -40,7 +51,7 @@ impl Taken {
     }
 
     fn touches(&self, client: usize, file: usize) -> bool {
-        self.step.existing_place() == Some((client, file)) || self.granted() == Some((client, file))
+        self.place() == Some((client, file)) || self.granted() == Some((client, file))
     }
 }
 
@@ -51,7 +62,7 @@ pub fn broken(taken: &Taken) -> Option<&'static str> {
 
 type Promise = fn(&Taken) -> bool;
 
-const PROMISES: [(&str, Promise); 10] = [
+const PROMISES: [(&str, Promise); 12] = [
     ("refusals are tested in number order, lowest first", |taken| {
         taken.refusal() == refusals::lowest(&taken.before, &taken.step)
     }),
@@ -64,38 +75,61 @@ const PROMISES: [(&str, Promise); 10] = [
     }),
     ("a step gets a reply of its own form", has_its_form),
     ("at a crash, a report and an end nothing at a client changes", |taken| {
-        taken.step.existing_place().is_some() || taken.after.clients == taken.before.clients
+        taken.place().is_some() || taken.after.clients == taken.before.clients
     }),
     ("versions and blocks survive a crash; the rest does not", |taken| {
+        let Sizes { clients, files, .. } = taken.sizes();
         let survives = |(after, before): (&Entry, &Entry)| {
-            *after == Entry { version: before.version, blocks: before.blocks, ..Entry::fresh() }
+            let lost = after.records[..clients].iter().all(|record| *record == Record::default());
+            let kept = (after.version, after.blocks) == (before.version, before.blocks);
+            lost && kept && after.last_writer == ClientField::NONE && nothing_waits(clients, after)
         };
         let (server, before) = (&taken.after.server, &taken.before.server);
-        taken.step != Step::Crash || server.recovering && server.entries.iter().zip(&before.entries).all(survives)
+        let mut entries = server.entries[..files].iter().zip(&before.entries);
+        taken.step != Step::Crash || server.recovering && entries.all(survives)
     }),
     ("a step on a file leaves the other files and the other clients alone", leaves_the_rest_alone),
     ("a read, a write and a flush leave the table as it is", leaves_the_table),
     ("after a grant no open waits and no callback is out", |taken| {
-        taken.granted().is_none_or(|(_, file)| taken.after.server.entries[file].waiting == WaitField::NONE)
+        let after = |file| nothing_waits(taken.sizes().clients, &taken.after.server.entries[file]);
+        taken.granted().is_none_or(|(_, file)| after(file))
     }),
-    ("a client field of 8 or more reads as none, a version of 0 as 1, a kind above 3 as no callback", |taken| {
+    ("a client field past the clients reads as none, a version of 0 as 1, a kind above 3 as no callback", |taken| {
         let plain = Taken::from(as_read(&taken.before), taken.step);
         plain.outcome == taken.outcome && as_read(&plain.after) == as_read(&taken.after)
     }),
+    ("a step leaves the settings, and what lies past them, as they came", |taken| {
+        taken.after.settings == taken.before.settings && with_past_of(&taken.after, &taken.before) == taken.after
+    }),
+    ("what lies past the settings is not looked at", |taken| {
+        let nothing_past = with_past_of(&taken.before, &Service::fresh());
+        let without = Taken::from(nothing_past, taken.step);
+        without.outcome == taken.outcome && with_past_of(&without.after, &taken.before) == taken.after
+    }),
 ];
+
+fn nothing_waits(clients: usize, entry: &Entry) -> bool {
+    let none = (entry.waiting.opener, entry.waiting.mode) == (ClientField::NONE, Mode::Read);
+    none && entry.waiting.callbacks.0[..clients].iter().all(|&kind| kind == 0)
+}
 
 /// "G latest previous permission; or W and each call; or V value; or N refusal; or A, followed, if an open was granted,
 /// by its station and its G fields; else K."
 fn has_its_form(taken: &Taken) -> bool {
+    let clients = taken.sizes().clients;
     match (taken.step, taken.outcome) {
         (_, Outcome::Refused(_)) => taken.step != Step::Crash,
         (Step::Open { .. }, Outcome::Granted(grant)) => grant.previous + 1 == grant.latest,
         (Step::Open { client, .. }, Outcome::Waits(Callbacks(kinds))) => {
-            kinds != [0; CLIENTS] && kinds[client as usize] == 0 && kinds.iter().all(|&kind| kind <= 3)
+            let (called, past) = kinds.split_at(clients);
+            called.iter().any(|&kind| kind > 0)
+                && called[client as usize] == 0
+                && called.iter().all(|&kind| kind <= 3)
+                && past.iter().all(|&kind| kind == 0)
         }
         (Step::Reply { .. }, Outcome::Replied(None)) => true,
         (Step::Reply { .. }, Outcome::Replied(Some((opener, grant)))) => {
-            opener < CLIENTS && grant.previous + 1 == grant.latest
+            opener < clients && grant.previous + 1 == grant.latest
         }
         (Step::Read { .. }, Outcome::Value(_)) => true,
         (Step::Open { .. } | Step::Reply { .. } | Step::Read { .. }, _) => false,
@@ -104,7 +138,7 @@ fn has_its_form(taken: &Taken) -> bool {
 }
 
 fn leaves_the_rest_alone(taken: &Taken) -> bool {
-    let Some((_, file)) = taken.step.existing_place() else { return true };
+    let Some((_, file)) = taken.place() else { return true };
     let (before, after) = (&taken.before, &taken.after);
     let same_entry = |other| after.server.entries[other] == before.server.entries[other];
     let same_end = |client: usize, file: usize| after.clients[client].files[file] == before.clients[client].files[file];
@@ -125,15 +159,18 @@ fn leaves_the_table(taken: &Taken) -> bool {
 /// The same service with every field stored as it reads.
 fn as_read(service: &Service) -> Service {
     let mut read = service.clone();
-    for entry in &mut read.server.entries {
+    let Sizes { clients, files, blocks } = in_force(service);
+    read.settings = Settings { clients: clients as u64, files: files as u64, blocks: blocks as u64 };
+    for entry in &mut read.server.entries[..files] {
         entry.version = VersionField(entry.version.0.max(1));
-        if entry.last_writer.0 >= 8 {
+        if usize::from(entry.last_writer.0) >= clients {
             entry.last_writer = ClientField::NONE;
         }
-        let WaitField { opener, callbacks, .. } = &mut entry.waiting;
-        callbacks.0.iter_mut().filter(|kind| **kind > 3).for_each(|kind| *kind = 0);
-        if opener.0 >= 8 {
-            entry.waiting = WaitField::NONE;
+        let waits = usize::from(entry.waiting.opener.0) < clients;
+        let kinds = &mut entry.waiting.callbacks.0[..clients];
+        kinds.iter_mut().filter(|kind| !waits || **kind > 3).for_each(|kind| *kind = 0);
+        if !waits {
+            (entry.waiting.opener, entry.waiting.mode) = (ClientField::NONE, Mode::Read);
         }
     }
     read

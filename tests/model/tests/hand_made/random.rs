@@ -1,16 +1,18 @@
-//! Random services with every sort of field, and random steps on them with numbers in and out of range.
+//! Random services with every sort of field and of settings, what lies past them included, and random steps on them with
+//! numbers in and out of range.
 
 use std::ops::Range;
 
 use model::check::{Tally, Witness};
 use model::generate::Rng;
 use model::{
-    BLOCKS, CLIENTS, Callbacks, ClientField, ClientFile, ClientSet, Copies, Document01, FILES, Mode, Record, Refusal,
-    Service, Step, VersionField, WaitField, replay_from,
+    CLIENTS, Callbacks, ClientField, ClientFile, ClientSet, Copies, Document01, FILES, Mode, Record, Refusal, Service,
+    Settings, Step, VersionField, WaitField, replay_from,
 };
 
 use crate::plain;
 use crate::promises::{Taken, broken};
+use crate::sizes::in_force;
 
 /// Takes so many steps from the service of each seed, under every promise; tells what they met.
 fn hold(seeds: Range<u64>, steps: usize) -> Tally {
@@ -27,7 +29,7 @@ fn hold(seeds: Range<u64>, steps: usize) -> Tally {
             service = taken.after;
         }
         let summary = replay_from::<Document01>(&mut service, b"", &mut ());
-        assert_eq!(String::from_utf8_lossy(&summary), plain::summary(&service.server), "seed {seed}");
+        assert_eq!(String::from_utf8_lossy(&summary), plain::summary(&service), "seed {seed}");
     }
     tally
 }
@@ -45,13 +47,17 @@ fn random_services_keep_every_promise() {
 
 /// Run it with `--release` and `--ignored`.
 #[test]
-#[ignore = "takes a minute"]
+#[ignore = "takes minutes"]
 fn many_random_services_keep_every_promise() {
     hold(1_000_000..1_500_000, 8);
 }
 
-/// The files that are made by hand; the others are fresh.
-const MADE: [usize; 3] = [0, 1, FILES - 1];
+/// The files that are made by hand: the first two, the last one, and those just past it and at the end of the arrays.
+/// The others are fresh.
+fn made(service: &Service) -> [usize; 5] {
+    let files = in_force(service).files;
+    [0, 1, files - 1, files.min(FILES - 1), FILES - 1]
+}
 
 struct Maker {
     rng: Rng,
@@ -60,12 +66,25 @@ struct Maker {
 impl Maker {
     fn service(&mut self) -> Service {
         let mut service = Service::fresh();
+        service.settings = self.settings();
         service.server.recovering = self.rng.one_in(4);
         service.server.reported = self.reported();
-        for file in MADE {
+        for file in made(&service) {
             self.make(&mut service, file);
         }
         service
+    }
+
+    /// Settings in range or, each by itself, out of it.
+    fn settings(&mut self) -> Settings {
+        if self.rng.one_in(4) {
+            return Settings::NOT_GIVEN;
+        }
+        let [clients, files, blocks] = [8, 64, 8].map(|largest| {
+            let beyond = [0, largest + 1, 255, 256 + largest, (1 << 32) + 1, u64::MAX];
+            if self.rng.one_in(5) { *self.rng.pick(&beyond) } else { 1 + self.rng.below(largest as usize) as u64 }
+        });
+        Settings { clients, files, blocks }
     }
 
     fn reported(&mut self) -> ClientSet {
@@ -126,7 +145,9 @@ impl Maker {
     }
 
     fn step(&mut self, service: &Service) -> Step {
-        let (mode, client, file, block) = (self.mode(), self.number(CLIENTS), self.file(), self.number(BLOCKS));
+        let sizes = in_force(service);
+        let (client, file, block) = (self.number(sizes.clients), self.file(service), self.number(sizes.blocks));
+        let mode = self.mode();
         match self.rng.below(33) {
             0..9 => Step::Open { mode, client, file },
             9..13 => Step::Close { mode, client, file },
@@ -142,13 +163,18 @@ impl Maker {
 
     /// Half of the time a client that is called on this file, if any is.
     fn called(&mut self, service: &Service, file: u64) -> Option<u64> {
-        let waiting = service.server.entries.get(file as usize)?.waiting.read()?;
+        let waiting = service.server.entries.get(file as usize)?.waiting.read(in_force(service))?;
         let called: Vec<usize> = waiting.callbacks.clients().members().collect();
         (self.coin() && !called.is_empty()).then(|| *self.rng.pick(&called) as u64)
     }
 
-    fn file(&mut self) -> u64 {
-        if self.rng.one_in(20) { self.number(FILES) } else { *self.rng.pick(&MADE) as u64 }
+    fn file(&mut self, service: &Service) -> u64 {
+        let [first, second, last, past, _] = made(service);
+        match self.rng.below(20) {
+            0 => self.number(in_force(service).files),
+            1 => past as u64,
+            _ => *self.rng.pick(&[first, second.min(last), last]) as u64,
+        }
     }
 
     /// A number below the limit, or now and then one at it or above.

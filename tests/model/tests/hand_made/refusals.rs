@@ -1,7 +1,9 @@
 //! "Who can cause a refusal", read once more and apart from the model: the numbers that each step tests, and what each
 //! number says of a service and a step.
 
-use model::{ClientFile, Entry, Mode, Record, Service, Step};
+use model::{ClientFile, Entry, Mode, Record, Service, Sizes, Step};
+
+use crate::sizes::in_force;
 
 /// The lowest number of the step's list that holds.
 pub fn lowest(service: &Service, step: &Step) -> Option<usize> {
@@ -26,16 +28,17 @@ fn tested(step: &Step) -> &'static [usize] {
 /// A number above 4 is asked for only where 2, 3 and 4 do not hold.
 fn holds(number: usize, service: &Service, step: &Step) -> bool {
     let Numbers { client, file, block } = Numbers::of(step);
+    let Sizes { clients, files, blocks } = in_force(service);
     let at = || Place::of(service, client as usize, file as usize);
     match number {
-        2 => client > 7,
-        3 => file > 31,
-        4 => block > 3,
+        2 => client >= clients as u64,
+        3 => file >= files as u64,
+        4 => block >= blocks as u64,
         5 => service.server.recovering && recovery_stops(service, step, &at(), block as usize),
         6 => !service.server.recovering,
         7 => service.server.reported.contains(client as usize),
-        8 => (0..8).any(|client| !service.server.reported.contains(client)),
-        9 => at().entry.waiting.opener.0 < 8,
+        8 => (0..clients).any(|client| !service.server.reported.contains(client)),
+        9 => at().open_waits(),
         10 => !at().is_called(client as usize),
         11 => !is_open_as_needed(&at().own.record, step),
         12 => count(&at().own.record, mode(step)) == 255,
@@ -68,17 +71,23 @@ impl Numbers {
 
 /// A file at the server and at the client of the step.
 struct Place<'a> {
+    clients: usize,
     entry: &'a Entry,
     own: &'a ClientFile,
 }
 
 impl<'a> Place<'a> {
     fn of(service: &'a Service, client: usize, file: usize) -> Self {
-        Place { entry: &service.server.entries[file], own: &service.clients[client].files[file] }
+        let (entry, own) = (&service.server.entries[file], &service.clients[client].files[file]);
+        Place { clients: in_force(service).clients, entry, own }
+    }
+
+    fn open_waits(&self) -> bool {
+        usize::from(self.entry.waiting.opener.0) < self.clients
     }
 
     fn is_called(&self, client: usize) -> bool {
-        self.entry.waiting.opener.0 < 8 && (1..=3).contains(&self.entry.waiting.callbacks.0[client])
+        self.open_waits() && (1..=3).contains(&self.entry.waiting.callbacks.0[client])
     }
 }
 

@@ -1,78 +1,131 @@
--- `read_block` meets its contract: what the tests and the stores give is a read, by `read-done`. Assumes nothing.
+-- `read_block` meets its contract: refused, from the copy, or from the server, and then held where the client may
+-- cache. Assumes nothing.
+use Prim.Native.Nat.{_<_}
+use mathlib.Core.Path.{_≡_, refl, _∙_}
+use mathlib.Core.Bool.{false}
+use native.Mathlib.Omega.{arith}
+use lib.ListN.{getD}
 use denote.Ref.{now}
-use Rattle.access.proofs.Accessed.{read-done}
+use Rattle.decision.specs.Sizes.{maxClients, maxFiles, maxBlocks, place, cell}
+use Rattle.decision.specs.Lists.{firstOf}
+use Rattle.protocol.specs.declared.reply.Reply.the-variants.{Refused}
+use Rattle.protocol.specs.Refusal.{readTests}
+use Rattle.blocks.specs.Stores.{lent}
+use Rattle.blocks.proofs.Wrapped.{wrapped, wrapped-block}
+use Rattle.access.specs.BlockStep.{afterRead}
+use Rattle.protocol.proofs.Tested.{named-block, when-accepted}
+use Rattle.access.proofs.Accessed.{leaves-as, leaves-refused, read-step, read-tests, read-copy, read-fetched, read-server}
 use borrow.Author.Needs.{needs}
 use Rattle.access.proofs.access.read_block.Statement.{statement}
 use Rattle.access.proofs.access.read_block.Tie as tie
 
-cell-of-requires : tie.Need-cell-of-requires
-cell-of-requires c κs = search needs
-
-place-of-requires : tie.Need-place-of-requires
-place-of-requires c κs = search needs
-
-element-copy-out-is-held : tie.Need-element-copy-out-is-held
-element-copy-out-is-held c = search needs
-
-mul-server-value : tie.Need-mul-server-value
-mul-server-value c = search needs
-
-element-copy-out-server-value : tie.Need-element-copy-out-server-value
-element-copy-out-server-value c = search needs
-
-read-refusal-requires : tie.Need-read-refusal-requires
-read-refusal-requires c κs = search needs
-
-mul-either : tie.Need-mul-either
-mul-either c = search needs
-
-element-copy-out-either : tie.Need-element-copy-out-either
-element-copy-out-either c = search needs
-
-either-requires : tie.Need-either-requires
-either-requires c κs = search needs
-
-store-copy-if-requires : tie.Need-store-copy-if-requires
-store-copy-if-requires c κs = search needs
-
-store-flag-if-requires : tie.Need-store-flag-if-requires
-store-flag-if-requires c κs = search needs
-
-unless-refused-requires : tie.Need-unless-refused-requires
-unless-refused-requires c κs = search needs
+-- the tests go by the flag of the block that the step names
+tests-of : (c : tie.After-read-refusal)
+    → (let a = c .before .before .before .before .args in
+    c .read-refusal .result
+    ≡ firstOf
+    (readTests (a .sizes) (a .recovering) (a .reported) (a .own) (getD (now (a .held)) (cell (a .client) (a .file) (a .block)) false)
+    (a .client) (a .file) (a .block)))
+tests-of c =
+    let a = c .before .before .before .before .args in
+    rw (← read-tests (a .sizes) (a .recovering) (a .reported) (a .own) (now (a .held)) (a .client) (a .file) (a .block) (c .before .before .before .before .pre))
+    (rw (← c .before .before .before .cell-of .ensures .0) (c .read-refusal .ensures))
 
 returns : tie.Need-returns
 returns c =
-    let flagged = c .before in
-    let copied = flagged .before .before in
-    let chosen = copied .before .before .before in
-    let tested = chosen .before .before .before in
-    let placed = tested .before .before .before .before in
-    let a = placed .before .before .args in
-    read-done (a .recovering) (a .reported) (a .own) (a .client) (a .file) (a .block) (now (a .blocks)) (now (a .copies)) (now (a .held))
-    (placed .before .cell-of .result) (placed .place-of .result) (tested .read-refusal .result) (chosen .either .result) _ _ _
-    (placed .before .cell-of .ensures)
-    (placed .place-of .ensures)
-    (tested .read-refusal .ensures)
-    (chosen .either .ensures)
-    (copied .store-copy-if .ensures)
-    (flagged .store-flag-if .ensures)
-    (c .unless-refused .ensures)
+    let a = c .before .before .before .before .before .args in
+    leaves-refused (readTests (a .sizes) (a .recovering) (a .reported) (a .own) (getD (now (a .held)) (cell (a .client) (a .file) (a .block)) false)
+    (a .client) (a .file) (a .block))
+    (now (a .blocks)) (now (a .copies)) (now (a .held)) (now (a .dirty)) _ _ _ _
+    (read-step (a .sizes) (a .recovering) (a .reported) (a .own) (lent (now (a .blocks)) (now (a .copies)) (now (a .held)) (now (a .dirty))) (a .client) (a .file) (a .block))
+    (tests-of (c .before))
+    (c .if1 .taken)
+    refl
+
+returns-2 : tie.Need-returns-2
+returns-2 c =
+    let a = c .before .before .before .before .before .before .before .before .args in
+    let (client, file, block) =
+    named-block (a .sizes) (a .client) (a .file) (a .block) (c .before .before .before .before .read-refusal .result) _
+    (c .before .before .before .before .read-refusal .ensures)
+    (c .before .before .before .if1 .left) in
+    let hi : a .client < maxClients = omega (arith, client, c .before .before .before .before .before .before .before .before .pre .clients) in
+    let hf : a .file < maxFiles = omega (arith, file, c .before .before .before .before .before .before .before .before .pre .files) in
+    let hb : a .block < maxBlocks = omega (arith, block, c .before .before .before .before .before .before .before .before .pre .blocks) in
+    let at : c .before .before .before .before .before .before .before .cell-of .result ≡ cell (a .client) (a .file) (a .block) =
+    c .before .before .before .before .before .before .before .cell-of .ensures .0 ∙ wrapped (a .client) (a .file) (a .block) hi hf hb in
+    let both = c .before .if2 .taken in
+    leaves-as _ _ _ _ _ _ _
+    (read-step (a .sizes) (a .recovering) (a .reported) (a .own) (lent (now (a .blocks)) (now (a .copies)) (now (a .held)) (now (a .dirty))) (a .client) (a .file) (a .block)
+    ∙ when-accepted (readTests (a .sizes) (a .recovering) (a .reported) (a .own) (getD (now (a .held)) (cell (a .client) (a .file) (a .block)) false)
+    (a .client) (a .file) (a .block)) (λ k. record { stores = lent (now (a .blocks)) (now (a .copies)) (now (a .held)) (now (a .dirty)); reply = Refused k })
+    (afterRead (a .own) (lent (now (a .blocks)) (now (a .copies)) (now (a .held)) (now (a .dirty))) (a .client) (a .file) (a .block)) _
+    (tests-of (c .before .before .before .before))
+    (c .before .before .before .if1 .left))
+    (read-copy (a .own .opens .caching) (a .client) (a .file) (a .block) (now (a .blocks)) (now (a .copies)) (now (a .held)) (now (a .dirty)) (c .before .before .before .before .before .before .before .cell-of .result) at both)
+
+returns-3 : tie.Need-returns-3
+returns-3 c =
+    let a = c .before .before .before .before .before .before .before .before .before .before .args in
+    let (client, file, block) =
+    named-block (a .sizes) (a .client) (a .file) (a .block) (c .before .before .before .before .before .before .read-refusal .result) _
+    (c .before .before .before .before .before .before .read-refusal .ensures)
+    (c .before .before .before .before .before .if1 .left) in
+    let hi : a .client < maxClients = omega (arith, client, c .before .before .before .before .before .before .before .before .before .before .pre .clients) in
+    let hf : a .file < maxFiles = omega (arith, file, c .before .before .before .before .before .before .before .before .before .before .pre .files) in
+    let hb : a .block < maxBlocks = omega (arith, block, c .before .before .before .before .before .before .before .before .before .before .pre .blocks) in
+    let at : c .before .before .before .before .before .before .before .before .before .cell-of .result ≡ cell (a .client) (a .file) (a .block) =
+    c .before .before .before .before .before .before .before .before .before .cell-of .ensures .0 ∙ wrapped (a .client) (a .file) (a .block) hi hf hb in
+    let to : c .before .before .place-of .result ≡ place (a .file) (a .block) =
+    c .before .before .place-of .ensures .0 ∙ wrapped-block (a .file) (a .block) hf hb in
+    leaves-as _ _ _ _ _ _ _
+    (read-step (a .sizes) (a .recovering) (a .reported) (a .own) (lent (now (a .blocks)) (now (a .copies)) (now (a .held)) (now (a .dirty))) (a .client) (a .file) (a .block)
+    ∙ when-accepted (readTests (a .sizes) (a .recovering) (a .reported) (a .own) (getD (now (a .held)) (cell (a .client) (a .file) (a .block)) false)
+    (a .client) (a .file) (a .block)) (λ k. record { stores = lent (now (a .blocks)) (now (a .copies)) (now (a .held)) (now (a .dirty)); reply = Refused k })
+    (afterRead (a .own) (lent (now (a .blocks)) (now (a .copies)) (now (a .held)) (now (a .dirty))) (a .client) (a .file) (a .block)) _
+    (tests-of (c .before .before .before .before .before .before))
+    (c .before .before .before .before .before .if1 .left))
+    (read-fetched (a .own .opens .caching) (a .client) (a .file) (a .block) (now (a .blocks)) (now (a .copies)) (now (a .held)) (now (a .dirty))
+    (c .before .before .before .before .before .before .before .before .before .cell-of .result) (c .before .before .place-of .result) at to (c .before .before .before .if2 .left) (c .if3 .taken))
+
+returns-4 : tie.Need-returns-4
+returns-4 c =
+    let a = c .before .before .before .before .before .before .before .before .before .before .args in
+    let (client, file, block) =
+    named-block (a .sizes) (a .client) (a .file) (a .block) (c .before .before .before .before .before .before .read-refusal .result) _
+    (c .before .before .before .before .before .before .read-refusal .ensures)
+    (c .before .before .before .before .before .if1 .left) in
+    let hi : a .client < maxClients = omega (arith, client, c .before .before .before .before .before .before .before .before .before .before .pre .clients) in
+    let hf : a .file < maxFiles = omega (arith, file, c .before .before .before .before .before .before .before .before .before .before .pre .files) in
+    let hb : a .block < maxBlocks = omega (arith, block, c .before .before .before .before .before .before .before .before .before .before .pre .blocks) in
+    let to : c .before .before .place-of .result ≡ place (a .file) (a .block) =
+    c .before .before .place-of .ensures .0 ∙ wrapped-block (a .file) (a .block) hf hb in
+    leaves-as _ _ _ _ _ _ _
+    (read-step (a .sizes) (a .recovering) (a .reported) (a .own) (lent (now (a .blocks)) (now (a .copies)) (now (a .held)) (now (a .dirty))) (a .client) (a .file) (a .block)
+    ∙ when-accepted (readTests (a .sizes) (a .recovering) (a .reported) (a .own) (getD (now (a .held)) (cell (a .client) (a .file) (a .block)) false)
+    (a .client) (a .file) (a .block)) (λ k. record { stores = lent (now (a .blocks)) (now (a .copies)) (now (a .held)) (now (a .dirty)); reply = Refused k })
+    (afterRead (a .own) (lent (now (a .blocks)) (now (a .copies)) (now (a .held)) (now (a .dirty))) (a .client) (a .file) (a .block)) _
+    (tests-of (c .before .before .before .before .before .before))
+    (c .before .before .before .before .before .if1 .left))
+    (read-server (a .own .opens .caching) (a .client) (a .file) (a .block) (now (a .blocks)) (now (a .copies)) (now (a .held)) (now (a .dirty))
+    (c .before .before .place-of .result) to (c .if3 .left))
 
 pub read-block-spec : {M : Type 1} → statement M
 read-block-spec =
     tie.close
     (tie.spec
-    cell-of-requires
-    place-of-requires
-    element-copy-out-is-held
-    mul-server-value
-    element-copy-out-server-value
-    read-refusal-requires
-    mul-either
-    element-copy-out-either
-    either-requires
-    store-copy-if-requires
-    store-flag-if-requires
-    unless-refused-requires
-    returns)
+    (search needs)
+    (search needs)
+    (search needs)
+    returns
+    (search needs)
+    (search needs)
+    returns-2
+    (search needs)
+    (search needs)
+    (search needs)
+    (search needs)
+    (search needs)
+    (search needs)
+    returns-3
+    returns-4)

@@ -1,64 +1,83 @@
--- `write_block` meets its contract: what the tests and the stores give is a write, by `write-done`. Assumes nothing.
+-- `write_block` meets its contract: refused, or the copy or the server's block is written. Assumes nothing.
+use Prim.Native.Nat.{_<_}
+use mathlib.Core.Path.{_≡_, refl, _∙_}
+use native.Mathlib.Omega.{arith}
 use denote.Ref.{now}
-use Rattle.access.proofs.Accessed.{write-done}
+use Rattle.decision.specs.Sizes.{maxClients, maxFiles, maxBlocks, place, cell}
+use Rattle.protocol.specs.declared.reply.Reply.the-variants.{Refused}
+use Rattle.protocol.specs.Refusal.{writeTests}
+use Rattle.blocks.specs.Stores.{lent}
+use Rattle.blocks.proofs.Wrapped.{wrapped, wrapped-block}
+use Rattle.access.specs.BlockStep.{afterWrite}
+use Rattle.protocol.proofs.Tested.{named-block, when-accepted}
+use Rattle.access.proofs.Accessed.{leaves-as, leaves-refused, write-step}
 use borrow.Author.Needs.{needs}
 use Rattle.access.proofs.access.write_block.Statement.{statement}
 use Rattle.access.proofs.access.write_block.Tie as tie
 
-cell-of-requires : tie.Need-cell-of-requires
-cell-of-requires c κs = search needs
-
-place-of-requires : tie.Need-place-of-requires
-place-of-requires c κs = search needs
-
-write-refusal-requires : tie.Need-write-refusal-requires
-write-refusal-requires c κs = search needs
-
-store-block-if-requires : tie.Need-store-block-if-requires
-store-block-if-requires c κs = search needs
-
-store-copy-if-requires : tie.Need-store-copy-if-requires
-store-copy-if-requires c κs = search needs
-
-store-flag-if-requires : tie.Need-store-flag-if-requires
-store-flag-if-requires c κs = search needs
-
-store-flag-if-requires-2 : tie.Need-store-flag-if-requires-2
-store-flag-if-requires-2 c κs = search needs
-
-unless-refused-requires : tie.Need-unless-refused-requires
-unless-refused-requires c κs = search needs
-
 returns : tie.Need-returns
 returns c =
-    let soiled = c .before in
-    let flagged = soiled .before .before in
-    let copied = flagged .before .before in
-    let sent = copied .before .before in
-    let tested = sent .before .before .before .before in
-    let placed = tested .before .before in
-    let a = placed .before .before .args in
-    write-done (a .recovering) (a .reported) (a .own) (a .client) (a .file) (a .block) (now (a .blocks)) (now (a .copies)) (now (a .held))
-    (now (a .dirty)) (a .value) (placed .before .cell-of .result) (placed .place-of .result) (tested .write-refusal .result) _ _ _ _ _
-    (placed .before .cell-of .ensures)
-    (placed .place-of .ensures)
-    (tested .write-refusal .ensures)
-    (sent .store-block-if .ensures)
-    (copied .store-copy-if .ensures)
-    (flagged .store-flag-if .ensures)
-    (soiled .store-flag-if2 .ensures)
-    (c .unless-refused .ensures)
+    let a = c .before .before .before .args in
+    leaves-refused (writeTests (a .sizes) (a .recovering) (a .reported) (a .own) (a .client) (a .file) (a .block))
+    (now (a .blocks)) (now (a .copies)) (now (a .held)) (now (a .dirty)) _ _ _ _
+    (write-step (a .sizes) (a .recovering) (a .reported) (a .own) (lent (now (a .blocks)) (now (a .copies)) (now (a .held)) (now (a .dirty))) (a .client) (a .file) (a .block) (a .value))
+    (c .before .write-refusal .ensures)
+    (c .if1 .taken)
+    refl
+
+returns-2 : tie.Need-returns-2
+returns-2 c =
+    let a = c .before .before .before .before .before .args in
+    let (client, file, block) =
+    named-block (a .sizes) (a .client) (a .file) (a .block) (c .before .before .before .write-refusal .result) _
+    (c .before .before .before .write-refusal .ensures)
+    (c .before .before .if1 .left) in
+    let hi : a .client < maxClients = omega (arith, client, c .before .before .before .before .before .pre .clients) in
+    let hf : a .file < maxFiles = omega (arith, file, c .before .before .before .before .before .pre .files) in
+    let hb : a .block < maxBlocks = omega (arith, block, c .before .before .before .before .before .pre .blocks) in
+    let at : c .cell-of .result ≡ cell (a .client) (a .file) (a .block) =
+    c .cell-of .ensures .0 ∙ wrapped (a .client) (a .file) (a .block) hi hf hb in
+    leaves-as _ _ _ _ _ _ _
+    (write-step (a .sizes) (a .recovering) (a .reported) (a .own) (lent (now (a .blocks)) (now (a .copies)) (now (a .held)) (now (a .dirty))) (a .client) (a .file) (a .block) (a .value)
+    ∙ when-accepted (writeTests (a .sizes) (a .recovering) (a .reported) (a .own) (a .client) (a .file) (a .block)) (λ k. record { stores = lent (now (a .blocks)) (now (a .copies)) (now (a .held)) (now (a .dirty)); reply = Refused k })
+    (afterWrite (a .own) (lent (now (a .blocks)) (now (a .copies)) (now (a .held)) (now (a .dirty))) (a .client) (a .file) (a .block) (a .value)) _
+    (c .before .before .before .write-refusal .ensures)
+    (c .before .before .if1 .left))
+    (record { replyAfter = refl; storesAfter = rw (c .before .if2 .taken, at) })
+
+returns-3 : tie.Need-returns-3
+returns-3 c =
+    let a = c .before .before .before .before .before .args in
+    let (client, file, block) =
+    named-block (a .sizes) (a .client) (a .file) (a .block) (c .before .before .before .write-refusal .result) _
+    (c .before .before .before .write-refusal .ensures)
+    (c .before .before .if1 .left) in
+    let hi : a .client < maxClients = omega (arith, client, c .before .before .before .before .before .pre .clients) in
+    let hf : a .file < maxFiles = omega (arith, file, c .before .before .before .before .before .pre .files) in
+    let hb : a .block < maxBlocks = omega (arith, block, c .before .before .before .before .before .pre .blocks) in
+    let to : c .place-of .result ≡ place (a .file) (a .block) =
+    c .place-of .ensures .0 ∙ wrapped-block (a .file) (a .block) hf hb in
+    leaves-as _ _ _ _ _ _ _
+    (write-step (a .sizes) (a .recovering) (a .reported) (a .own) (lent (now (a .blocks)) (now (a .copies)) (now (a .held)) (now (a .dirty))) (a .client) (a .file) (a .block) (a .value)
+    ∙ when-accepted (writeTests (a .sizes) (a .recovering) (a .reported) (a .own) (a .client) (a .file) (a .block)) (λ k. record { stores = lent (now (a .blocks)) (now (a .copies)) (now (a .held)) (now (a .dirty)); reply = Refused k })
+    (afterWrite (a .own) (lent (now (a .blocks)) (now (a .copies)) (now (a .held)) (now (a .dirty))) (a .client) (a .file) (a .block) (a .value)) _
+    (c .before .before .before .write-refusal .ensures)
+    (c .before .before .if1 .left))
+    (record { replyAfter = refl; storesAfter = rw (c .before .if2 .left, to) })
 
 pub write-block-spec : {M : Type 1} → statement M
 write-block-spec =
     tie.close
     (tie.spec
-    cell-of-requires
-    place-of-requires
-    write-refusal-requires
-    store-block-if-requires
-    store-copy-if-requires
-    store-flag-if-requires
-    store-flag-if-requires-2
-    unless-refused-requires
-    returns)
+    (search needs)
+    returns
+    (search needs)
+    (search needs)
+    (search needs)
+    (search needs)
+    (search needs)
+    (search needs)
+    (search needs)
+    (search needs)
+    returns-2
+    returns-3)

@@ -3,35 +3,14 @@ use borrow.Author.Needs.{needs}
 use Rattle.access.proofs.refusal.write_refusal.Statement.{statement}
 use Rattle.access.proofs.refusal.write_refusal.Tie as tie
 
-refused-if-requires : tie.Need-refused-if-requires
-refused-if-requires c κs = search needs
-
-write-needs-server-requires : tie.Need-write-needs-server-requires
-write-needs-server-requires c κs = search needs
-
-refused-if-requires-2 : tie.Need-refused-if-requires-2
-refused-if-requires-2 c κs = search needs
-
-refused-if-requires-3 : tie.Need-refused-if-requires-3
-refused-if-requires-3 c κs = search needs
-
-refused-if-requires-4 : tie.Need-refused-if-requires-4
-refused-if-requires-4 c κs = search needs
-
-refused-if-requires-5 : tie.Need-refused-if-requires-5
-refused-if-requires-5 c κs = search needs
-
-returns : tie.Need-returns
-returns c = cc
-
 pub write-refusal-spec : {M : Type 1} → statement M
 write-refusal-spec =
     tie.close
     (tie.spec
-    refused-if-requires
-    write-needs-server-requires
-    refused-if-requires-2
-    refused-if-requires-3
-    refused-if-requires-4
-    refused-if-requires-5
-    returns)
+    (search needs)
+    (search needs)
+    (search needs)
+    (search needs)
+    (search needs)
+    (search needs)
+    (λ c. cc))

@@ -5,10 +5,10 @@ use borrow.Author.Needs.{needs}
 use Rattle.records.specs.declared.record.Mode.{Mode}
 use Rattle.records.specs.declared.record.Mode.the-variants.{Read, Write}
 use Rattle.records.specs.declared.record.ClientRecord.{ClientRecord}
-use Rattle.protocol.specs.declared.state.FileState.the-variants.{ClosedDirty, OneReaderDirty, OneReader}
-use Rattle.protocol.specs.declared.state.FileState.the-variants.{MultReaders}
+use Rattle.decision.specs.declared.state.FileState.the-variants.{ClosedDirty, OneReaderDirty, OneReader}
+use Rattle.decision.specs.declared.state.FileState.the-variants.{MultReaders}
 use Rattle.records.specs.Record.{notOpen}
-use Rattle.protocol.specs.Callback.{callbackKind}
+use Rattle.decision.specs.Callback.{callbackKind}
 use Rattle.decision.proofs.callback.callback_kind.Statement.{statement}
 use Rattle.decision.proofs.callback.callback_kind.Tie as tie
 

@@ -1,7 +1,7 @@
 -- `permission_at_grant` meets its contract: an opener that keeps its permission has it as before, and for any other the
 -- three counts decide. Assumes nothing.
 use borrow.Author.Needs.{needs}
-use Rattle.protocol.specs.Permission.{permissionAtGrant}
+use Rattle.decision.specs.Permission.{permissionAtGrant}
 use Rattle.decision.proofs.permission.permission_at_grant.Statement.{statement}
 use Rattle.decision.proofs.permission.permission_at_grant.Tie as tie
 

@@ -2,22 +2,26 @@
 use Prim.Native.Nat.{_-_}
 use native.Mathlib.Omega.{arith}
 use borrow.Author.Needs.{needs}
-use Rattle.protocol.specs.State.{recordIn, has}
-use Rattle.protocol.proofs.Counting.{Counted, counted-none, counted-next, counted-fits, counted-all}
+use Rattle.decision.specs.State.{recordIn, has}
+use Rattle.decision.proofs.Counting.{Counted, counted-none, counted-next, counted-fits, counted-all}
 use Rattle.decision.proofs.state.count_clients.Statement.{statement}
 use Rattle.decision.proofs.state.count_clients.Tie as tie
 
 abbrev Inv-loop : tie.InvT-loop
-Inv-loop property records count₀ i₀ count i = Counted 8 (λ k. has property (recordIn records k)) count i
+Inv-loop clients property records count₀ i₀ count i = Counted clients (λ k. has property (recordIn records k)) count i
 
 abbrev μ-loop : tie.MeasureT-loop
-μ-loop property records count₀ i₀ count i = 8 - i
+μ-loop clients property records count₀ i₀ count i = clients - i
 
 add-count : tie.Need-add-count Inv-loop μ-loop
 add-count c =
     let t = c .before .before .before in
     let test = c .before .has .ensures in
-    omega (arith, counted-fits (t .before .loop .inv) (t .loop-test .taken) test (c .one-if .ensures))
+    omega (
+      arith,
+      counted-fits (t .before .loop .inv) (t .loop-test .taken) test (c .one-if .ensures),
+      t .before .before .pre,
+    )
 
 loop-again : tie.Need-loop-again Inv-loop μ-loop
 loop-again c =

@@ -1,49 +1,57 @@
--- `count_others` meets its contract: after i clients the sum is the tally of the others among them. Assumes nothing.
-use Prim.Native.Nat.{_-_}
-use mathlib.Core.Path.{ap}
-use mathlib.Core.Bool.{Bool, not, _&&_}
-use native.Mathlib.Omega.{arith}
-use lib.Dec.{eqb}
+-- `count_others` meets its contract: a client that is not open is not counted. Assumes nothing.
+use Prim.Native.Nat.{ℕ}
+use mathlib.Core.Path.{_≡_, refl, sym, ap, _∙_}
+use mathlib.Core.Bool.{false, not, _&&_}
+use mathlib.Core.List.{List}
+use lib.Dec.{eqb, ltb}
+use lib.ListN.{length, getD, set, length-set, List·getD-eq-default}
+use lib.Seq.{getD-set-same, getD-set-other}
 use borrow.Author.Needs.{needs}
-use Rattle.protocol.specs.State.{recordIn, has}
-use Rattle.protocol.proofs.Counting.{Counted, counted-none, counted-next, counted-fits, counted-all}
+use borrow.Author.Tests.{eqb-true, eqb-false, ltb-true, ltb-false}
+use Rattle.records.specs.declared.record.ClientRecord.{ClientRecord}
+use Rattle.records.specs.Record.{notOpen}
+use Rattle.records.proofs.Choosing.{split}
+use Rattle.decision.specs.declared.state.Property.{Property}
+use Rattle.decision.specs.declared.state.Property.the-variants.{Open, Uncached, Writing}
+use Rattle.decision.specs.State.{recordIn, has, tally, others}
+use Rattle.decision.proofs.Counting.{count-agree}
 use Rattle.decision.proofs.state.count_others.Statement.{statement}
 use Rattle.decision.proofs.state.count_others.Tie as tie
 
-abbrev Inv-loop : tie.InvT-loop
-Inv-loop property client records count₀ i₀ count i =
-    Counted 8 (λ k. not (eqb k client) && has property (recordIn records k)) count i
+none-has : (p : Property) → has p notOpen ≡ false
+none-has Open = refl
+none-has Uncached = refl
+none-has Writing = refl
 
-abbrev μ-loop : tie.MeasureT-loop
-μ-loop property client records count₀ i₀ count i = 8 - i
+module _ (l : List ClientRecord) (i : ℕ) where
+  without : recordIn (set l i notOpen) i ≡ notOpen
+  without =
+      split (ltb i (length l))
+      (λ e. getD-set-same l i notOpen notOpen (ltb-true i (length l) e))
+      (λ e. List·getD-eq-default (set l i notOpen) notOpen (rw length-set (ltb-false i (length l) e)))
 
-add-count : tie.Need-add-count Inv-loop μ-loop
-add-count c =
-    let t = c .before .before .before in
-    let other = not (eqb (t .before .loop .i) (t .before .before .args .client)) in
-    let test = ap (λ (b : Bool). other && b) (c .before .has .ensures) in
-    omega (arith, counted-fits (t .before .loop .inv) (t .loop-test .taken) test (c .one-if .ensures))
+  counted : (p : Property) (j : ℕ) → has p (recordIn (set l i notOpen) j) ≡ (not (eqb j i) && has p (recordIn l j))
+  counted p j =
+      split (eqb j i)
+      (λ e. rw (e, eqb-true j i e, without) (none-has p))
+      (λ e. rw e (ap (has p) (getD-set-other l i j notOpen notOpen (eqb-false j i e))))
 
-loop-again : tie.Need-loop-again Inv-loop μ-loop
-loop-again c =
-    let t = c .before .before .before in
-    let other = not (eqb (t .before .loop .i) (t .before .before .args .client)) in
-    let test = ap (λ (b : Bool). other && b) (c .before .has .ensures) in
-    counted-next (t .before .loop .inv) (t .loop-test .taken) test (c .one-if .ensures)
+  pub others-without : (n : ℕ) (p : Property) → tally n (recordIn (set l i notOpen)) p ≡ others n (recordIn l) p i
+  others-without n p = count-agree n _ _ (λ j h. counted p j)
+
+returns : tie.Need-returns
+returns c =
+    let without = c .before in
+    let a = without .before .before .args in
+    c .count-clients .ensures
+    ∙ rw (without .with-record .ensures, without .before .not-open .ensures)
+    (others-without (a .records) (a .client) (a .clients) (a .property))
 
 pub count-others-spec : {M : Type 1} → statement M
 count-others-spec =
     tie.close
     (tie.spec
-    Inv-loop
-    μ-loop
-    (λ c. counted-none)
     (search needs)
     (search needs)
     (search needs)
-    (search needs)
-    add-count
-    (search needs)
-    (search needs)
-    loop-again
-    (λ c. counted-all (c .before .loop .inv) (c .loop-test .left)))
+    returns)

@@ -4,22 +4,22 @@ use mathlib.Core.Bool.{cond, _&&_}
 use lib.Dec.{ltb}
 use borrow.Author.Tests.{lt-ltb, le-ltb}
 use borrow.Author.Needs.{needs}
-use Rattle.protocol.specs.declared.state.FileState.the-variants.{OneReader, OneReaderDirty}
+use Rattle.decision.specs.declared.state.FileState.the-variants.{OneReader, OneReaderDirty}
 use Rattle.records.specs.Record.{isOpen}
-use Rattle.protocol.specs.State.{recordIn, stateOf}
+use Rattle.decision.specs.State.{recordIn, stateOf}
 use Rattle.decision.proofs.state.one_open.Statement.{statement}
 use Rattle.decision.proofs.state.one_open.Tie as tie
 
 returns : tie.Need-returns
 unfolding stateOf
-returns c = rw (c .before .before .pre, ← c .before .count-clients .ensures, lt-ltb _ _ (c .if1 .taken))
+returns c = rw (c .before .before .pre .1, ← c .before .count-clients .ensures, lt-ltb _ _ (c .if1 .taken))
 
 returns-2 : tie.Need-returns-2
 unfolding stateOf
 returns-2 c =
     let b = c .before .before in
     rw (
-      b .before .before .pre,
+      b .before .before .pre .1,
       ← b .before .count-clients .ensures,
       le-ltb _ _ (b .if1 .left),
       ← c .before .count-clients2 .ensures,
@@ -29,13 +29,13 @@ returns-2 c =
 -- where it may cache and has no writers, it is a reader
 a-reader : (c : tie.Else2)
     → (let a = c .before .before .before .before .args in
-    stateOf 8 (recordIn (a .records)) (a .last)
-    ≡ cond (ltb (a .last) 8 && isOpen (recordIn (a .records) (a .last))) OneReaderDirty OneReader)
+    stateOf (a .clients) (recordIn (a .records)) (a .last)
+    ≡ cond (ltb (a .last) (a .clients) && isOpen (recordIn (a .records) (a .last))) OneReaderDirty OneReader)
 unfolding stateOf
 a-reader c =
     let b = c .before .before in
     rw (
-      b .before .before .pre,
+      b .before .before .pre .1,
       ← b .before .count-clients .ensures,
       le-ltb _ _ (b .if1 .left),
       ← c .before .count-clients2 .ensures,

@@ -2,7 +2,7 @@
 -- Assumes nothing.
 use borrow.Author.Tests.{lt-ltb, le-ltb, lt-leb, le-leb, ne-eqb}
 use borrow.Author.Needs.{needs}
-use Rattle.protocol.specs.State.{stateOf}
+use Rattle.decision.specs.State.{stateOf}
 use Rattle.decision.proofs.state.state_of.Statement.{statement}
 use Rattle.decision.proofs.state.state_of.Tie as tie
 

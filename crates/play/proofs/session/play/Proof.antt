@@ -15,23 +15,23 @@ use Rattle.play.proofs.session.play.Tie as tie
 
 abbrev Inv-loop : tie.InvT-loop
 Inv-loop fd name buffer₀ out₀ session₀ turns₀ buffer out session turns =
-    (length buffer ≡ 65536) × (length out ≡ 65536) × (session .rest ≤ 65536)
+    (length buffer ≡ 262144) × (length out ≡ 524288) × (session .rest ≤ 262144)
 
 abbrev μ-loop : tie.MeasureT-loop
 μ-loop fd name buffer₀ out₀ session₀ turns₀ buffer out session turns = turns
 
-large-buffer-requires : tie.Need-large-buffer-requires Inv-loop μ-loop
-large-buffer-requires c κs = search needs
+input-buffer-requires : tie.Need-input-buffer-requires Inv-loop μ-loop
+input-buffer-requires c κs = search needs
 
-large-buffer-requires-2 : tie.Need-large-buffer-requires-2 Inv-loop μ-loop
-large-buffer-requires-2 c κs = search needs
+output-buffer-requires : tie.Need-output-buffer-requires Inv-loop μ-loop
+output-buffer-requires c κs = search needs
 
 new-requires : tie.Need-new-requires Inv-loop μ-loop
 new-requires c κs = search needs
 
 loop-holds : tie.Need-loop-holds Inv-loop μ-loop
 loop-holds c =
-    let fresh : c .new .result .rest ≤ 65536 = omega (arith, ap (λ (σ : Session). σ .rest) (c .new .ensures)) in
+    let fresh : c .new .result .rest ≤ 262144 = omega (arith, ap (λ (σ : Session). σ .rest) (c .new .ensures)) in
     (search needs, search needs, fresh)
 
 slice-aggregate-read-if : tie.Need-slice-aggregate-read-if Inv-loop μ-loop
@@ -97,8 +97,8 @@ play-spec =
     (tie.spec
     Inv-loop
     μ-loop
-    large-buffer-requires
-    large-buffer-requires-2
+    input-buffer-requires
+    output-buffer-requires
     new-requires
     loop-holds
     slice-aggregate-read-if

@@ -6,7 +6,7 @@ use native.Mathlib.Omega.{arith}
 use lib.ListN.{length}
 use borrow.Author.Needs.{needs}
 use Rattle.writer.specs.Buffer.{Wrote}
-use Rattle.protocol.specs.Callback.{orderedCalls}
+use Rattle.decision.specs.Callback.{orderedCalls}
 use Rattle.stepfile.specs.Line.{callsText}
 use Rattle.stepfile.proofs.CallTexts.{calls-next}
 use Rattle.writer.proofs.Buffers.{wrote-none, wrote-then, wrote-as}

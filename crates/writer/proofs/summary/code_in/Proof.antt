@@ -1,7 +1,7 @@
 -- `code_in` meets its contract: it is the code of the state. Assumes nothing.
 use mathlib.Core.Path.{_∙_, ap}
 use borrow.Author.Needs.{needs}
-use Rattle.protocol.specs.State.{codeOf}
+use Rattle.decision.specs.State.{codeOf}
 use Rattle.writer.proofs.summary.code_in.Statement.{statement}
 use Rattle.writer.proofs.summary.code_in.Tie as tie
 

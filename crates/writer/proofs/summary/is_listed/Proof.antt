@@ -9,12 +9,12 @@ returns c =
     let closed = c .before .before in
     let coded = closed .before .before in
     rw (c .is-first .ensures, c .before .as-read .ensures)
-    (listed-version (coded .before .args .entry) _ (coded .code-in .ensures) (closed .match .keys1))
+    (listed-version (coded .before .args .clients) (coded .before .args .entry) _ (coded .code-in .ensures) (closed .match .keys1))
 
 returns-2 : tie.Need-returns-2
 returns-2 c =
     let coded = c .before .before in
-    listed-state (coded .before .args .entry) _ (coded .code-in .ensures) (c .match .rest .1)
+    listed-state (coded .before .args .clients) (coded .before .args .entry) _ (coded .code-in .ensures) (c .match .rest .1)
 
 pub is-listed-spec : {M : Type 1} → statement M
 is-listed-spec = tie.close (tie.spec (search needs) (search needs) (search needs) returns returns-2)

@@ -3,45 +3,57 @@ use Prim.Native.Nat.{_+_, _-_, _*_, _≤_}
 use mathlib.Core.Path.{_≡_, refl, sym, _∙_, ap}
 use native.Mathlib.Omega.{arith}
 use lib.ListN.{length}
-use Rattle.writer.specs.Buffer.{Wrote}
 use Rattle.stepfile.specs.Summary.{filesText}
+use Rattle.writer.specs.Buffer.{Wrote}
 use Rattle.writer.proofs.Buffers.{wrote-none, wrote-then, wrote-as}
 use Rattle.writer.proofs.Summaries.{files-next}
+use borrow.Author.Needs.{needs}
 use Rattle.writer.proofs.summary.put_files.Statement.{statement}
 use Rattle.writer.proofs.summary.put_files.Tie as tie
 
 abbrev Inv-loop : tie.InvT-loop
-Inv-loop out₀ at server next₀ file₀ out next file =
-    Wrote out₀ at (filesText file (server .files)) out next × (file ≤ 32) × (next ≤ at + 84 * file) × (length out ≡ length out₀)
+Inv-loop out₀ at sizes table next₀ file₀ out next file =
+    Wrote out₀ at (filesText (sizes .clients) file (table .files)) out next
+    × (file ≤ sizes .files)
+    × (next ≤ at + 84 * file)
+    × (length out ≡ length out₀)
 
 abbrev μ-loop : tie.MeasureT-loop
-μ-loop out₀ at server next₀ file₀ out next file = 32 - file
+μ-loop out₀ at sizes table next₀ file₀ out next file = sizes .files - file
 
 loop-holds : tie.Need-loop-holds Inv-loop μ-loop
 unfolding filesText
 loop-holds c = (wrote-none _ _ (omega arith), omega arith, omega arith, refl)
 
+mul-entry : tie.Need-mul-entry Inv-loop μ-loop
+mul-entry c = search needs
+
+element-copy-out-entry : tie.Need-element-copy-out-entry Inv-loop μ-loop
+element-copy-out-entry c = search needs
+
 put-file-requires : tie.Need-put-file-requires Inv-loop μ-loop
 put-file-requires c κs =
-    let inv = c .before .before .before .loop .inv in
-    omega (arith, inv .1, inv .2, inv .3, c .before .before .loop-test .taken, c .before .before .before .before .before .pre)
+    let inv = c .before .before .before .before .loop .inv in
+    let pre = c .before .before .before .before .before .before .pre in
+    (pre .0 .clients, omega (arith, inv .1, inv .2, inv .3, c .before .before .if1 .taken, pre .0 .files, pre .1))
 
 loop-again : tie.Need-loop-again Inv-loop μ-loop
 loop-again c =
-    let put = c .before .before in
-    let at-loop = put .before .before .before .before in
-    let inv = at-loop .loop .inv in (
-      wrote-as (sym (files-next _ _)) (wrote-then (inv .0) (put .put-file .ensures .0)),
-      omega arith,
-      omega (arith, inv .2, put .put-file .ensures .1),
-      put .put-file .kept .0 ∙ inv .3,
+    let inv = c .before .before .before .before .before .before .before .loop .inv in (
+      wrote-as (sym (files-next _ _ _)) (wrote-then (inv .0) (c .before .before .put-file .ensures .0)),
+      omega (arith, inv .1, c .before .before .before .before .before .if1 .taken),
+      omega (arith, inv .2, c .before .before .put-file .ensures .1),
+      c .before .before .put-file .kept .0 ∙ inv .3,
     )
 
 returns : tie.Need-returns Inv-loop μ-loop
 returns c =
-    let at-loop = c .before in
-    let all : at-loop .loop .file ≡ 32 = omega arith in
-    (wrote-as (ap (λ k. filesText k (at-loop .before .before .args .t3 .files)) all) (at-loop .loop .inv .0), omega arith)
+    let inv = c .before .before .loop .inv in
+    let a = c .before .before .before .before .args in
+    let all : c .before .before .loop .file ≡ a .sizes .files = omega (arith, inv .1, c .if1 .left) in (
+      wrote-as (ap (λ k. filesText (a .sizes .clients) k (a .t4 .files)) all) (inv .0),
+      omega (arith, inv .1, inv .2, c .before .before .before .before .pre .0 .files),
+    )
 
 pub put-files-spec : {M : Type 1} → statement M
 put-files-spec =
@@ -50,11 +62,11 @@ put-files-spec =
     Inv-loop
     μ-loop
     loop-holds
-    (λ c. omega arith)
-    (λ c. omega arith)
+    mul-entry
+    element-copy-out-entry
     put-file-requires
-    (λ c. omega arith)
-    (λ c. omega arith)
+    (search needs)
+    (search needs)
     loop-again
-    (λ c. c .before .loop .inv .3)
+    (search needs)
     returns)

@@ -9,7 +9,7 @@ use Rattle.writer.proofs.summary.put_writer.Tie as tie
 
 returns : tie.Need-returns
 returns c = (
-  wrote-as (sym (when _ _ (lt-ltb _ 8 (c .before .before .before .before .if1 .taken))))
+  wrote-as (sym (when _ _ (lt-ltb _ _ (c .before .before .before .before .if1 .taken))))
       (c .before .before .put-argument .ensures .0),
   search needs,
 )
@@ -17,7 +17,7 @@ returns c = (
 returns-2 : tie.Need-returns-2
 returns-2 c =
     let first = c .before .before .before .before .before .before in (
-      wrote-as (sym (unless _ _ (le-ltb _ 8 (first .before .before .if1 .left))))
+      wrote-as (sym (unless _ _ (le-ltb _ _ (first .before .before .if1 .left))))
           (wrote-then (first .put-byte .ensures .0) (c .before .before .put-byte2 .ensures .0)),
       search needs,
     )

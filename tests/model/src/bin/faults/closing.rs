@@ -1,6 +1,6 @@
 //! Faults of closing: who becomes the last writer, and what a close takes away.
 
-use model::{ClientField, ClientFile, Copies, Entry, Mode};
+use model::{ClientField, ClientFile, Copies, Entry, Mode, Sizes};
 
 use crate::fault::rule_faults;
 
@@ -51,7 +51,7 @@ rule_faults! {
     last_writer_cleared_by_its_read_close {
         fn close_at_server(entry: &mut Entry, client: usize, mode: Mode) {
             entry.close(client, mode);
-            if mode == Mode::Read && entry.last_writer.read() == Some(client) {
+            if mode == Mode::Read && entry.last_writer == ClientField::of(client) {
                 entry.last_writer = ClientField::NONE;
             }
         }
@@ -78,7 +78,7 @@ rule_faults! {
     one_reader_back_when_write_shared_shrinks {
         fn close_at_server(entry: &mut Entry, client: usize, mode: Mode) {
             entry.close(client, mode);
-            if let Some(left) = entry.open_clients().single() {
+            if let Some(left) = entry.open_clients(Sizes::LARGEST).single() {
                 entry.records[left].may_cache = true;
             }
         }

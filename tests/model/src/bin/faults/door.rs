@@ -1,6 +1,6 @@
 //! Faults of the tests at the door: refusals that are missing, too many, or in the wrong order.
 
-use model::{Admission, ClientFile, Kind, Mode, Refusal, Service};
+use model::{Admission, ClientFile, Kind, Mode, Refusal, Service, WaitingOpen};
 
 use crate::fault::rule_faults;
 
@@ -8,12 +8,16 @@ fn at_client(service: &Service, client: u64, file: u64) -> &ClientFile {
     &service.clients[client as usize].files[file as usize]
 }
 
+fn waiting(service: &Service, file: u64) -> Option<WaitingOpen> {
+    service.server.entries[file as usize].waiting.read(service.sizes())
+}
+
 fn in_reach(copy: &ClientFile, block: u64) -> bool {
     copy.record.is_open() && copy.record.may_cache && copy.copies.held[block as usize]
 }
 
 /// The answer as it is, but nothing in place of this refusal where the condition holds.
-fn sparing(answer: Admission, refusal: Refusal, spared: impl FnOnce() -> bool) -> Admission {
+pub fn sparing(answer: Admission, refusal: Refusal, spared: impl FnOnce() -> bool) -> Admission {
     if answer == Err(refusal) && spared() { Ok(()) } else { answer }
 }
 
@@ -26,7 +30,7 @@ rule_faults! {
     waiting_opener_opens_again {
         fn may_open(service: &Service, mode: Mode, client: u64, file: u64) -> Admission {
             sparing(service.may_open(mode, client, file), Refusal::OpenWaits, || {
-                service.server.entries[file as usize].waiting.read().is_some_and(|open| open.opener as u64 == client)
+                waiting(service, file).is_some_and(|open| open.opener as u64 == client)
             })
         }
     }
@@ -183,8 +187,7 @@ rule_faults! {
     flush_refused_while_an_open_waits {
         fn may_flush(service: &Service, client: u64, file: u64, block: u64) -> Admission {
             service.may_flush(client, file, block)?;
-            let waits = service.server.entries[file as usize].waiting.read().is_some();
-            if waits { Err(Refusal::OpenWaits) } else { Ok(()) }
+            if waiting(service, file).is_some() { Err(Refusal::OpenWaits) } else { Ok(()) }
         }
     }
     flush_needs_the_file_open {
@@ -203,7 +206,7 @@ rule_faults! {
     called_client_may_not_read {
         fn may_read(service: &Service, client: u64, file: u64, block: u64) -> Admission {
             service.may_read(client, file, block)?;
-            let called = service.server.entries[file as usize].callback(client as usize).is_some();
+            let called = service.server.entries[file as usize].callback(service.sizes(), client as usize).is_some();
             if called { Err(Refusal::OpenWaits) } else { Ok(()) }
         }
     }
@@ -218,7 +221,7 @@ rule_faults! {
     file_told_before_client_at_reply {
         fn may_reply(service: &Service, client: u64, file: u64) -> Result<Kind, Refusal> {
             match service.may_reply(client, file) {
-                Err(Refusal::NoSuchClient) if file >= model::FILES as u64 => Err(Refusal::NoSuchFile),
+                Err(Refusal::NoSuchClient) if file >= service.sizes().files as u64 => Err(Refusal::NoSuchFile),
                 answer => answer,
             }
         }

@@ -94,7 +94,7 @@ fn without_extra_fields(line: &[u8]) -> Vec<u8> {
         b"XX" | b"EN" => 1,
         b"RP" => 2,
         b"OR" | b"OW" | b"CR" | b"CW" | b"AN" => 3,
-        b"RD" | b"FL" => 4,
+        b"RD" | b"FL" | b"SET" => 4,
         _ => 5,
     };
     fields[..fields.len().min(needed)].join(&b' ')

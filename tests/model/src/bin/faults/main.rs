@@ -11,6 +11,7 @@ mod fault;
 mod lines;
 mod opening;
 mod recovery;
+mod settings;
 mod trial;
 mod unseen;
 
@@ -31,6 +32,7 @@ fn all_faults() -> impl Iterator<Item = &'static Fault> {
         recovery::FAULTS,
         door::FAULTS,
         lines::FAULTS,
+        settings::FAULTS,
         unseen::FAULTS,
     ];
     groups.into_iter().flatten()

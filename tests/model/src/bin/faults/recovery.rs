@@ -1,8 +1,7 @@
 //! Faults of crash, report and end.
 
 use model::{
-    Admission, BLOCKS, Client, ClientField, ClientFile, ClientSet, Entry, Record, Refusal, Server, Service,
-    VersionField,
+    Admission, BLOCKS, Client, ClientField, ClientFile, Entry, Record, Refusal, Server, Service, Sizes, VersionField,
 };
 
 use crate::fault::rule_faults;
@@ -10,7 +9,7 @@ use crate::fault::rule_faults;
 /// The crash as it is, then each entry changed with what it was before.
 fn crash_keeping(service: &mut Service, keep: impl Fn(&mut Entry, &Entry)) {
     let before = service.server.entries.clone();
-    service.server.crash();
+    service.server.crash(service.sizes());
     for (entry, before) in service.server.entries.iter_mut().zip(&before) {
         keep(entry, before);
     }
@@ -40,7 +39,7 @@ rule_faults! {
         fn crash(service: &mut Service) {
             let reported = service.server.reported;
             let again = service.server.recovering;
-            service.server.crash();
+            service.server.crash(service.sizes());
             if again {
                 service.server.reported = reported;
             }
@@ -58,13 +57,13 @@ rule_faults! {
     }
     crash_empties_the_clients {
         fn crash(service: &mut Service) {
-            service.server.crash();
+            service.server.crash(service.sizes());
             service.clients.fill(Client::fresh());
         }
     }
     crash_drops_clean_copies {
         fn crash(service: &mut Service) {
-            service.server.crash();
+            service.server.crash(service.sizes());
             for file in service.clients.iter_mut().flat_map(|client| &mut client.files) {
                 file.copies.held = file.copies.dirty;
             }
@@ -73,13 +72,13 @@ rule_faults! {
     second_crash_ignored {
         fn crash(service: &mut Service) {
             if !service.server.recovering {
-                service.server.crash();
+                service.server.crash(service.sizes());
             }
         }
     }
     crash_needs_no_recovery {
         fn crash(service: &mut Service) {
-            service.server.crash();
+            service.server.crash(service.sizes());
             service.server.recovering = false;
         }
     }
@@ -118,11 +117,11 @@ rule_faults! {
             entry.report(client, file.record, flag);
         }
     }
-    end_after_seven_reports {
+    end_with_one_report_missing {
         fn may_end(service: &Service) -> Admission {
             match service.may_end() {
                 Err(Refusal::ReportsMissing) => {
-                    let missing = ClientSet::ALL.minus(service.server.reported);
+                    let missing = service.server.reports_missing(service.sizes());
                     if missing.single().is_some() { Ok(()) } else { Err(Refusal::ReportsMissing) }
                 }
                 answer => answer,
@@ -130,7 +129,7 @@ rule_faults! {
         }
     }
     end_does_not_end {
-        fn end(_server: &mut Server) {}
+        fn end(_sizes: Sizes, _server: &mut Server) {}
     }
     end_accepted_without_recovery {
         fn may_end(service: &Service) -> Admission {

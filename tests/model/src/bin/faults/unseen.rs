@@ -1,6 +1,6 @@
 //! Faults that no step file can show, each with the reason. They are tried like the others, and must not be found.
 
-use model::{BLOCKS, ClientFile, Entry, Grant, Kind, Mode, Record};
+use model::{BLOCKS, Callbacks, ClientField, ClientFile, Entry, FILES, Grant, Kind, Mode, Record, Service, Sizes};
 
 use crate::fault::rule_faults;
 
@@ -8,18 +8,18 @@ rule_faults! {
     invalidation_keeps_the_cached_version(
         "the blocks are gone, so that keeping the copy at the next grant and dropping it are the same"
     ) {
-        fn answer_at_client(file: &mut ClientFile, kind: Kind, server: &mut [u64; BLOCKS]) {
+        fn answer_at_client(sizes: Sizes, file: &mut ClientFile, kind: Kind, server: &mut [u64; BLOCKS]) {
             let cached_version = file.cached_version;
-            file.answer(kind, server);
+            file.answer(sizes, kind, server);
             file.cached_version = cached_version;
         }
     }
     copy_kept_without_permission(
         "reads go to the server while permission is missing, and cached version 0 drops the copy at the next grant"
     ) {
-        fn grant_at_client(file: &mut ClientFile, mode: Mode, grant: &Grant) {
+        fn grant_at_client(sizes: Sizes, file: &mut ClientFile, mode: Mode, grant: &Grant) {
             let copies = file.copies.clone();
-            file.grant(mode, grant);
+            file.grant(sizes, mode, grant);
             if !grant.may_cache {
                 file.copies = copies;
             }
@@ -50,36 +50,36 @@ rule_faults! {
         }
     }
     dropped_blocks_not_zeroed("a block that is not held is never given") {
-        fn answer_at_client(file: &mut ClientFile, kind: Kind, server: &mut [u64; BLOCKS]) {
+        fn answer_at_client(sizes: Sizes, file: &mut ClientFile, kind: Kind, server: &mut [u64; BLOCKS]) {
             let values = file.copies.values;
-            file.answer(kind, server);
+            file.answer(sizes, kind, server);
             file.copies.values = values;
         }
     }
     other_writers_ignored_at_grant(
         "a writer that may cache is called and loses permission, so that the missing permission shuts caching out"
     ) {
-        fn permission_at_grant(entry: &Entry, opener: usize, mode: Mode) -> bool {
+        fn permission_at_grant(sizes: Sizes, entry: &Entry, opener: usize, mode: Mode) -> bool {
             let mut readers = entry.clone();
-            for client in entry.writing_clients().without(opener).members() {
+            for client in entry.writing_clients(sizes).without(opener).members() {
                 readers.records[client] = Record { readers: 1, writers: 0, ..entry.records[client] };
             }
-            readers.permission_at_grant(opener, mode)
+            readers.permission_at_grant(sizes, opener, mode)
         }
     }
     other_opens_ignored_at_write_grant(
         "every other open client that may cache is called and loses permission, which shuts caching out"
     ) {
-        fn permission_at_grant(entry: &Entry, opener: usize, mode: Mode) -> bool {
+        fn permission_at_grant(sizes: Sizes, entry: &Entry, opener: usize, mode: Mode) -> bool {
             let kept = entry.records[opener].keeps_permission(mode);
-            if kept { entry.permission_at_grant(opener, mode) } else { entry.permission_judged(opener, Mode::Read) }
+            if kept { entry.permission_at_grant(sizes, opener, mode) } else { entry.permission_judged(sizes, opener, Mode::Read) }
         }
     }
     earlier_flag_stands_in_reports("never do two clients have the flag of one file") {
         fn report(entry: &mut Entry, client: usize, file: &ClientFile) {
             let last_writer = entry.last_writer;
             entry.report(client, file.record, file.last_writer_flag);
-            if last_writer.read().is_some() {
+            if last_writer != ClientField::NONE {
                 entry.last_writer = last_writer;
             }
         }
@@ -88,9 +88,35 @@ rule_faults! {
         fn answer_at_server(entry: &mut Entry, client: usize, kind: Kind) {
             let last_writer = entry.last_writer;
             entry.callback_answered(client, kind);
-            if last_writer.read() != Some(client) {
+            if last_writer != ClientField::of(client) {
                 entry.last_writer = last_writer;
             }
+        }
+    }
+    files_past_the_settings_listed("they stay CLOSED at version 1, and such a file is not listed") {
+        fn files_in_summary(_sizes: Sizes) -> usize {
+            FILES
+        }
+    }
+    clients_past_the_settings_looked_at("they are never open, and no field names one of them") {
+        fn callbacks_due(_sizes: Sizes, entry: &Entry, opener: usize, mode: Mode) -> Callbacks {
+            entry.callbacks_due(Sizes::LARGEST, opener, mode)
+        }
+        fn permission_at_grant(_sizes: Sizes, entry: &Entry, opener: usize, mode: Mode) -> bool {
+            entry.permission_at_grant(Sizes::LARGEST, opener, mode)
+        }
+    }
+    blocks_past_the_settings_sent_and_dropped("they are never held or dirty") {
+        fn answer_at_client(_sizes: Sizes, file: &mut ClientFile, kind: Kind, server: &mut [u64; BLOCKS]) {
+            file.answer(Sizes::LARGEST, kind, server);
+        }
+        fn grant_at_client(_sizes: Sizes, file: &mut ClientFile, mode: Mode, grant: &Grant) {
+            file.grant(Sizes::LARGEST, mode, grant);
+        }
+    }
+    crash_reaches_past_the_settings("what lies there is as a crash would leave it") {
+        fn crash(service: &mut Service) {
+            service.server.crash(Sizes::LARGEST);
         }
     }
 }

@@ -14,15 +14,15 @@ use Rattle.records.proofs.Choosing.{when, unless, split}
 use Rattle.writer.specs.Buffer.{WroteIfRoom, summaryRoom}
 use Rattle.player.specs.declared.session.Session.{Session}
 use Rattle.player.specs.declared.session.Advance.{Advance}
-use Rattle.player.specs.Session.{summaryOf, closed, lastOut}
+use Rattle.player.specs.Session.{sessionSummary, closed, lastOut}
 use Rattle.player.proofs.session.Session.close.Statement.{statement}
 use Rattle.player.proofs.session.Session.close.Tie as tie
 
 module _
     (σ : Session) (out out′ : List ℕ) (r : ℕ)
-    (placed : WroteIfRoom summaryRoom out 0 (summaryOf σ) out′ r) (most : r ≤ 0 + summaryRoom) where
-  is-written : r ≡ cond (leb summaryRoom (length out)) (length (summaryOf σ)) 0
-  is-written = placed .next ∙ ap (λ (k : ℕ). cond (leb summaryRoom (length out)) k 0) (zero-add (length (summaryOf σ)))
+    (placed : WroteIfRoom summaryRoom out 0 (sessionSummary σ) out′ r) (most : r ≤ 0 + summaryRoom) where
+  is-written : r ≡ cond (leb summaryRoom (length out)) (length (sessionSummary σ)) 0
+  is-written = placed .next ∙ ap (λ (k : ℕ). cond (leb summaryRoom (length out)) k 0) (zero-add (length (sessionSummary σ)))
 
   fits : r ≤ length out
   fits =
@@ -31,16 +31,16 @@ module _
       (λ e. omega (arith, is-written ∙ unless _ _ e))
 
 write-summary-requires : tie.Need-write-summary-requires
-write-summary-requires c κs = search needs
+write-summary-requires c κs = c .in-force .ensures .1
 
 same-length : tie.Need-same-length
 same-length c = search needs
 
 returns : tie.Need-returns
 returns c =
-    let a = c .before .before .before .before .before .before .before .args in
+    let a = c .before .before .before .before .before .before .before .before .before .before .args in
     let summary = c .before .before .write-summary in
-    let placed = summary .ensures .0 in
+    let placed = rw (c .before .before .before .in-force .ensures .0) at (summary .ensures .0) in
     let most = summary .ensures .1 in (
       ap
           (λ (k : ℕ).
@@ -61,4 +61,4 @@ returns c =
     )
 
 pub close-spec : {M : Type 1} → statement M
-close-spec = tie.close (tie.spec write-summary-requires same-length returns)
+close-spec = tie.close (tie.spec (search needs) write-summary-requires same-length returns)

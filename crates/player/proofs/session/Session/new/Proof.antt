@@ -1,14 +1,10 @@
--- `new` meets its contract by that of the fresh service. Assumes nothing.
+-- `new` meets its contract by those of the default sizes and of the fresh service. Assumes nothing.
 use mathlib.Core.Path.{_≡_}
-use borrow.Author.Needs.{needs}
 use Rattle.player.proofs.session.Session.new.Statement.{statement}
 use Rattle.player.proofs.session.Session.new.Tie as tie
 
-new-requires : tie.Need-new-requires
-new-requires c κs = search needs
-
 returns : tie.Need-returns
-returns c = rw (c .new .ensures .0)
+returns c = rw (c .new .ensures .0, c .before .default .ensures)
 
 pub new-spec : {M : Type 1} → statement M
-new-spec = tie.close (tie.spec new-requires returns)
+new-spec = tie.close (tie.spec (λ c κs. tt) (λ c κs. tt) returns)

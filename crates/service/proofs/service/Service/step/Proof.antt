@@ -1,408 +1,252 @@
--- `Service::step` meets its contract: each arm puts together what its parts give, which `Arms.Result` shows to be the outcome that the
--- definition of a step gives. Assumes nothing.
-use Prim.Native.Nat.{ℕ}
-use mathlib.Core.Path.{_≡_, sym, _∙_}
-use mathlib.Core.List.{List, map}
-use lib.ListN.{length, length-map}
-use Rattle.service.proofs.Arms.Result.{open-result, close-result, read-result, write-result, flush-result, answer-result, crash-result, report-result, end-result}
+-- `Service::step` meets its contract: each class of step stores what its part hands back, which `Arms.Result` shows to be
+-- the outcome that the definition of a step gives. Assumes nothing.
+use Prim.Native.Nat.{_-_}
+use mathlib.Core.Path.{_≡_, sym, ap, ap₂, _∙_}
+use mathlib.Core.Logic.{⊎-elim}
+use native.Mathlib.Omega.{arith}
+use Rattle.decision.specs.Sizes.{Permitted}
+use Rattle.decision.proofs.Storing.{Stored, stored-none, stored-more, stored-all, not-yet}
+use Rattle.protocol.specs.declared.client.ClientFile.{ClientFile}
+use Rattle.protocol.specs.declared.entry.Entry.{Entry}
+use Rattle.protocol.specs.declared.step.Step.{Step}
+use Rattle.protocol.specs.Step.{classOf}
+use Rattle.protocol.specs.Entry.{reportedEntry}
+use Rattle.protocol.specs.Client.{sideOf}
+use Rattle.table.specs.declared.recovery.Sweep.{Sweep}
+use Rattle.table.specs.TableStep.{noEntry, entryOf, sidesIn}
+use Rattle.table.specs.Recovery.{filesAfter}
+use Rattle.service.specs.declared.service.Service.{Service}
+use Rattle.service.specs.Contents.{sizesOf, tableIn}
+use Rattle.service.proofs.Arms.Result.{file-result, block-result, table-result}
 use borrow.Author.Needs.{needs}
 use Rattle.service.proofs.service.Service.step.Statement.{statement}
 use Rattle.service.proofs.service.Service.step.Tie as tie
 
--- an array of structs has its length, which what owns it tells of another form of its elements
-unmapped : (X Y : Type 0) (to : X → Y) (l : List X) (n : ℕ) → length (map to l) ≡ n → length l ≡ n
-unmapped X Y to l n e = sym (length-map l to) ∙ e
+abbrev Inv-loop : tie.InvT-loop
+Inv-loop given sizes files₀ recovering blocks clients copies held dirty calls done client f₀ files f =
+    Stored (sizes .files) (λ k. k) (λ k. reportedEntry (entryOf files₀ k) client (sideOf (sidesIn clients k) client)) files₀
+    files
+    f
 
--- the table has an entry for each file
-table-whole : (c : tie.Start) → length (c .args .self .server .files) ≡ 32
-table-whole c = search unmapped
+abbrev μ-loop : tie.MeasureT-loop
+μ-loop given sizes files₀ recovering blocks clients copies held dirty calls done client f₀ files f = sizes .files - f
 
-returns : tie.Need-returns
-returns c =
-    let opened = c .before .before .before .before .before .before .before in
-    let known = opened .before .before .before .before .step .given in
-    let a = opened .before .before .before .before .before .before .before .before .before .before .before .args in
-    open-result (a .self) (a .step) (known .0 .0) (known .0 .1 .0) (known .0 .1 .1 .0) (opened .open-file .result) _ _ _
-    (known .1)
-    (opened .open-file .ensures)
-    (c .drop-file-unless .ensures .0)
-    (c .drop-file-unless .ensures .1 .0)
-    (c .drop-file-unless .ensures .1 .1)
+-- what is known once the class of the step is told
+module _ (c : tie.After-class Inv-loop μ-loop) where
+  abbrev self-of : Service
+  self-of = c .before .before .before .before .before .before .before .before .before .before .before .before .args .self
 
-returns-2 : tie.Need-returns-2
-returns-2 c =
-    let closed = c .before .before in
-    let known = closed .before .before .before .before .step2 .given in
-    let a = closed .before .before .before .before .before .before .before .before .before .before .before .args in
-    close-result (a .self) (a .step) (known .0 .0) (known .0 .1 .0) (known .0 .1 .1 .0) (closed .close-file .result)
-    (known .1)
-    (closed .close-file .ensures)
+  abbrev step-of : Step
+  step-of = c .before .before .before .before .before .before .before .before .before .before .before .before .args .step
 
-returns-3 : tie.Need-returns-3
-returns-3 c =
-    let known = c .before .before .before .before .before .before .before .before .step3 .given in
-    let a = c .before .before .before .before .before .before .before .before .before .before .before .before .before .before .before .args in
-    read-result (a .self) (a .step) (known .0 .0) (known .0 .1 .0) (known .0 .1 .1 .0) (c .read-block .result) _ _
-    (known .1)
-    (c .read-block .ensures)
+  class-is : classOf step-of ≡ c .class .result
+  class-is = sym (c .class .ensures)
 
-returns-4 : tie.Need-returns-4
-returns-4 c =
-    let known = c .before .before .before .before .before .before .before .before .step4 .given in
-    let a = c .before .before .before .before .before .before .before .before .before .before .before .before .before .before .before .args in
-    write-result (a .self) (a .step) (known .0 .0) (known .0 .1 .0) (known .0 .1 .1 .0) (c .write-block .result) (known .0 .1 .1 .1 .0)
-    _ _ _ _
-    (known .1)
-    (c .write-block .ensures)
+  in-force : c .before .before .before .before .before .before .before .before .before .before .in-force .result ≡ sizesOf self-of
+  in-force = c .before .before .before .before .before .before .before .before .before .before .in-force .ensures .0
 
-returns-5 : tie.Need-returns-5
-returns-5 c =
-    let known = c .before .before .before .before .before .step5 .given in
-    let a = c .before .before .before .before .before .before .before .before .before .before .before .before .args in
-    flush-result (a .self) (a .step) (known .0 .0) (known .0 .1 .0) (known .0 .1 .1 .0) (c .flush-block .result) _ _
-    (known .1)
-    (c .flush-block .ensures)
+  permitted : Permitted (c .before .before .before .before .before .before .before .before .before .before .in-force .result)
+  permitted = c .before .before .before .before .before .before .before .before .before .before .in-force .ensures .1
 
-returns-6 : tie.Need-returns-6
-returns-6 c =
-    let granted = c .before .before .before .before .before .before in
-    let sent = granted .before .before .before .before in
-    let answered = sent .before .before .before .before .before .before in
-    let known = answered .before .before .before .before .step6 .given in
-    let start = answered .before .before .before .before .before .before .before .before .before .before .before in
-    let a = start .args in
-    answer-result (a .self) (a .step) (known .0 .0) (known .0 .1 .0) (answered .answer-call .result) (granted .grant-waiter .result)
-    _ _ _ _ _ _ _
-    (table-whole start)
-    (known .1)
-    (answered .answer-call .ensures)
-    (sent .answer-blocks .ensures .0)
-    (sent .answer-blocks .ensures .1 .0)
-    (sent .answer-blocks .ensures .1 .1 .0)
-    (sent .answer-blocks .ensures .1 .1 .1)
-    (granted .grant-waiter .ensures)
-    (c .drop-file-unless2 .ensures .0)
-    (c .drop-file-unless2 .ensures .1 .0)
-    (c .drop-file-unless2 .ensures .1 .1)
+-- the entries, once a step on the table has gone through them
+entries : (c : tie.At-match2-came Inv-loop μ-loop)
+    → (let s = self-of (c .before .before .before .before) in
+    c .match2 .files ≡ filesAfter (c .before .before .before .before .before .before .before .before .before .before .before .before .before .before .in-force .result) (c .before .step2 .result .sweep) (tableIn s .files) (s .clients))
+entries c =
+    let s = self-of (c .before .before .before .before) in
+    let z = c .before .before .before .before .before .before .before .before .before .before .before .before .before .before .in-force .result in
+    let sweeps : (t : Sweep) → c .before .step2 .result .sweep ≡ t → filesAfter z t (tableIn s .files) (s .clients)
+    ≡ filesAfter z (c .before .step2 .result .sweep) (tableIn s .files) (s .clients) =
+    λ t e. sym (ap (λ (t : Sweep). filesAfter z t (tableIn s .files) (s .clients)) e) in
+    ⊎-elim
+    (λ w. w .2 ∙ sweeps _ (w .1 .given .1))
+    (⊎-elim
+    (λ w. w .3 ∙ w .2 .ensures ∙ sweeps _ (w .1 .given .1))
+    (λ w. w .6 ∙ stored-all (w .3 .inv) (w .5 .left) ∙ sweeps _ (w .1 .given .1)))
+    (c .match2 .came)
 
-returns-7 : tie.Need-returns-7
-returns-7 c =
-    let a = c .before .before .before .before .before .before .before .before .args in
-    crash-result (a .self) (a .step) (c .crashed .result) (c .before .enum-told .given .1) (c .crashed .ensures)
+in-force-requires : tie.Need-in-force-requires Inv-loop μ-loop
+in-force-requires c κs = tt
 
-returns-8 : tie.Need-returns-8
-returns-8 c =
-    let known = c .before .before .before .step7 .given in
-    let a = c .before .before .before .before .before .before .before .before .before .before .args in
-    report-result (a .self) (a .step) (c .before .report .result) (known .0 .0) (known .1) (c .before .report .ensures)
+class-requires : tie.Need-class-requires Inv-loop μ-loop
+class-requires c κs = tt
 
-returns-9 : tie.Need-returns-9
-returns-9 c =
-    let a = c .before .before .before .before .before .before .before .before .before .args in
-    end-result (a .self) (a .step) (c .before .end .result) (c .before .before .enum-told2 .given .1) (c .before .end .ensures)
+enum-known-class : tie.Need-enum-known-class Inv-loop μ-loop
+enum-known-class c = search needs
 
-enum-known-step : tie.Need-enum-known-step
-enum-known-step c = search needs
-
-mul-at : tie.Need-mul-at
-mul-at c = search needs
-
-add-at : tie.Need-add-at
-add-at c = search needs
-
-mul-entry : tie.Need-mul-entry
+mul-entry : tie.Need-mul-entry Inv-loop μ-loop
 mul-entry c = search needs
 
-element-copy-out-entry : tie.Need-element-copy-out-entry
-element-copy-out-entry c = search needs
+array-copy-out-entry : tie.Need-array-copy-out-entry Inv-loop μ-loop
+array-copy-out-entry c = search needs
 
-mul-own : tie.Need-mul-own
-mul-own c = search needs
+mul-sides : tie.Need-mul-sides Inv-loop μ-loop
+mul-sides c = search needs
 
-array-copy-out-own : tie.Need-array-copy-out-own
-array-copy-out-own c = search needs
+array-copy-out-sides : tie.Need-array-copy-out-sides Inv-loop μ-loop
+array-copy-out-sides c = search needs
 
-open-file-requires : tie.Need-open-file-requires
-open-file-requires c κs = tt
+step-requires : tie.Need-step-requires Inv-loop μ-loop
+step-requires c κs = permitted (c .before .before .before .before .before .before .before .before .before)
 
-mul-entry-after : tie.Need-mul-entry-after
-mul-entry-after c = search needs
+mul-files : tie.Need-mul-files Inv-loop μ-loop
+mul-files c = search needs
 
-element-set-from-entry-after : tie.Need-element-set-from-entry-after
-element-set-from-entry-after c = search needs
+array-set-from-files : tie.Need-array-set-from-files Inv-loop μ-loop
+array-set-from-files c = search needs
 
-mul-clients : tie.Need-mul-clients
+mul-clients : tie.Need-mul-clients Inv-loop μ-loop
 mul-clients c = search needs
 
-array-set-from-clients : tie.Need-array-set-from-clients
+array-set-from-clients : tie.Need-array-set-from-clients Inv-loop μ-loop
 array-set-from-clients c = search needs
 
-mul-drop-file-unless : tie.Need-mul-drop-file-unless
-mul-drop-file-unless c = search needs
+enum-known-class-2 : tie.Need-enum-known-class-2 Inv-loop μ-loop
+enum-known-class-2 c = search needs
 
-drop-file-unless-requires : tie.Need-drop-file-unless-requires
-drop-file-unless-requires c κs = search needs
+mul-sides-2 : tie.Need-mul-sides-2 Inv-loop μ-loop
+mul-sides-2 c = search needs
 
-enum-known-step-2 : tie.Need-enum-known-step-2
-enum-known-step-2 c = search needs
+array-copy-out-sides-2 : tie.Need-array-copy-out-sides-2 Inv-loop μ-loop
+array-copy-out-sides-2 c = search needs
 
-mul-at-2 : tie.Need-mul-at-2
-mul-at-2 c = search needs
+mul-own : tie.Need-mul-own Inv-loop μ-loop
+mul-own c = search needs
 
-add-at-2 : tie.Need-add-at-2
-add-at-2 c = search needs
+element-copy-out-own : tie.Need-element-copy-out-own Inv-loop μ-loop
+element-copy-out-own c = search needs
 
-mul-entry-2 : tie.Need-mul-entry-2
-mul-entry-2 c = search needs
+array-read-has-reported : tie.Need-array-read-has-reported Inv-loop μ-loop
+array-read-has-reported c = search needs
 
-element-copy-out-entry-2 : tie.Need-element-copy-out-entry-2
-element-copy-out-entry-2 c = search needs
+access-block-requires : tie.Need-access-block-requires Inv-loop μ-loop
+access-block-requires c κs = permitted (c .before .before .before .before .before .before .before .before .before)
 
-mul-own-2 : tie.Need-mul-own-2
-mul-own-2 c = search needs
-
-array-copy-out-own-2 : tie.Need-array-copy-out-own-2
-array-copy-out-own-2 c = search needs
-
-close-file-requires : tie.Need-close-file-requires
-close-file-requires c κs = tt
-
-mul-entry-after-2 : tie.Need-mul-entry-after-2
-mul-entry-after-2 c = search needs
-
-element-set-from-entry-after-2 : tie.Need-element-set-from-entry-after-2
-element-set-from-entry-after-2 c = search needs
-
-mul-clients-2 : tie.Need-mul-clients-2
-mul-clients-2 c = search needs
-
-array-set-from-clients-2 : tie.Need-array-set-from-clients-2
-array-set-from-clients-2 c = search needs
-
-enum-known-step-3 : tie.Need-enum-known-step-3
-enum-known-step-3 c = search needs
-
-mul-own-3 : tie.Need-mul-own-3
-mul-own-3 c = search needs
-
-add-own : tie.Need-add-own
-add-own c = search needs
-
-mul-own-4 : tie.Need-mul-own-4
-mul-own-4 c = search needs
-
-array-copy-out-own-3 : tie.Need-array-copy-out-own-3
-array-copy-out-own-3 c = search needs
-
-element-copy-out-reported : tie.Need-element-copy-out-reported
-element-copy-out-reported c = search needs
-
-read-block-requires : tie.Need-read-block-requires
-read-block-requires c κs = tt
-
-enum-known-step-4 : tie.Need-enum-known-step-4
-enum-known-step-4 c = search needs
-
-mul-own-5 : tie.Need-mul-own-5
-mul-own-5 c = search needs
-
-add-own-2 : tie.Need-add-own-2
-add-own-2 c = search needs
-
-mul-own-6 : tie.Need-mul-own-6
-mul-own-6 c = search needs
-
-array-copy-out-own-4 : tie.Need-array-copy-out-own-4
-array-copy-out-own-4 c = search needs
-
-element-copy-out-reported-2 : tie.Need-element-copy-out-reported-2
-element-copy-out-reported-2 c = search needs
-
-write-block-requires : tie.Need-write-block-requires
-write-block-requires c κs = tt
-
-enum-known-step-5 : tie.Need-enum-known-step-5
-enum-known-step-5 c = search needs
-
-flush-block-requires : tie.Need-flush-block-requires
-flush-block-requires c κs = tt
-
-enum-known-step-6 : tie.Need-enum-known-step-6
-enum-known-step-6 c = search needs
-
-mul-at-3 : tie.Need-mul-at-3
-mul-at-3 c = search needs
-
-add-at-3 : tie.Need-add-at-3
-add-at-3 c = search needs
-
-mul-entry-3 : tie.Need-mul-entry-3
-mul-entry-3 c = search needs
-
-element-copy-out-entry-3 : tie.Need-element-copy-out-entry-3
-element-copy-out-entry-3 c = search needs
-
-mul-own-7 : tie.Need-mul-own-7
-mul-own-7 c = search needs
-
-array-copy-out-own-5 : tie.Need-array-copy-out-own-5
-array-copy-out-own-5 c = search needs
-
-answer-call-requires : tie.Need-answer-call-requires
-answer-call-requires c κs = tt
-
-mul-clients-3 : tie.Need-mul-clients-3
-mul-clients-3 c = search needs
-
-array-set-from-clients-3 : tie.Need-array-set-from-clients-3
-array-set-from-clients-3 c = search needs
-
-mul-answer-blocks : tie.Need-mul-answer-blocks
-mul-answer-blocks c = search needs
-
-mul-answer-blocks-2 : tie.Need-mul-answer-blocks-2
-mul-answer-blocks-2 c = search needs
-
-answer-blocks-requires : tie.Need-answer-blocks-requires
-answer-blocks-requires c κs = search needs
-
-cast-waiter : tie.Need-cast-waiter
-cast-waiter c = search needs
-
-mul-waiter : tie.Need-mul-waiter
-mul-waiter c = search needs
-
-add-waiter : tie.Need-add-waiter
-add-waiter c = search needs
-
-mul-waiting : tie.Need-mul-waiting
-mul-waiting c = search needs
-
-array-copy-out-waiting : tie.Need-array-copy-out-waiting
-array-copy-out-waiting c = search needs
-
-grant-waiter-requires : tie.Need-grant-waiter-requires
-grant-waiter-requires c κs = tt
-
-mul-entry-after-3 : tie.Need-mul-entry-after-3
-mul-entry-after-3 c = search needs
-
-element-set-from-entry-after-3 : tie.Need-element-set-from-entry-after-3
-element-set-from-entry-after-3 c = search needs
-
-mul-clients-4 : tie.Need-mul-clients-4
-mul-clients-4 c = search needs
-
-array-set-from-clients-4 : tie.Need-array-set-from-clients-4
-array-set-from-clients-4 c = search needs
-
-mul-drop-file-unless-2 : tie.Need-mul-drop-file-unless-2
-mul-drop-file-unless-2 c = search needs
-
-drop-file-unless-requires-2 : tie.Need-drop-file-unless-requires-2
-drop-file-unless-requires-2 c κs = search needs
-
-enum-told : tie.Need-enum-told
+enum-told : tie.Need-enum-told Inv-loop μ-loop
 enum-told c = search needs
 
-crashed-requires : tie.Need-crashed-requires
-crashed-requires c κs = tt
+step-requires-2 : tie.Need-step-requires-2 Inv-loop μ-loop
+step-requires-2 c κs = permitted (c .before .before)
 
-enum-known-step-7 : tie.Need-enum-known-step-7
-enum-known-step-7 c = search needs
-
-report-requires : tie.Need-report-requires
-report-requires c κs = tt
-
-enum-told-2 : tie.Need-enum-told-2
+enum-told-2 : tie.Need-enum-told-2 Inv-loop μ-loop
 enum-told-2 c = search needs
 
-end-requires : tie.Need-end-requires
-end-requires c κs = tt
+enum-told-3 : tie.Need-enum-told-3 Inv-loop μ-loop
+enum-told-3 c = search needs
+
+crashed-files-requires : tie.Need-crashed-files-requires Inv-loop μ-loop
+crashed-files-requires c κs = permitted (c .before .before .before .before .before)
+
+enum-known-sweep : tie.Need-enum-known-sweep Inv-loop μ-loop
+enum-known-sweep c = search needs
+
+loop-holds : tie.Need-loop-holds Inv-loop μ-loop
+loop-holds c = stored-none
+
+mul-entry-2 : tie.Need-mul-entry-2 Inv-loop μ-loop
+mul-entry-2 c = search needs
+
+array-copy-out-entry-2 : tie.Need-array-copy-out-entry-2 Inv-loop μ-loop
+array-copy-out-entry-2 c = search needs
+
+mul-sides-3 : tie.Need-mul-sides-3 Inv-loop μ-loop
+mul-sides-3 c = search needs
+
+array-copy-out-sides-3 : tie.Need-array-copy-out-sides-3 Inv-loop μ-loop
+array-copy-out-sides-3 c = search needs
+
+side-requires : tie.Need-side-requires Inv-loop μ-loop
+side-requires c κs = tt
+
+reported-requires : tie.Need-reported-requires Inv-loop μ-loop
+reported-requires c κs = rw (c .before .before .before .before .before .before .before .sweep .given .1) at (c .before .before .before .before .before .before .before .before .before .step2 .ensures .1)
+
+mul-files-2 : tie.Need-mul-files-2 Inv-loop μ-loop
+mul-files-2 c = omega (arith, c .before .before .before .before .if1 .taken, permitted (c .before .before .before .before .before .before .before .before .before .before .before .before .before) .files)
+
+array-set-from-files-2 : tie.Need-array-set-from-files-2 Inv-loop μ-loop
+array-set-from-files-2 c = omega (arith, c .before .before .before .before .if1 .taken, permitted (c .before .before .before .before .before .before .before .before .before .before .before .before .before) .files)
+
+add-f : tie.Need-add-f Inv-loop μ-loop
+add-f c = search needs
+
+loop-less : tie.Need-loop-less Inv-loop μ-loop
+loop-less c = search needs
+
+loop-again : tie.Need-loop-again Inv-loop μ-loop
+loop-again c =
+    let turn = c .before .before .before .before .before .before .loop in
+    stored-more (turn .inv) (c .before .before .before .before .if1 .taken)
+    (c .reported2 .ensures
+    ∙ ap₂ (λ (e : Entry) (own : ClientFile). reportedEntry e (c .before .before .before .before .before .before .before .before .sweep .given .0 .0) own) (not-yet noEntry (turn .inv))
+    (c .before .side .ensures))
+
+returns : tie.Need-returns Inv-loop μ-loop
+returns c =
+    let told = c .before .before .before .before .before .before .before .before .before .before .before .before .before .before in
+    file-result (self-of told) (step-of told) _ (in-force told) (c .before .before .before .before .before .before .before .before .before .before .before .before .class2 .given .0 .0) (c .before .before .before .before .step .result) _ _ _ _
+    (class-is told ∙ c .before .before .before .before .before .before .before .before .before .before .before .before .class2 .given .1)
+    (c .before .before .before .before .step .ensures)
+
+returns-2 : tie.Need-returns-2 Inv-loop μ-loop
+returns-2 c =
+    let told = c .before .before .before .before .before .before .before .before .before .before in
+    block-result (self-of told) (step-of told) _ (in-force told) (c .before .before .before .before .before .before .before .before .class3 .given .0 .0) (c .before .before .before .before .before .before .before .before .class3 .given .0 .1 .0)
+    (c .access-block .result) _ _ _ _
+    (class-is told ∙ c .before .before .before .before .before .before .before .before .class3 .given .1)
+    (c .access-block .ensures)
+
+returns-3 : tie.Need-returns-3 Inv-loop μ-loop
+returns-3 c =
+    let told = c .before .before .before .before .before .before in
+    table-result (self-of told) (step-of told) _ (in-force told) (c .before .before .before .step2 .result) _
+    (class-is told ∙ c .before .before .before .before .enum-told .given .1)
+    (c .before .before .before .step2 .ensures .0)
+    (entries (c .before .before))
 
 pub step-spec : {M : Type 1} → statement M
 step-spec =
     tie.close
     (tie.spec
-    enum-known-step
-    mul-at
-    add-at
+    Inv-loop
+    μ-loop
+    in-force-requires
+    class-requires
+    enum-known-class
     mul-entry
-    element-copy-out-entry
-    mul-own
-    array-copy-out-own
-    open-file-requires
-    mul-entry-after
-    element-set-from-entry-after
+    array-copy-out-entry
+    mul-sides
+    array-copy-out-sides
+    step-requires
+    mul-files
+    array-set-from-files
     mul-clients
     array-set-from-clients
-    mul-drop-file-unless
-    drop-file-unless-requires
-    enum-known-step-2
-    mul-at-2
-    add-at-2
-    mul-entry-2
-    element-copy-out-entry-2
-    mul-own-2
-    array-copy-out-own-2
-    close-file-requires
-    mul-entry-after-2
-    element-set-from-entry-after-2
-    mul-clients-2
-    array-set-from-clients-2
-    enum-known-step-3
-    mul-own-3
-    add-own
-    mul-own-4
-    array-copy-out-own-3
-    element-copy-out-reported
-    read-block-requires
-    enum-known-step-4
-    mul-own-5
-    add-own-2
-    mul-own-6
-    array-copy-out-own-4
-    element-copy-out-reported-2
-    write-block-requires
-    enum-known-step-5
-    flush-block-requires
-    enum-known-step-6
-    mul-at-3
-    add-at-3
-    mul-entry-3
-    element-copy-out-entry-3
-    mul-own-7
-    array-copy-out-own-5
-    answer-call-requires
-    mul-clients-3
-    array-set-from-clients-3
-    mul-answer-blocks
-    mul-answer-blocks-2
-    answer-blocks-requires
-    cast-waiter
-    mul-waiter
-    add-waiter
-    mul-waiting
-    array-copy-out-waiting
-    grant-waiter-requires
-    mul-entry-after-3
-    element-set-from-entry-after-3
-    mul-clients-4
-    array-set-from-clients-4
-    mul-drop-file-unless-2
-    drop-file-unless-requires-2
+    enum-known-class-2
+    mul-sides-2
+    array-copy-out-sides-2
+    mul-own
+    element-copy-out-own
+    array-read-has-reported
+    access-block-requires
     enum-told
-    crashed-requires
-    enum-known-step-7
-    report-requires
+    step-requires-2
     enum-told-2
-    end-requires
+    enum-told-3
+    crashed-files-requires
+    enum-known-sweep
+    loop-holds
+    mul-entry-2
+    array-copy-out-entry-2
+    mul-sides-3
+    array-copy-out-sides-3
+    side-requires
+    reported-requires
+    mul-files-2
+    array-set-from-files-2
+    add-f
+    loop-less
+    loop-again
     returns
     returns-2
-    returns-3
-    returns-4
-    returns-5
-    returns-6
-    returns-7
-    returns-8
-    returns-9)
+    returns-3)

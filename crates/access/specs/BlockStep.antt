@@ -1,0 +1,53 @@
+-- Reads and writes of one block. They look at the sizes in force z, at whether the server recovers and the client has
+-- reported, at the client's own side of the file, and at the block and the copies of it among all.
+use Prim.Native.Nat.{ℕ}
+use mathlib.Core.Path.{_≡_}
+use mathlib.Core.Bool.{Bool}
+use mathlib.Core.List.{List}
+use Rattle.decision.specs.declared.sizes.Sizes.{Sizes}
+use Rattle.protocol.specs.declared.client.ClientFile.{ClientFile}
+use Rattle.protocol.specs.declared.reply.Reply.{Reply}
+use Rattle.protocol.specs.declared.reply.Reply.the-variants.{Value, Refused, Done}
+use Rattle.protocol.specs.declared.step.Step.{Step}
+use Rattle.protocol.specs.declared.step.Step.the-variants.{Open, Close, Read, Write, Flush, Answer, Crash, Report, End}
+use Rattle.protocol.specs.Refusal.{Test, tested, readTests, writeTests}
+use Rattle.blocks.specs.Stores.{Stores, lent, heldIn, valueRead, readStores, writtenStores}
+
+-- what a step leaves: the blocks and copies, and the reply
+pub record BlockAfter : Type 0 where
+  pub stores : Stores
+  pub reply : Reply
+
+-- "A refusal gives only its number; server, stations and every lent buffer stay as they came."
+abbrev pub unlessTested : List Test → Stores → BlockAfter → BlockAfter
+unlessTested ts a after = tested ts (λ k. record { stores = a; reply = Refused k }) after
+
+abbrev pub afterRead : ClientFile → Stores → ℕ → ℕ → ℕ → BlockAfter
+afterRead own a i f b =
+    record {
+      stores = readStores (own .opens .caching) i f b a;
+      reply = Value (valueRead (own .opens .caching) i f b a);
+    }
+
+abbrev pub afterWrite : ClientFile → Stores → ℕ → ℕ → ℕ → ℕ → BlockAfter
+afterWrite own a i f b v = record { stores = writtenStores (own .opens .caching) i f b v a; reply = Done }
+
+-- a step that is no read and no write leaves all as it came
+unfoldable pub blockStep : Sizes → Bool → Bool → ClientFile → Stores → Step → BlockAfter
+blockStep z recovering reported own a (Read i f b) =
+    unlessTested (readTests z recovering reported own (heldIn a i f b) i f b) a (afterRead own a i f b)
+blockStep z recovering reported own a (Write i f b v) =
+    unlessTested (writeTests z recovering reported own i f b) a (afterWrite own a i f b v)
+blockStep z recovering reported own a (Open m i f) = record { stores = a; reply = Done }
+blockStep z recovering reported own a (Close m i f) = record { stores = a; reply = Done }
+blockStep z recovering reported own a (Flush i f b) = record { stores = a; reply = Done }
+blockStep z recovering reported own a (Answer i f) = record { stores = a; reply = Done }
+blockStep z recovering reported own a Crash = record { stores = a; reply = Done }
+blockStep z recovering reported own a (Report i) = record { stores = a; reply = Done }
+blockStep z recovering reported own a End = record { stores = a; reply = Done }
+
+-- what the program's step replies, and what it leaves in the lent arrays, are what the definition says
+pub record Leaves
+    (after : BlockAfter) (reply : Reply) (blocks copies : List ℕ) (held dirty : List Bool) : Type 0 where
+  pub replyAfter : reply ≡ after .reply
+  pub storesAfter : lent blocks copies held dirty ≡ after .stores

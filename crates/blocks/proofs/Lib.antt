@@ -1,0 +1,2 @@
+-- The laws behind the places of blocks and copies.
+pub mod Wrapped

@@ -1,0 +1,2 @@
+-- The blocks of the server and their copies.
+pub mod Stores

@@ -1,0 +1,70 @@
+-- An answer, the last or not, as the step's definition has it. Assumes nothing.
+use Prim.Native.Nat.{ℕ, _<_}
+use mathlib.Core.Path.{_≡_, refl, sym, ap, ap₂, _∙_}
+use mathlib.Core.Bool.{Bool, true≢false}
+use native.Mathlib.Omega.{arith}
+use lib.Dec.{eqb}
+use borrow.Author.Tests.{eq-eqb, ne-eqb, ltb-true}
+use Rattle.records.proofs.Choosing.{when, unless, split}
+use Rattle.decision.specs.declared.sizes.Sizes.{Sizes}
+use Rattle.decision.specs.Lists.{firstOf}
+use Rattle.protocol.specs.declared.reply.Grant.{Grant}
+use Rattle.protocol.specs.declared.reply.Reply.the-variants.{Refused, Answered, AnsweredGrant}
+use Rattle.protocol.specs.declared.step.Step.the-variants.{Answer}
+use Rattle.protocol.specs.Entry.{waits, callTo, callsOut, grantOf}
+use Rattle.protocol.specs.Refusal.{answerTests}
+use Rattle.blocks.specs.Stores.{Stores}
+use Rattle.file.specs.declared.file.SharedFile.{SharedFile}
+use Rattle.file.specs.FileStep.{leaving, granted, answered, grantedIfLast, afterAnswer, unlessTested, fileStep}
+use Rattle.protocol.proofs.Tested.{passed, named, when-accepted}
+
+module _ (z : Sizes) (recovering : Bool) (x : SharedFile) (a : Stores) (i f : ℕ) where
+  pub answer-step :
+      fileStep z recovering x a (Answer i f)
+      ≡ unlessTested (answerTests z recovering (x .entry) i f) x a (afterAnswer z x a i f)
+  unfolding fileStep
+  answer-step = refl
+
+  module _ (k : ℕ) (tests : k ≡ firstOf (answerTests z recovering (x .entry) i f)) (none : k ≡ 0) where
+    taken : fileStep z recovering x a (Answer i f) ≡ afterAnswer z x a i f
+    taken = answer-step ∙ when-accepted (answerTests z recovering (x .entry) i f) (λ n. leaving x a (Refused n)) (afterAnswer z x a i f) k tests none
+
+    -- a client that has a callback has it from an open that waits
+    pub someone-waits : x .entry .waiter < z .clients
+    someone-waits =
+        let (_, _, running) = named z i f k _ tests none in
+        let (_, called) = passed recovering 5 _ (λ e. omega arith) running in
+        let (kind, _) = passed (eqb (callTo (z .clients) (x .entry) i) 0) 10 0 (λ e. omega arith) called in
+        split (waits (z .clients) (x .entry))
+        (λ e. ltb-true (x .entry .waiter) (z .clients) e)
+        (λ e. absurd (true≢false (rw e at kind)))
+
+    -- x′ and a′ are what the callback's answer leaves, before any grant, and `out` the callbacks that are out then
+    module _ (kind out : ℕ) (x′ : SharedFile) (a′ : Stores)
+        (is : kind ≡ callTo (z .clients) (x .entry) i)
+        (sameFile : x′ ≡ answered z f x a i kind .file)
+        (sameStores : a′ ≡ answered z f x a i kind .stores)
+        (counted : out ≡ callsOut (z .clients) (x′ .entry)) where
+      left : answered z f x a i (callTo (z .clients) (x .entry) i) ≡ leaving x′ a′ Answered
+      left = ap (answered z f x a i) (sym is) ∙ sym (ap₂ (λ (y : SharedFile) (b : Stores). leaving y b Answered) sameFile sameStores)
+
+      pub answer-waits : (out ≡ 0 → ⊥) → fileStep z recovering x a (Answer i f) ≡ leaving x′ a′ Answered
+      answer-waits some =
+          taken
+          ∙ ap (grantedIfLast z f) left
+          ∙ unless _ _ (ap (λ (n : ℕ). eqb n 0) (sym counted) ∙ ne-eqb out 0 some)
+
+      pub answer-grants :
+          (g : Grant)
+          → out ≡ 0
+          → g ≡ grantOf (z .clients) (x′ .entry) (x′ .entry .waiter) (x′ .entry .mode)
+          → fileStep z recovering x a (Answer i f)
+          ≡ granted z f x′ a′ (x′ .entry .waiter) (x′ .entry .mode) g (AnsweredGrant (x′ .entry .waiter) g)
+      answer-grants g all is′ =
+          taken
+          ∙ ap (grantedIfLast z f) left
+          ∙ when _ _ (ap (λ (n : ℕ). eqb n 0) (sym counted) ∙ eq-eqb out 0 all)
+          ∙ ap
+          (λ (g′ : Grant).
+          granted z f x′ a′ (x′ .entry .waiter) (x′ .entry .mode) g′ (AnsweredGrant (x′ .entry .waiter) g′))
+          (sym is′)

@@ -1,0 +1,6 @@
+-- The laws behind the steps on one file.
+pub mod Leaves
+pub mod Leaving
+pub mod Opening
+pub mod Closing
+pub mod Answering

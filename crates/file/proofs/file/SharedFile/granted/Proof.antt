@@ -1,0 +1,52 @@
+-- `granted` meets its contract: the entry, the opener's side and its copies are those of a grant. Assumes nothing.
+use Prim.Native.Nat.{_<_}
+use mathlib.Core.Path.{_∙_}
+use native.Mathlib.Omega.{arith}
+use denote.Ref.{now}
+use Rattle.decision.specs.Sizes.{maxClients, maxFiles}
+use Rattle.blocks.proofs.Wrapped.{wrapped-cell}
+use Rattle.file.proofs.Leaving.{dropped}
+use borrow.Author.Needs.{needs}
+use Rattle.file.proofs.file.SharedFile.granted.Statement.{statement}
+use Rattle.file.proofs.file.SharedFile.granted.Tie as tie
+
+returns : tie.Need-returns
+returns c =
+    let dropped-point = c .before .before .before in
+    let at = dropped-point .before .before .before .before in
+    let kept-point = at .before in
+    let side-point = kept-point .before in
+    let a = side-point .before .before .before .args in
+    let pre = side-point .before .before .before .pre in
+    let hi : a .opener < maxClients = omega (arith, pre .1 .0, pre .0 .clients) in
+    let hf : a .file < maxFiles = omega (arith, pre .1 .1, pre .0 .files) in
+    record {
+      outcomeAfter =
+          rw (
+            c .before .before .granted .ensures,
+            c .with-side .ensures,
+            c .before .granted2 .ensures,
+            side-point .side .ensures,
+          );
+      storesAfter =
+          rw (← side-point .side .ensures, ← kept-point .keeps-blocks .ensures)
+          (dropped (a .sizes .blocks) (a .opener) (a .file) (now (a .blocks)) (now (a .copies)) (now (a .held)) (now (a .dirty))
+          (kept-point .keeps-blocks .result) (at .first-cell .result) _ _ _
+          (at .first-cell .ensures .0 ∙ wrapped-cell (a .opener) (a .file) hi hf)
+          (dropped-point .drop-copies-unless .ensures .0)
+          (dropped-point .drop-copies-unless .ensures .1 .0)
+          (dropped-point .drop-copies-unless .ensures .1 .1));
+    }
+
+pub granted-spec : {M : Type 1} → statement M
+granted-spec =
+    tie.close
+    (tie.spec
+    (search needs)
+    (search needs)
+    (search needs)
+    (search needs)
+    (search needs)
+    (search needs)
+    (search needs)
+    returns)

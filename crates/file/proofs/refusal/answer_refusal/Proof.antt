@@ -1,0 +1,16 @@
+-- `answer_refusal` meets its contract: the tests, nested as the definition nests them. Assumes nothing.
+use borrow.Author.Needs.{needs}
+use Rattle.file.proofs.refusal.answer_refusal.Statement.{statement}
+use Rattle.file.proofs.refusal.answer_refusal.Tie as tie
+
+pub answer-refusal-spec : {M : Type 1} → statement M
+answer-refusal-spec =
+    tie.close
+    (tie.spec
+    (search needs)
+    (search needs)
+    (search needs)
+    (search needs)
+    (search needs)
+    (search needs)
+    (λ c. cc))

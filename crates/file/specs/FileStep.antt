@@ -1,0 +1,142 @@
+-- The steps on one file: an open, a close, a flush and an answer, at both sides. They look at the sizes in force z, at
+-- whether the server recovers, at the file as both sides have it, and at its blocks and copies among all.
+use Prim.Native.Nat.{ℕ}
+use mathlib.Core.Path.{_≡_}
+use mathlib.Core.Bool.{Bool, cond}
+use mathlib.Core.List.{List}
+use lib.Dec.{eqb}
+use lib.ListN.{replicate}
+use Rattle.records.specs.declared.record.Mode.{Mode}
+use Rattle.decision.specs.declared.sizes.Sizes.{Sizes}
+use Rattle.decision.specs.Sizes.{maxClients}
+use Rattle.protocol.specs.declared.reply.Grant.{Grant}
+use Rattle.protocol.specs.declared.reply.Reply.{Reply}
+use Rattle.protocol.specs.declared.reply.Reply.the-variants.{Granted, Waiting, Refused, Answered, AnsweredGrant, Done}
+use Rattle.protocol.specs.declared.step.Step.{Step}
+use Rattle.protocol.specs.declared.step.Step.the-variants.{Open, Close, Read, Write, Flush, Answer, Crash, Report, End}
+use Rattle.protocol.specs.Entry.{callTo, callsOut, callsFor, callsDue, waitingEntry, grantOf, grantedEntry}
+use Rattle.protocol.specs.Entry.{closedEntry, answeredEntry}
+use Rattle.protocol.specs.Client.{sideOf, withSide, grantedClient, keepsBlocks, closedClient, answeredClient}
+use Rattle.protocol.specs.Refusal.{Test, tested, openTests, closeTests, flushTests, answerTests}
+use Rattle.blocks.specs.Stores.{Stores, lent, dirtyIn, droppedUnless, answeredStores, flushedStores}
+use Rattle.file.specs.declared.file.SharedFile.{SharedFile}
+use Rattle.file.specs.declared.file.FileOutcome.{FileOutcome}
+
+-- what a step leaves: the file at both sides, the blocks and copies, the reply, and the callbacks that go out
+pub record FileAfter : Type 0 where
+  pub file : SharedFile
+  pub stores : Stores
+  pub reply : Reply
+  pub calls : List ℕ
+
+abbrev pub noCalls : List ℕ
+noCalls = replicate maxClients 0
+
+-- what a step leaves that sends no callback
+abbrev pub leaving : SharedFile → Stores → Reply → FileAfter
+leaving x a reply = record { file = x; stores = a; reply = reply; calls = noCalls }
+
+-- "A refusal gives only its number; server, stations and every lent buffer stay as they came."
+abbrev pub unlessTested : List Test → SharedFile → Stores → FileAfter → FileAfter
+unlessTested ts x a after = tested ts (λ k. leaving x a (Refused k)) after
+
+-- ---- opening
+
+-- An open is granted: the entry and the opener's side change, and the opener's copy is kept or dropped.
+abbrev pub granted : Sizes → ℕ → SharedFile → Stores → ℕ → Mode → Grant → Reply → FileAfter
+granted z f x a i mode g reply =
+    leaving
+    (record {
+      entry = grantedEntry (z .clients) (x .entry) i mode g;
+      sides = withSide (x .sides) i (grantedClient mode g (sideOf (x .sides) i));
+    })
+    (droppedUnless (z .blocks) (keepsBlocks mode g (sideOf (x .sides) i)) i f a)
+    reply
+
+-- the open waits, with its callbacks out
+abbrev pub waiting : Sizes → SharedFile → Stores → ℕ → Mode → FileAfter
+waiting z x a i mode =
+    record {
+      file = record { entry = waitingEntry (z .clients) (x .entry) i mode; sides = x .sides };
+      stores = a;
+      reply = Waiting;
+      calls = callsDue (z .clients) (x .entry) i mode noCalls;
+    }
+
+-- "With no call due the open is granted in that step; else it waits"
+abbrev pub afterOpen : Sizes → SharedFile → Stores → Mode → ℕ → ℕ → FileAfter
+afterOpen z x a mode i f =
+    let g = grantOf (z .clients) (x .entry) i mode in
+    cond (eqb (callsFor (z .clients) (x .entry) i mode) 0)
+    (granted z f x a i mode g (Granted g))
+    (waiting z x a i mode)
+
+-- ---- closing and flushing
+
+abbrev pub afterClose : SharedFile → Stores → Mode → ℕ → FileAfter
+afterClose x a mode i =
+    leaving
+    (record {
+      entry = closedEntry (x .entry) i mode;
+      sides = withSide (x .sides) i (closedClient mode (sideOf (x .sides) i));
+    })
+    a
+    Done
+
+-- "one dirty block goes to the server and is clean; the table doesn't change"
+abbrev pub afterFlush : SharedFile → Stores → ℕ → ℕ → ℕ → FileAfter
+afterFlush x a i f b = leaving x (flushedStores i f b a) Done
+
+-- ---- answering
+
+-- client i has answered its callback of the kind
+abbrev pub answered : Sizes → ℕ → SharedFile → Stores → ℕ → ℕ → FileAfter
+answered z f x a i kind =
+    leaving
+    (record {
+      entry = answeredEntry (x .entry) i kind;
+      sides = withSide (x .sides) i (answeredClient kind (sideOf (x .sides) i));
+    })
+    (answeredStores (z .blocks) kind i f a)
+    Answered
+
+-- the open that waits is granted
+abbrev pub waiterGranted : Sizes → ℕ → SharedFile → Stores → FileAfter
+waiterGranted z f x a =
+    let g = grantOf (z .clients) (x .entry) (x .entry .waiter) (x .entry .mode) in
+    granted z f x a (x .entry .waiter) (x .entry .mode) g (AnsweredGrant (x .entry .waiter) g)
+
+-- "granted in the step in which the last called station replies"
+abbrev pub grantedIfLast : Sizes → ℕ → FileAfter → FileAfter
+grantedIfLast z f o =
+    cond (eqb (callsOut (z .clients) (o .file .entry)) 0) (waiterGranted z f (o .file) (o .stores)) o
+
+abbrev pub afterAnswer : Sizes → SharedFile → Stores → ℕ → ℕ → FileAfter
+afterAnswer z x a i f = grantedIfLast z f (answered z f x a i (callTo (z .clients) (x .entry) i))
+
+-- ---- a step
+
+-- a step that is on no one file leaves all as it came
+unfoldable pub fileStep : Sizes → Bool → SharedFile → Stores → Step → FileAfter
+fileStep z recovering x a (Open m i f) =
+    unlessTested (openTests z recovering (x .entry) (sideOf (x .sides) i) m i f) x a (afterOpen z x a m i f)
+fileStep z recovering x a (Close m i f) =
+    unlessTested (closeTests z recovering (x .entry) (sideOf (x .sides) i) m i f) x a (afterClose x a m i)
+fileStep z recovering x a (Flush i f b) =
+    unlessTested (flushTests z recovering (dirtyIn a i f b) i f b) x a (afterFlush x a i f b)
+fileStep z recovering x a (Answer i f) =
+    unlessTested (answerTests z recovering (x .entry) i f) x a (afterAnswer z x a i f)
+fileStep z recovering x a (Read i f b) = leaving x a Done
+fileStep z recovering x a (Write i f b v) = leaving x a Done
+fileStep z recovering x a Crash = leaving x a Done
+fileStep z recovering x a (Report i) = leaving x a Done
+fileStep z recovering x a End = leaving x a Done
+
+-- what the program's step hands back of it; the rest stands in the lent arrays
+abbrev pub outcomeOf : FileAfter → FileOutcome
+outcomeOf after = record { file = after .file; reply = after .reply; calls = after .calls }
+
+pub record Leaves
+    (after : FileAfter) (outcome : FileOutcome) (blocks copies : List ℕ) (held dirty : List Bool) : Type 0 where
+  pub outcomeAfter : outcome ≡ outcomeOf after
+  pub storesAfter : lent blocks copies held dirty ≡ after .stores

@@ -1,0 +1,2 @@
+-- The steps on one file.
+pub mod FileStep

@@ -1,0 +1,108 @@
+// The refusals of the steps on a file: each function tests exactly its own numbers, lowest first; 0 is none.
+ghost use mathlib.Core.Path.{_≡_};
+ghost use Rattle.decision.specs.Lists.{firstOf};
+ghost use Rattle.protocol.specs.Refusal.{openTests, closeTests, flushTests, answerTests};
+use decision::Sizes;
+use decision::asks_nothing;
+use protocol::COUNT_FULL;
+use protocol::ClientFile;
+use protocol::Entry;
+use protocol::IN_RECOVERY;
+use protocol::NO_BLOCK;
+use protocol::NO_CALL;
+use protocol::NO_CLIENT;
+use protocol::NO_FILE;
+use protocol::NOT_DIRTY;
+use protocol::NOT_OPEN;
+use protocol::OPEN_WAITS;
+use protocol::VERSION_SPENT;
+use protocol::refused_if;
+use records::Mode;
+
+pub fn open_refusal(
+    sizes: Sizes,
+    recovering: bool,
+    entry: Entry,
+    own: ClientFile,
+    mode: Mode,
+    client: usize,
+    file: usize,
+) -> u8
+    ensures { λ r. ⌜ r ≡ firstOf (openTests sizes recovering entry own mode client file) ⌝ }
+{
+    let opens = own.opens;
+    let version = entry.version;
+    let spent = refused_if(mode.is_write() & version.is_last(), VERSION_SPENT, 0);
+    let full = refused_if(opens.count(mode) == 255, COUNT_FULL, spent);
+    let waits = refused_if(entry.waits(sizes.clients), OPEN_WAITS, full);
+    let recovers = refused_if(recovering, IN_RECOVERY, waits);
+    refused_if(
+        sizes.clients <= client,
+        NO_CLIENT,
+        refused_if(sizes.files <= file, NO_FILE, recovers),
+    )
+}
+
+pub fn close_refusal(
+    sizes: Sizes,
+    recovering: bool,
+    entry: Entry,
+    own: ClientFile,
+    mode: Mode,
+    client: usize,
+    file: usize,
+) -> u8
+    ensures { λ r. ⌜ r ≡ firstOf (closeTests sizes recovering entry own mode client file) ⌝ }
+{
+    let opens = own.opens;
+    let closed = refused_if(opens.count(mode) == 0, NOT_OPEN, 0);
+    let waits = refused_if(entry.waits(sizes.clients), OPEN_WAITS, closed);
+    let recovers = refused_if(recovering, IN_RECOVERY, waits);
+    refused_if(
+        sizes.clients <= client,
+        NO_CLIENT,
+        refused_if(sizes.files <= file, NO_FILE, recovers),
+    )
+}
+
+pub fn flush_refusal(
+    sizes: Sizes,
+    recovering: bool,
+    dirty: bool,
+    client: usize,
+    file: usize,
+    block: usize,
+) -> u8
+    ensures { λ r. ⌜ r ≡ firstOf (flushTests sizes recovering dirty client file block) ⌝ }
+{
+    let clean = refused_if(!dirty, NOT_DIRTY, 0);
+    let recovers = refused_if(recovering, IN_RECOVERY, clean);
+    refused_if(
+        sizes.clients <= client,
+        NO_CLIENT,
+        refused_if(
+            sizes.files <= file,
+            NO_FILE,
+            refused_if(sizes.blocks <= block, NO_BLOCK, recovers),
+        ),
+    )
+}
+
+pub fn answer_refusal(
+    sizes: Sizes,
+    recovering: bool,
+    entry: Entry,
+    client: usize,
+    file: usize,
+) -> u8
+    ensures { λ r. ⌜ r ≡ firstOf (answerTests sizes recovering entry client file) ⌝ }
+{
+    let uncalled = asks_nothing(entry.call_to(sizes.clients, client));
+    let answered = refused_if(uncalled, NO_CALL, 0);
+    let recovers = refused_if(recovering, IN_RECOVERY, answered);
+    refused_if(
+        sizes.clients <= client,
+        NO_CLIENT,
+        refused_if(sizes.files <= file, NO_FILE, recovers),
+    )
+}

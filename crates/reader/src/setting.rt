@@ -1,0 +1,82 @@
+// The settings line.
+ghost use mathlib.Core.Path.{_≡_};
+ghost use mathlib.Core.List.{[]};
+ghost use lib.ListN.{getD, drop};
+ghost use Rattle.stepfile.specs.Grammar.{found};
+ghost use Rattle.stepfile.specs.Setting.{beginsWithSet, sizesAt, settled, settingOf};
+use crate::number::Number;
+use crate::number::argument_at;
+use decision::Sizes;
+use stepfile::Setting;
+
+// What a whole line gives as settings.
+pub fn read_setting(line: &[u8]) -> Setting
+    ensures { λ r. ⌜ r ≡ settingOf (now (line .entry)) ⌝ }
+{
+    if begins_with_set(line) {
+        sizes_from(line, 3)
+    } else {
+        Setting::Missing
+    }
+}
+
+fn begins_with_set(line: &[u8]) -> bool
+    ensures { λ r. ⌜ r ≡ beginsWithSet (now (line .entry)) ⌝ }
+{
+    let first = byte_at(line, 0);
+    let second = byte_at(line, 1);
+    (first == b'S') & ((second == b'E') & (byte_at(line, 2) == b'T'))
+}
+
+// The byte at an offset; past the end 0.
+fn byte_at(s: &[u8], at: usize) -> u8
+    ensures { λ r. ⌜ r ≡ getD (now (s .entry)) at 0 ⌝ }
+{
+    if at < s.len() { s[at] } else { 0 }
+}
+
+// The three numbers, up to the end of the line.
+fn sizes_from(s: &[u8], at: usize) -> Setting
+    ensures { λ r. ⌜ r ≡ settled (sizesAt (drop at (now (s .entry)))) ⌝ }
+{
+    let Number::Is {
+        value: clients,
+        next: second,
+    } = argument_at(s, at)
+    else {
+        return Setting::Missing;
+    };
+    let Number::Is {
+        value: files,
+        next: third,
+    } = argument_at(s, second)
+    else {
+        return Setting::Missing;
+    };
+    let Number::Is {
+        value: blocks,
+        next: past,
+    } = argument_at(s, third)
+    else {
+        return Setting::Missing;
+    };
+    if past < s.len() {
+        return Setting::Missing;
+    }
+    setting_of(Sizes {
+        clients: clients as usize,
+        files: files as usize,
+        blocks: blocks as usize,
+    })
+}
+
+// The sizes, if each lies inside its range.
+fn setting_of(sizes: Sizes) -> Setting
+    ensures { λ r. ⌜ r ≡ settled (found sizes []) ⌝ }
+{
+    if sizes.are_permitted() {
+        Setting::Are(sizes)
+    } else {
+        Setting::OutOfRange
+    }
+}

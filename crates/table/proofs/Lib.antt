@@ -1,0 +1,2 @@
+-- The laws behind the steps on the whole table.
+pub mod Steps

@@ -1,0 +1,85 @@
+-- A step on the whole table, as the program takes it: what becomes of the state of the recovery, and what the entries in
+-- force do. Read to follow the proof of the service's step, whose contract does not mention them.
+use Prim.Native.Nat.{ℕ, _<_}
+use mathlib.Core.Bool.{Bool, true, false}
+use mathlib.Core.List.{List}
+use lib.ListN.{set}
+use Rattle.decision.specs.declared.sizes.Sizes.{Sizes}
+use Rattle.decision.specs.Sizes.{maxClients}
+use Rattle.decision.specs.Lists.{stored, filled}
+use Rattle.protocol.specs.declared.client.Sides.{Sides}
+use Rattle.protocol.specs.declared.entry.Entry.{Entry}
+use Rattle.protocol.specs.declared.reply.Reply.{Reply}
+use Rattle.protocol.specs.declared.reply.Reply.the-variants.{Refused, Done}
+use Rattle.protocol.specs.declared.step.Step.{Step}
+use Rattle.protocol.specs.declared.step.Step.the-variants.{Open, Close, Read, Write, Flush, Answer, Crash, Report, End}
+use Rattle.protocol.specs.Entry.{crashedEntry, reportedEntry}
+use Rattle.protocol.specs.Client.{sideOf}
+use Rattle.protocol.specs.Refusal.{tested}
+use Rattle.table.specs.declared.recovery.Recovery.{Recovery}
+use Rattle.table.specs.declared.recovery.RecoveryOutcome.{RecoveryOutcome}
+use Rattle.table.specs.declared.recovery.Sweep.{Sweep}
+use Rattle.table.specs.declared.recovery.Sweep.the-variants.{Stay, Crash as Crashes, Report as Reports}
+use Rattle.table.specs.declared.table.TableOutcome.{TableOutcome}
+use Rattle.table.specs.TableStep.{entryOf, sidesIn, reportTests, endTests}
+
+-- the client of a report is there
+abbrev pub Fits : Sweep → Type 0
+Fits Stay = Unit {0}
+Fits Crashes = Unit {0}
+Fits (Reports i) = i < maxClients
+
+-- the entries after a crash, and after the client's sides of every file have come
+abbrev pub crashedFiles : Sizes → List Entry → List Entry
+crashedFiles z entries =
+    stored (z .files) (λ f. f) (λ f. crashedEntry (z .clients) (entryOf entries f)) entries
+
+abbrev pub reportedFiles : Sizes → List Entry → List Sides → ℕ → List Entry
+reportedFiles z entries clients i =
+    stored (z .files) (λ f. f) (λ f. reportedEntry (entryOf entries f) i (sideOf (sidesIn clients f) i)) entries
+
+abbrev pub filesAfter : Sizes → Sweep → List Entry → List Sides → List Entry
+filesAfter z Stay entries clients = entries
+filesAfter z Crashes entries clients = crashedFiles z entries
+filesAfter z (Reports i) entries clients = reportedFiles z entries clients i
+
+-- the entries stay
+abbrev pub kept : Recovery → Reply → RecoveryOutcome
+kept v reply = record { recovery = v; reply = reply; sweep = Stay }
+
+unfoldable pub recoveryStep : Sizes → Recovery → Step → RecoveryOutcome
+recoveryStep z v Crash =
+    record {
+      recovery = record { recovering = true; reported = filled (z .clients) false (v .reported) };
+      reply = Done;
+      sweep = Crashes;
+    }
+recoveryStep z v (Report i) =
+    tested (reportTests z (v .recovering) (v .reported) i) (λ k. kept v (Refused k))
+    (record {
+      recovery = record { recovering = v .recovering; reported = set (v .reported) i true };
+      reply = Done;
+      sweep = Reports i;
+    })
+recoveryStep z v End =
+    tested (endTests z (v .recovering) (v .reported)) (λ k. kept v (Refused k))
+    (kept (record { recovering = false; reported = filled (z .clients) false (v .reported) }) Done)
+recoveryStep z v (Open m i f) = kept v Done
+recoveryStep z v (Close m i f) = kept v Done
+recoveryStep z v (Read i f b) = kept v Done
+recoveryStep z v (Write i f b w) = kept v Done
+recoveryStep z v (Flush i f b) = kept v Done
+recoveryStep z v (Answer i f) = kept v Done
+
+-- the table, once the entries have done so
+abbrev pub tableAfter : Sizes → List Entry → List Sides → RecoveryOutcome → TableOutcome
+tableAfter z entries clients o =
+    record {
+      table =
+          record {
+            files = filesAfter z (o .sweep) entries clients;
+            recovering = o .recovery .recovering;
+            reported = o .recovery .reported;
+          };
+      reply = o .reply;
+    }

@@ -1,0 +1,104 @@
+-- The steps on the whole table: a crash, a report and the end of a recovery. z are the sizes in force; what lies past
+-- them is neither looked at nor changed.
+use Prim.Native.Nat.{ℕ}
+use mathlib.Core.Bool.{Bool, true, false, not}
+use mathlib.Core.List.{List, [], _∷_}
+use lib.Dec.{ltb}
+use lib.ListN.{getD, set}
+use Rattle.records.specs.declared.record.Mode.the-variants.{Read as ForRead}
+use Rattle.records.specs.Version.{noVersion}
+use Rattle.decision.specs.declared.sizes.Sizes.{Sizes}
+use Rattle.decision.specs.Lists.{count, stored, filled}
+use Rattle.protocol.specs.declared.client.Sides.{Sides}
+use Rattle.protocol.specs.declared.entry.Entry.{Entry}
+use Rattle.protocol.specs.declared.reply.Reply.the-variants.{Refused, Done}
+use Rattle.protocol.specs.declared.step.Step.{Step}
+use Rattle.protocol.specs.declared.step.Step.the-variants.{Open, Close, Read, Write, Flush, Answer, Crash, Report, End}
+use Rattle.protocol.specs.Entry.{crashedEntry, reportedEntry}
+use Rattle.protocol.specs.Client.{sideOf}
+use Rattle.protocol.specs.Refusal.{Test, tested, noSuchClient}
+use Rattle.table.specs.declared.table.Table.{Table}
+use Rattle.table.specs.declared.table.TableOutcome.{TableOutcome}
+
+-- what a list gives past its end; no step looks there
+abbrev pub noEntry : Entry
+noEntry = record { records = []; version = noVersion; last = 0; waiter = 0; mode = ForRead; calls = [] }
+
+abbrev pub noSides : Sides
+noSides = record { of = [] }
+
+-- the entry of file f in a list and in a table, and the clients' sides of it
+abbrev pub entryOf : List Entry → ℕ → Entry
+entryOf entries f = getD entries f noEntry
+
+abbrev pub entryIn : Table → ℕ → Entry
+entryIn t f = entryOf (t .files) f
+
+abbrev pub sidesIn : List Sides → ℕ → Sides
+sidesIn clients f = getD clients f noSides
+
+-- "6 not recovering. 7 this station has reported. 8 some station hasn't."
+abbrev pub notRecovering : Bool → Test
+notRecovering recovering = (not recovering, 6)
+
+abbrev pub isReported : List Bool → ℕ → Bool
+isReported reported i = getD reported i false
+
+abbrev pub hasReported : List Bool → ℕ → Test
+hasReported reported i = (isReported reported i, 7)
+
+-- how many of n clients have not reported
+abbrev pub missing : ℕ → List Bool → ℕ
+missing n reported = count n (λ i. not (isReported reported i))
+
+abbrev pub reportMissing : Sizes → List Bool → Test
+reportMissing z reported = (ltb 0 (missing (z .clients) reported), 8)
+
+-- "report 2, 6, 7; end 6, 8; crash none"
+abbrev pub reportTests : Sizes → Bool → List Bool → ℕ → List Test
+reportTests z recovering reported i = noSuchClient z i ∷ notRecovering recovering ∷ hasReported reported i ∷ []
+
+abbrev pub endTests : Sizes → Bool → List Bool → List Test
+endTests z recovering reported = notRecovering recovering ∷ reportMissing z reported ∷ []
+
+-- "the server's readers, writers, permissions, last writers, waits and reports are lost; nothing at a station
+-- changes; recovery begins"
+abbrev pub crashed : Sizes → Table → Table
+crashed z t =
+    record {
+      files = stored (z .files) (λ f. f) (λ f. crashedEntry (z .clients) (entryIn t f)) (t .files);
+      recovering = true;
+      reported = filled (z .clients) false (t .reported);
+    }
+
+-- "a station gives counts, permissions and marks for all files; the table takes them"
+abbrev pub reported : Sizes → Table → List Sides → ℕ → Table
+reported z t clients i =
+    record {
+      files = stored (z .files) (λ f. f) (λ f. reportedEntry (entryIn t f) i (sideOf (sidesIn clients f) i)) (t .files);
+      recovering = t .recovering;
+      reported = set (t .reported) i true;
+    }
+
+-- "after eight reports the service runs again"; "the eight reports .. follow the settings" (document 02, Wish 7)
+abbrev pub ended : Sizes → Table → Table
+ended z t =
+    record { files = t .files; recovering = false; reported = filled (z .clients) false (t .reported) }
+
+-- "A refusal gives only its number; server, stations and every lent buffer stay as they came."
+abbrev pub unlessTested : List Test → Table → Table → TableOutcome
+unlessTested ts t after =
+    tested ts (λ k. record { table = t; reply = Refused k }) (record { table = after; reply = Done })
+
+-- a step that is not on the whole table leaves it as it came
+unfoldable pub tableStep : Sizes → Table → List Sides → Step → TableOutcome
+tableStep z t clients Crash = record { table = crashed z t; reply = Done }
+tableStep z t clients (Report i) =
+    unlessTested (reportTests z (t .recovering) (t .reported) i) t (reported z t clients i)
+tableStep z t clients End = unlessTested (endTests z (t .recovering) (t .reported)) t (ended z t)
+tableStep z t clients (Open m i f) = record { table = t; reply = Done }
+tableStep z t clients (Close m i f) = record { table = t; reply = Done }
+tableStep z t clients (Read i f b) = record { table = t; reply = Done }
+tableStep z t clients (Write i f b v) = record { table = t; reply = Done }
+tableStep z t clients (Flush i f b) = record { table = t; reply = Done }
+tableStep z t clients (Answer i f) = record { table = t; reply = Done }

@@ -1,0 +1,144 @@
+// A step on the whole table: one call changes the state of the recovery and tells what the entries in force do then.
+ghost use mathlib.Core.Path.{_≡_};
+ghost use mathlib.Core.Bool.{false};
+ghost use Prim.Native.Nat.{_≤_};
+ghost use Rattle.decision.specs.Sizes.{maxClients, Permitted};
+ghost use Rattle.decision.specs.Lists.{filled};
+ghost use Rattle.table.specs.Recovery.{Fits, kept as keptOutcome, recoveryStep, crashedFiles};
+use crate::refusal::end_refusal;
+use crate::refusal::report_refusal;
+use decision::MAX_CLIENTS;
+use decision::MAX_FILES;
+use decision::Sizes;
+use protocol::Entry;
+use protocol::Reply;
+use protocol::Step;
+
+// What a step on the whole table does to the entries in force.
+pub enum Sweep {
+    Stay,
+    // Of all that they hold only the versions survive.
+    Crash,
+    // Each takes the client's side of its file.
+    Report { client: usize },
+}
+
+// The state of a recovery.
+pub struct Recovery {
+    pub recovering: bool,
+    pub reported: [bool; MAX_CLIENTS],
+}
+
+// The state of the recovery after a step, the reply, and what the entries do.
+pub struct RecoveryOutcome {
+    pub recovery: Recovery,
+    pub reply: Reply,
+    pub sweep: Sweep,
+}
+
+impl Recovery {
+    // A step on the whole table. Any other leaves all as it came.
+    pub fn step(self, sizes: Sizes, step: Step) -> RecoveryOutcome
+        requires { ⌜ Permitted sizes ⌝ }
+        ensures { λ r. ⌜ r ≡ recoveryStep sizes self step ⌝ }
+        ensures { λ r. ⌜ Fits (r .sweep) ⌝ }
+    {
+        match step {
+            Step::Crash => self.crash(sizes),
+            Step::Report { client } => self.report(sizes, client),
+            Step::End => self.end(sizes),
+            _ => self.kept(Reply::Done),
+        }
+    }
+
+    fn kept(self, reply: Reply) -> RecoveryOutcome
+        ensures { λ r. ⌜ r ≡ keptOutcome self reply ⌝ }
+    {
+        RecoveryOutcome {
+            recovery: self,
+            reply,
+            sweep: Sweep::Stay,
+        }
+    }
+
+    // The reports are lost, and recovery begins.
+    fn crash(self, sizes: Sizes) -> RecoveryOutcome
+        requires { ⌜ Permitted sizes ⌝ }
+        ensures { λ r. ⌜ r ≡ recoveryStep sizes self Step.Crash ⌝ }
+    {
+        let reports = self.reported;
+        let recovery = Recovery {
+            recovering: true,
+            reported: without_reports(reports, sizes.clients),
+        };
+        RecoveryOutcome {
+            recovery,
+            reply: Reply::Done,
+            sweep: Sweep::Crash,
+        }
+    }
+
+    fn report(mut self, sizes: Sizes, client: usize) -> RecoveryOutcome
+        requires { ⌜ Permitted sizes ⌝ }
+        ensures { λ r. ⌜ r ≡ recoveryStep sizes self (Step.Report client) ⌝ }
+        ensures { λ r. ⌜ Fits (r .sweep) ⌝ }
+    {
+        let reports = self.reported;
+        let refusal = report_refusal(sizes, self.recovering, reports, client);
+        if refusal != 0 {
+            return self.kept(Reply::Refused(refusal));
+        }
+        self.reported[client] = true;
+        RecoveryOutcome {
+            recovery: self,
+            reply: Reply::Done,
+            sweep: Sweep::Report { client },
+        }
+    }
+
+    // Recovery ends, and the reports are forgotten.
+    fn end(self, sizes: Sizes) -> RecoveryOutcome
+        requires { ⌜ Permitted sizes ⌝ }
+        ensures { λ r. ⌜ r ≡ recoveryStep sizes self Step.End ⌝ }
+    {
+        let reports = self.reported;
+        let refusal = end_refusal(sizes, self.recovering, reports);
+        if refusal != 0 {
+            return self.kept(Reply::Refused(refusal));
+        }
+        let ended = Recovery {
+            recovering: false,
+            reported: without_reports(reports, sizes.clients),
+        };
+        ended.kept(Reply::Done)
+    }
+}
+
+// The reports, with none of the clients'.
+fn without_reports(mut reports: [bool; MAX_CLIENTS], clients: usize) -> [bool; MAX_CLIENTS]
+    requires { ⌜ clients ≤ maxClients ⌝ }
+    ensures { λ r. ⌜ r ≡ filled clients false reports ⌝ }
+{
+    let mut i = 0;
+    while i < clients {
+        reports[i] = false;
+        i += 1;
+    }
+    reports
+}
+
+// The entries after a crash. A crash is rare, so that they may be copied together; a report is not, and its caller goes
+// through the files itself.
+pub fn crashed_files(mut files: [Entry; MAX_FILES], sizes: Sizes) -> [Entry; MAX_FILES]
+    requires { ⌜ Permitted sizes ⌝ }
+    ensures { λ r. ⌜ r ≡ crashedFiles sizes files ⌝ }
+{
+    let mut f = 0;
+    while f < sizes.files {
+        let entry = files[f];
+        let after = entry.crashed(sizes.clients);
+        files[f] = after;
+        f += 1;
+    }
+    files
+}

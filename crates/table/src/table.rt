@@ -1,0 +1,18 @@
+// The state table: an entry for each file, and the state of a recovery.
+use decision::MAX_CLIENTS;
+use decision::MAX_FILES;
+use protocol::Entry;
+use protocol::Reply;
+
+pub struct Table {
+    pub files: [Entry; MAX_FILES],
+    pub recovering: bool,
+    // The clients that have reported in this recovery.
+    pub reported: [bool; MAX_CLIENTS],
+}
+
+// The table after a step on all of it, and the reply.
+pub struct TableOutcome {
+    pub table: Table,
+    pub reply: Reply,
+}
