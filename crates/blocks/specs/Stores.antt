@@ -3,7 +3,9 @@
 use Prim.Native.Nat.{ℕ}
 use mathlib.Core.Bool.{Bool, true, false, cond, not, _&&_}
 use mathlib.Core.List.{List}
+use lib.Dec.{ltb}
 use lib.ListN.{getD, set}
+use Rattle.decision.specs.Lists.{count}
 use Rattle.decision.specs.Sizes.{place, cell, firstPlace, firstCell}
 use Rattle.decision.specs.Callback.{writesBack, invalidates}
 use Rattle.protocol.specs.Client.{kept, sent}
@@ -30,6 +32,13 @@ heldIn a i f b = getD (a .held) (cell i f b) false
 
 abbrev pub dirtyIn : Stores → ℕ → ℕ → ℕ → Bool
 dirtyIn a i f b = getD (a .dirty) (cell i f b) false
+
+-- how many blocks of file f, which has n, are dirty at client i; and whether one is
+abbrev pub dirtyBlocks : ℕ → ℕ → ℕ → Stores → ℕ
+dirtyBlocks n i f a = count n (λ b. dirtyIn a i f b)
+
+abbrev pub anyDirty : ℕ → ℕ → ℕ → Stores → Bool
+anyDirty n i f a = ltb 0 (dirtyBlocks n i f a)
 
 -- Client i's copy of file f, of n blocks, is dropped unless it is kept: "A dropped block is not held, not dirty and zero".
 abbrev pub droppedUnless : ℕ → Bool → ℕ → ℕ → Stores → Stores

@@ -5,6 +5,8 @@ ghost use mathlib.Core.Bool.{false, cond, not};
 ghost use Prim.Native.Nat.{_+_, _%_, _≤_, _<_};
 ghost use Rattle.decision.specs.Sizes.{maxClients, maxFiles, maxBlocks, maxPlaces, maxCells};
 ghost use Rattle.decision.specs.Sizes.{firstPlace, place, firstCell, cell};
+ghost use lib.ListN.{getD};
+ghost use Rattle.decision.specs.Lists.{count as tally};
 ghost use Rattle.decision.specs.Callback.{writesBack};
 ghost use Rattle.decision.specs.Callback.{invalidates as drops};
 ghost use Rattle.protocol.specs.Client.{kept, sent};
@@ -14,6 +16,7 @@ use decision::MAX_CLIENTS;
 use decision::MAX_FILES;
 use decision::MAX_PLACES;
 use decision::invalidates;
+use decision::one_if;
 use decision::writes_back;
 
 // Where the client's copies of the file begin; the numbers are wrapped, so that there is always room for a file.
@@ -45,6 +48,21 @@ pub fn place_of(file: usize, block: usize) -> usize
     ensures { λ r. ⌜ r < maxPlaces ⌝ }
 {
     first_place(file) + block % MAX_BLOCKS
+}
+
+// How many of the blocks are dirty whose flags stand from base on.
+pub fn count_dirty(count: usize, base: usize, dirty: &[bool; MAX_CELLS]) -> usize
+    requires { ⌜ count ≤ maxBlocks ⌝ }
+    requires { ⌜ base + maxBlocks ≤ maxCells ⌝ }
+    ensures { λ r. ⌜ r ≡ tally count (λ b. getD (now (dirty .entry)) (base + b) false) ⌝ }
+{
+    let mut found = 0;
+    let mut b = 0;
+    while b < count {
+        found += one_if(dirty[base + b]);
+        b += 1;
+    }
+    found
 }
 
 // Drops the copies of the file whose first block stands at base, with their flags, unless they are kept.

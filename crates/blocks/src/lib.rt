@@ -4,6 +4,7 @@ mod blocks;
 
 pub use blocks::answer_blocks;
 pub use blocks::cell_of;
+pub use blocks::count_dirty;
 pub use blocks::drop_copies_unless;
 pub use blocks::first_cell;
 pub use blocks::first_place;

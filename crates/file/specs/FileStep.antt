@@ -15,10 +15,10 @@ use Rattle.protocol.specs.declared.reply.Reply.the-variants.{Granted, Waiting, 
 use Rattle.protocol.specs.declared.step.Step.{Step}
 use Rattle.protocol.specs.declared.step.Step.the-variants.{Open, Close, Read, Write, Flush, Answer, Crash, Report, End}
 use Rattle.protocol.specs.Entry.{callTo, callsOut, callsFor, callsDue, waitingEntry, grantOf, grantedEntry}
-use Rattle.protocol.specs.Entry.{closedEntry, answeredEntry}
-use Rattle.protocol.specs.Client.{sideOf, withSide, grantedClient, keepsBlocks, closedClient, answeredClient}
+use Rattle.protocol.specs.Entry.{closedEntry, flushedEntry, answeredEntry}
+use Rattle.protocol.specs.Client.{sideOf, withSide, grantedClient, keepsBlocks, closedClient, flushedClient, answeredClient}
 use Rattle.protocol.specs.Refusal.{Test, tested, openTests, closeTests, flushTests, answerTests}
-use Rattle.blocks.specs.Stores.{Stores, lent, dirtyIn, droppedUnless, answeredStores, flushedStores}
+use Rattle.blocks.specs.Stores.{Stores, lent, dirtyIn, anyDirty, droppedUnless, answeredStores, flushedStores}
 use Rattle.file.specs.declared.file.SharedFile.{SharedFile}
 use Rattle.file.specs.declared.file.FileOutcome.{FileOutcome}
 
@@ -73,19 +73,31 @@ afterOpen z x a mode i f =
 
 -- ---- closing and flushing
 
-abbrev pub afterClose : SharedFile → Stores → Mode → ℕ → FileAfter
-afterClose x a mode i =
-    leaving
-    (record {
-      entry = closedEntry (x .entry) i mode;
-      sides = withSide (x .sides) i (closedClient mode (sideOf (x .sides) i));
-    })
-    a
-    Done
+-- "sets mark and last writer if a block is dirty, else clears both" (document 02, Wish 4): whether a block of the file is
+-- dirty there, both sides are told
+abbrev pub closedFile : SharedFile → Mode → ℕ → Bool → SharedFile
+closedFile x mode i dirty =
+    record {
+      entry = closedEntry (x .entry) i mode dirty;
+      sides = withSide (x .sides) i (closedClient mode dirty (sideOf (x .sides) i));
+    }
 
--- "one dirty block goes to the server and is clean; the table doesn't change"
-abbrev pub afterFlush : SharedFile → Stores → ℕ → ℕ → ℕ → FileAfter
-afterFlush x a i f b = leaving x (flushedStores i f b a) Done
+abbrev pub afterClose : Sizes → SharedFile → Stores → Mode → ℕ → ℕ → FileAfter
+afterClose z x a mode i f = leaving (closedFile x mode i (anyDirty (z .blocks) i f a)) a Done
+
+-- "one dirty block goes to the server and is clean"; "the flush of the last dirty block clears the mark and, if the
+-- station is last writer, that" (document 02, Wish 4): whether another of the file is left, both sides are told
+abbrev pub flushedFile : SharedFile → ℕ → Bool → SharedFile
+flushedFile x i left =
+    record {
+      entry = flushedEntry (x .entry) i left;
+      sides = withSide (x .sides) i (flushedClient left (sideOf (x .sides) i));
+    }
+
+abbrev pub afterFlush : Sizes → SharedFile → Stores → ℕ → ℕ → ℕ → FileAfter
+afterFlush z x a i f b =
+    let sent = flushedStores i f b a in
+    leaving (flushedFile x i (anyDirty (z .blocks) i f sent)) sent Done
 
 -- ---- answering
 
@@ -121,9 +133,9 @@ unfoldable pub fileStep : Sizes → Bool → SharedFile → Stores → Step → 
 fileStep z recovering x a (Open m i f) =
     unlessTested (openTests z recovering (x .entry) (sideOf (x .sides) i) m i f) x a (afterOpen z x a m i f)
 fileStep z recovering x a (Close m i f) =
-    unlessTested (closeTests z recovering (x .entry) (sideOf (x .sides) i) m i f) x a (afterClose x a m i)
+    unlessTested (closeTests z recovering (x .entry) (sideOf (x .sides) i) m i f) x a (afterClose z x a m i f)
 fileStep z recovering x a (Flush i f b) =
-    unlessTested (flushTests z recovering (dirtyIn a i f b) i f b) x a (afterFlush x a i f b)
+    unlessTested (flushTests z recovering (dirtyIn a i f b) i f b) x a (afterFlush z x a i f b)
 fileStep z recovering x a (Answer i f) =
     unlessTested (answerTests z recovering (x .entry) i f) x a (afterAnswer z x a i f)
 fileStep z recovering x a (Read i f b) = leaving x a Done

@@ -1,6 +1,8 @@
 // One file at both sides, and the steps on it.
 ghost use mathlib.Core.Path.{_≡_};
-ghost use Prim.Native.Nat.{_<_};
+ghost use mathlib.Core.Bool.{Bool};
+ghost use mathlib.Core.List.{List};
+ghost use Prim.Native.Nat.{ℕ, _<_};
 ghost use Rattle.decision.specs.Sizes.{Permitted};
 ghost use Rattle.blocks.specs.Stores.{Stores, lent};
 ghost use Rattle.file.specs.FileStep.{leaving, granted, fileStep, outcomeOf, Leaves};
@@ -10,6 +12,7 @@ use crate::refusal::flush_refusal;
 use crate::refusal::open_refusal;
 use blocks::answer_blocks;
 use blocks::cell_of;
+use blocks::count_dirty;
 use blocks::drop_copies_unless;
 use blocks::first_cell;
 use blocks::first_place;
@@ -70,7 +73,9 @@ impl SharedFile {
                 held,
                 dirty,
             ),
-            Step::Close { mode, client, file } => self.close(sizes, recovering, mode, client, file),
+            Step::Close { mode, client, file } => {
+                self.close(sizes, recovering, mode, client, file, dirty)
+            }
             Step::Flush {
                 client,
                 file,
@@ -214,10 +219,12 @@ impl SharedFile {
         mode: Mode,
         client: usize,
         file: usize,
+        dirty: &[bool; MAX_CELLS],
     ) -> FileOutcome
         requires { ⌜ Permitted sizes ⌝ }
-        ensures { λ r. ⌜ ((a : Stores) → r ≡ outcomeOf (fileStep sizes recovering self a (Step.Close mode client file))) ⌝ }
-        ensures { λ r. ⌜ ((a : Stores) → a ≡ fileStep sizes recovering self a (Step.Close mode client file) .stores) ⌝ }
+        ensures { λ r. ⌜ ((blocks copies : List ℕ) (held : List Bool) → Leaves
+            (fileStep sizes recovering self (lent blocks copies held (now (dirty .entry))) (Step.Close mode client file))
+            r blocks copies held (now (dirty .entry))) ⌝ }
     {
         let entry = self.entry;
         let sides = self.sides;
@@ -226,14 +233,12 @@ impl SharedFile {
         if refusal != 0 {
             return self.replied(Reply::Refused(refusal));
         }
-        FileOutcome {
-            file: SharedFile {
-                entry: entry.closed(client, mode),
-                sides: sides.with_side(client, own.closed(mode)),
-            },
-            reply: Reply::Done,
-            calls: [0; MAX_CLIENTS],
-        }
+        let any = 0 < count_dirty(sizes.blocks, first_cell(client, file), dirty);
+        let closed = SharedFile {
+            entry: entry.closed(client, mode, any),
+            sides: sides.with_side(client, own.closed(mode, any)),
+        };
+        closed.replied(Reply::Done)
     }
 
     // One dirty block goes to the server. What stands at the wrapped place counts only where the step is not refused
@@ -264,7 +269,15 @@ impl SharedFile {
         }
         blocks[place_of(file, block)] = copies[cell];
         dirty[cell] = false;
-        self.replied(Reply::Done)
+        let left = 0 < count_dirty(sizes.blocks, first_cell(client, file), dirty);
+        let entry = self.entry;
+        let sides = self.sides;
+        let own = sides.side(client);
+        let flushed = SharedFile {
+            entry: entry.flushed(client, left),
+            sides: sides.with_side(client, own.flushed(left)),
+        };
+        flushed.replied(Reply::Done)
     }
 
     // A callback is answered; if it was the last, the open that waits is granted.

@@ -32,9 +32,12 @@ pub mod Block
 pub mod Permission
 pub mod Latest
 pub mod Grant
+pub mod Granting
 pub mod Kind
 pub mod Due
 pub mod Close
+pub mod Settle
+pub mod Owing
 pub mod Answer
 pub mod Open
 pub mod Recovery

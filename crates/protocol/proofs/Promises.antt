@@ -5,7 +5,8 @@
 use Prim.Native.Nat.{ℕ, _<_}
 use mathlib.Core.Path.{_≡_}
 use mathlib.Core.Bool.{Bool, true, false, _&&_}
-use lib.Dec.{eqb}
+use mathlib.Core.Logic.{_⊎_}
+use lib.Dec.{eqb, ltb}
 use Rattle.records.specs.declared.record.Mode.{Mode}
 use Rattle.records.specs.Version.{isLastVersion}
 use Rattle.records.specs.Record.{isOpen, isWrite, countOf}
@@ -13,8 +14,8 @@ use Rattle.protocol.specs.Entry.{waits, callTo, callsOut, callsFor}
 use Rattle.protocol.specs.Client.{readNeedsServer, writeNeedsServer}
 use Rattle.protocol.specs.Table.{Row, rowOf}
 use Rattle.protocol.proofs.View.{View, at, freshView, waitingView, grantedView, closedView, valueIn, readView}
-use Rattle.protocol.proofs.View.{writtenView, flushedView, callAnsweredView, waiterGrantedView, crashedView}
-use Rattle.protocol.proofs.View.{reportedView}
+use Rattle.protocol.proofs.View.{writtenView, sentView, settledView, callAnsweredView, waiterGrantedView}
+use Rattle.protocol.proofs.View.{crashedView, reportedView, Backs}
 
 pub record Promises
     (n : ℕ)
@@ -40,12 +41,13 @@ pub record Promises
       → (isWrite mode && isLastVersion (v .entry .version)) ≡ false
       → Running (waitingView n v i mode) k
   pub closes :
-      (v : View) (k i : ℕ) (mode : Mode)
+      (v : View) (k i : ℕ) (mode : Mode) (dirty : Bool)
       → Running v k
       → i < n
       → waits n (v .entry) ≡ false
       → eqb (countOf mode (v .client i .opens)) 0 ≡ false
-      → Running (closedView v i mode) k
+      → (v .dirty i ≡ true → dirty ≡ true)
+      → Running (closedView v i mode dirty) k
   pub reads :
       (v : View) (k i : ℕ)
       → Running v k
@@ -58,7 +60,13 @@ pub record Promises
       → i < n
       → eqb (v .client i .opens .writers) 0 ≡ false
       → Running (writtenView v i x) x
-  pub flushes : (v : View) (k i : ℕ) → Running v k → i < n → v .dirty i ≡ true → Running (flushedView v i) k
+  pub sends : (v : View) (k i : ℕ) → Running v k → i < n → v .dirty i ≡ true → Running (sentView v i) k
+  pub settles :
+      (v : View) (k i : ℕ) (left : Bool)
+      → Running v k
+      → i < n
+      → (v .dirty i ≡ true → left ≡ true)
+      → Running (settledView v i left) k
   pub answers :
       (v : View) (k i : ℕ)
       → Running v k
@@ -73,6 +81,42 @@ pub record Promises
       → eqb (callTo n (v .entry) i) 0 ≡ false
       → eqb (callsOut n (callAnsweredView n v i .entry)) 0 ≡ true
       → (v .entry .waiter < n) × Running (waiterGrantedView n (callAnsweredView n v i)) k
+  -- what a close, a flush, a grant and an answer do to marks and dirty blocks
+  pub closesBack :
+      (v : View) (i j : ℕ) (mode : Mode) (dirty : Bool)
+      → closedView v i mode dirty .client j .marked ≡ true
+      → (v .client j .marked ≡ true) ⊎ ((eqb j i ≡ true) × (dirty ≡ true))
+  pub settlesBack :
+      (v : View) (i j : ℕ) (left : Bool)
+      → settledView v i left .client j .marked ≡ true
+      → (v .client j .marked ≡ true) × (eqb j i ≡ true → left ≡ true)
+  pub opensBack :
+      (v : View) (k i : ℕ) (mode : Mode)
+      → Running v k
+      → i < n
+      → (isWrite mode && isLastVersion (v .entry .version)) ≡ false
+      → eqb (callsFor n (v .entry) i mode) 0 ≡ true
+      → Backs v (grantedView n v i mode)
+  pub answersBack :
+      (v : View) (k i : ℕ)
+      → Running v k
+      → i < n
+      → eqb (callTo n (v .entry) i) 0 ≡ false
+      → Backs v (callAnsweredView n v i)
+  pub answersLastBack :
+      (v : View) (k i : ℕ)
+      → Running v k
+      → i < n
+      → eqb (callTo n (v .entry) i) 0 ≡ false
+      → eqb (callsOut n (callAnsweredView n v i .entry)) 0 ≡ true
+      → Backs v (waiterGrantedView n (callAnsweredView n v i))
+  -- a client that is last writer, or marked, is marked and has no writers
+  pub owes :
+      (v : View) (k i : ℕ)
+      → Running v k
+      → i < n
+      → (v .entry .last ≡ i) ⊎ (v .client i .marked ≡ true)
+      → (v .client i .marked ≡ true) × (ltb 0 (v .client i .opens .writers) ≡ true → ⊥)
   pub crashes : (v : View) (k : ℕ) → Running v k → Recovering (crashedView n v) k (λ i. false) (rowOf (v .entry))
   -- recovering
   pub crashesAgain :
@@ -97,6 +141,12 @@ pub record Promises
       → i < n
       → reported i ≡ false
       → Recovering (reportedView v i) k (at i true reported) row
+  pub owesStill :
+      (v : View) (k i : ℕ) (reported : ℕ → Bool) (row : Row)
+      → Recovering v k reported row
+      → i < n
+      → (v .entry .last ≡ i) ⊎ (v .client i .marked ≡ true)
+      → (v .client i .marked ≡ true) × (ltb 0 (v .client i .opens .writers) ≡ true → ⊥)
   pub ends :
       (v : View) (k : ℕ) (reported : ℕ → Bool) (row : Row)
       → Recovering v k reported row

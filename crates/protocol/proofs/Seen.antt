@@ -3,7 +3,7 @@
 -- have room for more clients than there are. Assumes nothing.
 use Prim.Native.Nat.{ℕ, zero, suc, _<_, _≤_}
 use mathlib.Core.Path.{_≡_, refl, sym, ap, _∙_}
-use mathlib.Core.Bool.{cond, not}
+use mathlib.Core.Bool.{Bool, cond, not}
 use mathlib.Core.List.{List, _∷_}
 use native.Mathlib.Nat.{le-refl}
 use native.Mathlib.Omega.{arith}
@@ -13,7 +13,7 @@ use Rattle.records.specs.declared.record.Mode.{Mode}
 use Rattle.records.specs.declared.record.ClientRecord.{ClientRecord}
 use Rattle.protocol.specs.declared.client.ClientFile.{ClientFile}
 use Rattle.protocol.specs.declared.entry.Entry.{Entry}
-use Rattle.records.specs.Record.{notOpen, isWrite, opened, closed, uncached, leavesLastWriter}
+use Rattle.records.specs.Record.{notOpen, isWrite, opened, closed, uncached, endsWriting}
 use Rattle.decision.specs.Sizes.{nobody}
 use Rattle.decision.specs.Lists.{stored}
 use Rattle.decision.specs.Callback.{asksNothing, callbackDue, writesBack, invalidates}
@@ -145,13 +145,14 @@ module _ (n : ℕ) (e : Entry) where
             ∙ ap (λ g. set (take n (e .records)) i (opened mode (g .caching) (recordAt (seen n e) i)))
             (sym (grant-seen mode))
 
-    pub closed-seen : (mode : Mode) → seen n (closedEntry e i mode) ≡ closedEntry (seen n e) i mode
-    closed-seen mode =
+    pub closed-seen :
+        (mode : Mode) (dirty : Bool) → seen n (closedEntry e i mode dirty) ≡ closedEntry (seen n e) i mode dirty
+    closed-seen mode dirty =
         λ k.
         record {
           records = set-seen i (closed mode) below k;
           version = e .version;
-          last = cond (leavesLastWriter mode (sym (record-seen i below) k)) i (e .last);
+          last = cond (endsWriting mode (sym (record-seen i below) k)) (cond dirty i nobody) (e .last);
           waiter = e .waiter;
           mode = e .mode;
           calls = take n (e .calls);

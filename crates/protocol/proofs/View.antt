@@ -2,15 +2,16 @@
 -- each step changes it. There is no list of files, blocks or clients here; a client is any number below n. It leads to
 -- `Promises`, in which the theorem on whole lists of steps finds all that it needs of the protocol.
 use Prim.Native.Nat.{ℕ}
+use mathlib.Core.Path.{_≡_}
 use mathlib.Core.Bool.{Bool, true, false, cond, not, _&&_}
 use lib.Dec.{eqb}
 use Rattle.records.specs.declared.record.Mode.{Mode}
 use Rattle.protocol.specs.declared.entry.Entry.{Entry}
 use Rattle.protocol.specs.declared.client.ClientFile.{ClientFile}
 use Rattle.decision.specs.Callback.{writesBack, invalidates}
-use Rattle.protocol.specs.Entry.{callTo, waitingEntry, grantOf, grantedEntry, closedEntry, answeredEntry}
+use Rattle.protocol.specs.Entry.{callTo, waitingEntry, grantOf, grantedEntry, closedEntry, flushedEntry, answeredEntry}
 use Rattle.protocol.specs.Entry.{crashedEntry, freshEntry, reportedEntry}
-use Rattle.protocol.specs.Client.{noClient, grantedClient, keepsBlocks, closedClient, answeredClient}
+use Rattle.protocol.specs.Client.{noClient, grantedClient, keepsBlocks, closedClient, flushedClient, answeredClient}
 
 pub record View : Type 0 where
   -- the server's entry and its block
@@ -57,12 +58,13 @@ grantedView n v i mode =
       dirty = at i (cond keep (v .dirty i) false) (v .dirty);
     }
 
-abbrev pub closedView : View → ℕ → Mode → View
-closedView v i mode =
+-- `dirty` says whether a block of the file is dirty at client i, be it this one or another
+abbrev pub closedView : View → ℕ → Mode → Bool → View
+closedView v i mode dirty =
     record {
-      entry = closedEntry (v .entry) i mode;
+      entry = closedEntry (v .entry) i mode dirty;
       block = v .block;
-      client = at i (closedClient mode (v .client i)) (v .client);
+      client = at i (closedClient mode dirty (v .client i)) (v .client);
       copy = v .copy;
       held = v .held;
       dirty = v .dirty;
@@ -96,8 +98,10 @@ writtenView v i x =
       dirty = at i (cond caches true (v .dirty i)) (v .dirty);
     }
 
-abbrev pub flushedView : View → ℕ → View
-flushedView v i =
+-- A flush of the block sends it; then, with a flush of any block of the file, mark and last writer follow: `left` says
+-- whether a block of the file is still dirty at client i.
+abbrev pub sentView : View → ℕ → View
+sentView v i =
     record {
       entry = v .entry;
       block = v .copy i;
@@ -105,6 +109,17 @@ flushedView v i =
       copy = v .copy;
       held = v .held;
       dirty = at i false (v .dirty);
+    }
+
+abbrev pub settledView : View → ℕ → Bool → View
+settledView v i left =
+    record {
+      entry = flushedEntry (v .entry) i left;
+      block = v .block;
+      client = at i (flushedClient left (v .client i)) (v .client);
+      copy = v .copy;
+      held = v .held;
+      dirty = v .dirty;
     }
 
 abbrev pub answeredView : View → ℕ → ℕ → View
@@ -131,3 +146,10 @@ crashedView n v = withEntry v (crashedEntry n (v .entry))
 
 abbrev pub reportedView : View → ℕ → View
 reportedView v i = withEntry v (reportedEntry (v .entry) i (v .client i))
+
+-- From v to w client j does not become marked, and if it is, the block stays dirty there; and so for every client.
+abbrev pub BacksAt : ℕ → View → View → Type 0
+BacksAt j v w = w .client j .marked ≡ true → (v .client j .marked ≡ true) × (v .dirty j ≡ true → w .dirty j ≡ true)
+
+abbrev pub Backs : View → View → Type 0
+Backs v w = (j : ℕ) → BacksAt j v w

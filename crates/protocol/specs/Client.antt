@@ -1,7 +1,7 @@
 -- A client's side of one file: its own record, its last-writer flag (document 01: mark) and the version of its copy
--- (label), and how a grant, a close and an answer change them and the copies of its blocks.
+-- (label), and how a grant, a close, a flush and an answer change them and the copies of its blocks.
 use Prim.Native.Nat.{ℕ, _+_}
-use mathlib.Core.Bool.{Bool, false, cond, not, _&&_, _||_}
+use mathlib.Core.Bool.{Bool, false, cond, not, _&&_}
 use mathlib.Core.List.{List}
 use lib.Dec.{ltb}
 use lib.ListN.{getD, set}
@@ -11,7 +11,7 @@ use Rattle.protocol.specs.declared.client.Sides.{Sides}
 use Rattle.protocol.specs.declared.reply.Grant.{Grant}
 use Rattle.decision.specs.Lists.{stored}
 use Rattle.records.specs.Version.{noVersion}
-use Rattle.records.specs.Record.{notOpen, isOpen, isWrite, opened, closed, uncached, leavesLastWriter}
+use Rattle.records.specs.Record.{notOpen, isOpen, isWrite, opened, closed, uncached, endsWriting}
 use Rattle.decision.specs.Callback.{writesBack, invalidates}
 use Rattle.protocol.specs.Copy.{keepsCopy}
 
@@ -28,15 +28,19 @@ grantedClient mode g own =
 abbrev pub keepsBlocks : Mode → Grant → ClientFile → Bool
 keepsBlocks mode g own = g .caching && keepsCopy mode (own .label) (g .latest)
 
--- "If that was the last writer count and the station may cache, it becomes .. marked. A final close takes its
--- permission away; its copy stays."
-abbrev pub closedClient : Mode → ClientFile → ClientFile
-closedClient mode own =
+-- "a close of the last writer count with permission sets mark .. if a block is dirty, else clears" it (document 02,
+-- Wish 4). "A final close takes its permission away; its copy stays."
+abbrev pub closedClient : Mode → Bool → ClientFile → ClientFile
+closedClient mode dirty own =
     record {
       opens = closed mode (own .opens);
-      marked = leavesLastWriter mode (own .opens) || own .marked;
+      marked = cond (endsWriting mode (own .opens)) dirty (own .marked);
       label = own .label;
     }
+
+-- "the flush of the last dirty block clears the mark"
+abbrev pub flushedClient : Bool → ClientFile → ClientFile
+flushedClient left own = record { opens = own .opens; marked = left && own .marked; label = own .label }
 
 -- "1 .. clears mark ..; 2 drops the copy, label 0, permission gone; 3 is 1, then 2."
 abbrev pub answeredClient : ℕ → ClientFile → ClientFile

@@ -1,9 +1,9 @@
--- The server's side of one file: the entry of the state table, and how an open, a grant, a close, an answer, a crash
--- and a report change it. n is the number of clients; what lies past them in a list is neither looked at nor changed.
+-- The server's side of one file: the entry of the state table, and how an open, a grant, a close, a flush, an answer, a
+-- crash and a report change it. n is the number of clients; what lies past them in a list is neither looked at nor changed.
 use Prim.Native.Nat.{ℕ}
-use mathlib.Core.Bool.{Bool, cond, not}
+use mathlib.Core.Bool.{Bool, cond, not, _&&_}
 use mathlib.Core.List.{List}
-use lib.Dec.{leb, ltb}
+use lib.Dec.{eqb, leb, ltb}
 use lib.ListN.{getD, set, replicate}
 use Rattle.records.specs.declared.record.Mode.{Mode}
 use Rattle.records.specs.declared.record.Mode.the-variants.{Read}
@@ -14,7 +14,7 @@ use Rattle.protocol.specs.declared.reply.Grant.{Grant}
 use Rattle.decision.specs.Sizes.{nobody}
 use Rattle.decision.specs.Lists.{count, filled}
 use Rattle.records.specs.Version.{firstVersion, latestAt, previousVersion}
-use Rattle.records.specs.Record.{notOpen, isWrite, opened, closed, uncached, leavesLastWriter}
+use Rattle.records.specs.Record.{notOpen, isWrite, opened, closed, uncached, endsWriting}
 use Rattle.decision.specs.State.{recordIn}
 use Rattle.decision.specs.Callback.{callbacksDue, callsCaused, writesBack, invalidates, asksNothing}
 use Rattle.decision.specs.Permission.{permissionAtGrant}
@@ -83,14 +83,27 @@ grantedEntry n e opener mode g =
       calls = filled n 0 (e .calls);
     }
 
--- "Close in a mode lowers that count by 1. If that was the last writer count and the station may cache, it becomes
--- last writer"
-abbrev pub closedEntry : Entry → ℕ → Mode → Entry
-closedEntry e i mode =
+-- "Close in a mode lowers that count by 1." "a close of the last writer count with permission sets mark and last writer
+-- if a block is dirty, else clears both" (document 02, Wish 4); `dirty` says whether a block of the file is dirty there
+abbrev pub closedEntry : Entry → ℕ → Mode → Bool → Entry
+closedEntry e i mode dirty =
     record {
       records = set (e .records) i (closed mode (recordAt e i));
       version = e .version;
-      last = cond (leavesLastWriter mode (recordAt e i)) i (e .last);
+      last = cond (endsWriting mode (recordAt e i)) (cond dirty i nobody) (e .last);
+      waiter = e .waiter;
+      mode = e .mode;
+      calls = e .calls;
+    }
+
+-- "the flush of the last dirty block clears the mark and, if the station is last writer, that"; `left` says whether a
+-- block of the file is still dirty there
+abbrev pub flushedEntry : Entry → ℕ → Bool → Entry
+flushedEntry e i left =
+    record {
+      records = e .records;
+      version = e .version;
+      last = cond (not left && eqb (e .last) i) nobody (e .last);
       waiter = e .waiter;
       mode = e .mode;
       calls = e .calls;

@@ -1,6 +1,6 @@
 // A client's side of one file: what it holds besides the copies of the blocks, and how its steps change it.
 ghost use mathlib.Core.Path.{_≡_};
-ghost use Rattle.protocol.specs.Client.{grantedClient, keepsBlocks, closedClient, answeredClient};
+ghost use Rattle.protocol.specs.Client.{grantedClient, keepsBlocks, closedClient, flushedClient, answeredClient};
 ghost use Rattle.protocol.specs.Client.{readNeedsServer, writeNeedsServer, noClient, sideOf, withSide};
 use crate::copy::keeps_copy;
 use crate::reply::Grant;
@@ -76,16 +76,26 @@ impl ClientFile {
         grant.caching & keeps_copy(mode, self.label, grant.latest)
     }
 
-    pub fn closed(self, mode: Mode) -> Self
-        ensures { λ r. ⌜ r ≡ closedClient mode self ⌝ }
+    // The client has closed; dirty says whether a block of the file is dirty here.
+    pub fn closed(self, mode: Mode, dirty: bool) -> Self
+        ensures { λ r. ⌜ r ≡ closedClient mode dirty self ⌝ }
     {
         let opens = self.opens;
         let label = self.label;
+        let ends = opens.ends_writing(mode);
         ClientFile {
             opens: opens.closed(mode),
-            marked: opens.leaves_last_writer(mode) | self.marked,
+            marked: if ends { dirty } else { self.marked },
             label,
         }
+    }
+
+    // The client has flushed a block; left says whether another of the file is still dirty here.
+    pub fn flushed(mut self, left: bool) -> Self
+        ensures { λ r. ⌜ r ≡ flushedClient left self ⌝ }
+    {
+        self.marked = left & self.marked;
+        self
     }
 
     // The client has answered its callback of this kind.

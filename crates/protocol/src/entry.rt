@@ -8,7 +8,7 @@ ghost use Rattle.decision.specs.Sizes.{maxClients};
 ghost use Rattle.decision.specs.Lists.{stored, filled};
 ghost use Rattle.records.specs.Record.{notOpen};
 ghost use Rattle.protocol.specs.Entry.{waits as hasWaiter, callTo, callsOut, callsIn, callsDue, waitingEntry, grantOf};
-ghost use Rattle.protocol.specs.Entry.{grantedEntry, closedEntry, answeredEntry, crashedEntry, reportedEntry, freshEntry};
+ghost use Rattle.protocol.specs.Entry.{grantedEntry, closedEntry, flushedEntry, answeredEntry, crashedEntry, reportedEntry, freshEntry};
 use crate::client::ClientFile;
 use crate::reply::Grant;
 use decision::MAX_CLIENTS;
@@ -177,16 +177,27 @@ impl Entry {
         }
     }
 
-    pub fn closed(mut self, client: usize, mode: Mode) -> Self
+    // The client has closed; dirty says whether a block of the file is dirty there.
+    pub fn closed(mut self, client: usize, mode: Mode, dirty: bool) -> Self
         requires { ⌜ client < maxClients ⌝ }
-        ensures { λ r. ⌜ r ≡ closedEntry self client mode ⌝ }
+        ensures { λ r. ⌜ r ≡ closedEntry self client mode dirty ⌝ }
     {
         let before = self.records;
         let own = before[client];
         let records = with_record(before, client, own.closed(mode));
         self.records = records;
-        if own.leaves_last_writer(mode) {
-            self.last = client as u8;
+        if own.ends_writing(mode) {
+            self.last = if dirty { client as u8 } else { NOBODY };
+        }
+        self
+    }
+
+    // The client has flushed a block; left says whether another of the file is still dirty there.
+    pub fn flushed(mut self, client: usize, left: bool) -> Self
+        ensures { λ r. ⌜ r ≡ flushedEntry self client left ⌝ }
+    {
+        if !left & (self.last as usize == client) {
+            self.last = NOBODY;
         }
         self
     }

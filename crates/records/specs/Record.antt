@@ -56,10 +56,10 @@ settled r = record { readers = r .readers; writers = r .writers; caching = isOpe
 abbrev pub closed : Mode → ClientRecord → ClientRecord
 closed m r = settled (lowered m r)
 
--- "If that was the last writer count and the station may cache, it becomes last writer"
-abbrev pub leavesLastWriter : Mode → ClientRecord → Bool
-leavesLastWriter Read r = false
-leavesLastWriter Write r = eqb (r .writers) 1 && r .caching
+-- "a close of the last writer count with permission" (document 02, Wish 4)
+abbrev pub endsWriting : Mode → ClientRecord → Bool
+endsWriting Read r = false
+endsWriting Write r = eqb (r .writers) 1 && r .caching
 
 -- "permission gone"
 abbrev pub uncached : ClientRecord → ClientRecord

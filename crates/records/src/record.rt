@@ -2,7 +2,7 @@
 ghost use mathlib.Core.Path.{_≡_};
 ghost use mathlib.Core.Bool.{cond};
 ghost use Prim.Native.Nat.{_-_};
-ghost use Rattle.records.specs.Record.{notOpen, isWrite, allowedLag, isOpen, countOf, keepsPermission, leavesLastWriter};
+ghost use Rattle.records.specs.Record.{notOpen, isWrite, allowedLag, isOpen, countOf, keepsPermission, endsWriting};
 ghost use Rattle.records.specs.Record.{raised as raisedCount, opened as openedRecord, closed as closedRecord};
 ghost use Rattle.records.specs.Record.{settled as settledRecord, uncached as uncachedRecord};
 
@@ -88,8 +88,8 @@ impl ClientRecord {
         }
     }
 
-    pub fn leaves_last_writer(self, mode: Mode) -> bool
-        ensures { λ r. ⌜ r ≡ leavesLastWriter mode self ⌝ }
+    pub fn ends_writing(self, mode: Mode) -> bool
+        ensures { λ r. ⌜ r ≡ endsWriting mode self ⌝ }
     {
         match mode {
             Mode::Read => false,

@@ -68,10 +68,10 @@ testsOf z s End = endTests z (tableIn s .recovering) (tableIn s .reported)
 
 abbrev pub doneOf : Sizes → Service → Step → Outcome
 doneOf z s (Open m i f) = fileOutcome s f (afterOpen z (fileAt s f) (storesOf s) m i f)
-doneOf z s (Close m i f) = fileOutcome s f (afterClose (fileAt s f) (storesOf s) m i)
+doneOf z s (Close m i f) = fileOutcome s f (afterClose z (fileAt s f) (storesOf s) m i f)
 doneOf z s (Read i f b) = blockOutcome s (afterRead (clientAt s i f) (storesOf s) i f b)
 doneOf z s (Write i f b v) = blockOutcome s (afterWrite (clientAt s i f) (storesOf s) i f b v)
-doneOf z s (Flush i f b) = fileOutcome s f (afterFlush (fileAt s f) (storesOf s) i f b)
+doneOf z s (Flush i f b) = fileOutcome s f (afterFlush z (fileAt s f) (storesOf s) i f b)
 doneOf z s (Answer i f) = fileOutcome s f (afterAnswer z (fileAt s f) (storesOf s) i f)
 doneOf z s Crash = tableOutcome s (record { table = crashed z (tableIn s); reply = Done })
 doneOf z s (Report i) = tableOutcome s (record { table = reported z (tableIn s) (s .clients) i; reply = Done })

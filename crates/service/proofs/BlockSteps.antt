@@ -1,24 +1,23 @@
--- Read, write and flush change one block: its view as the protocol says, and no other. It leads to the invariant of the
--- whole service. Assumes nothing.
+-- A read, a write and a block that is sent change one block: its view as the protocol says, and no other. It leads to
+-- the invariant of the whole service. Assumes nothing.
 use Prim.Native.Nat.{ℕ, _<_}
-use mathlib.Core.Path.{_≡_, refl, ap, _∙_, subst⁻¹}
+use mathlib.Core.Path.{_≡_, refl, ap, _∙_}
 use mathlib.Core.Bool.{Bool, true, false, cond, not, _&&_}
 use lib.Dec.{eqb}
 use lib.ListN.{length, set}
 use Rattle.decision.specs.declared.sizes.Sizes.{Sizes}
 use Rattle.decision.specs.Sizes.{Permitted, place, cell}
 use Rattle.decision.proofs.InForce.{client-fits, file-fits, block-fits}
-use Rattle.protocol.proofs.View.{View, at, readView, writtenView, flushedView}
+use Rattle.protocol.proofs.View.{View, at, readView, writtenView, sentView}
 use Rattle.blocks.specs.Stores.{readStores, writtenStores, flushedStores}
 use Rattle.service.specs.declared.service.Service.{Service}
-use Rattle.service.specs.Contents.{tableIn, blockAt, clientAt, copyAt, heldAt, dirtyAt, fileAt, storesOf}
-use Rattle.service.specs.Contents.{withStores, withFile}
+use Rattle.service.specs.Contents.{tableIn, blockAt, clientAt, copyAt, heldAt, dirtyAt, storesOf}
+use Rattle.service.specs.Contents.{withStores}
 use Rattle.service.proofs.Tests.{eqb-same}
 use Rattle.service.proofs.Lists.{getD-put, length-put}
 use Rattle.service.proofs.Contents.{place-same, cell-same, place-in, cell-in}
 use Rattle.service.proofs.Views.{Sized, within-at, viewOf, reportsOf, client-is, copy-is, held-is, dirty-is}
 use Rattle.service.proofs.Views.{same-view, at-own}
-use Rattle.service.proofs.OneFile.{same-file}
 
 -- From s to s′ the view of block b of file f becomes w, and every other stays.
 pub record BlockStep (z : Sizes) (s s′ : Service) (f b : ℕ) (w : View) : Type 0 where
@@ -190,14 +189,12 @@ module _
       as-view (written-step (clientAt s i f .opens .caching) x)
       (λ k. writtenBy (client-is z s f b hi k .opens .caching) x)
 
-  -- the file at both sides stays as it is
-  pub flush-step :
-      BlockStep z s (withFile s f (fileAt s f) (flushedStores i f b (storesOf s))) f b (flushedView (viewOf z s f b) i)
-  flush-step =
+  -- the first part of a flush
+  pub send-step : BlockStep z s (withStores s (flushedStores i f b (storesOf s))) f b (sentView (viewOf z s f b) i)
+  send-step =
       let v : View = viewOf z s f b in
       let clean : ℕ → Move =
       λ x. record { put = true; block = x; hold = false; copy = 0; flag = true; dirty = false } in
-      subst⁻¹ (λ s′. BlockStep z s s′ f b (flushedView v i)) (same-file s f (flushedStores i f b (storesOf s)))
-      (as-view (moved-step (clean (copyAt s i f b)))
+      as-view (moved-step (clean (copyAt s i f b)))
       ((λ k. movedView true i (clean (copy-is z s f b hi k)) v v)
-      ∙ same-view refl refl (λ j. refl) (at-own (v .copy) i) (at-own (v .held) i) (λ j. refl)))
+      ∙ same-view refl refl (λ j. refl) (at-own (v .copy) i) (at-own (v .held) i) (λ j. refl))

@@ -60,7 +60,7 @@ fresh-sized z =
       dirty = length-replicate maxCells false;
     }
 
-fresh-view :
+pub fresh-view :
     (z : Sizes) (f b : ℕ) → f < inForce z .files → viewOf (inForce z) (fresh z) f b ≡ freshView (inForce z .clients)
 unfolding fresh
 fresh-view z f b hf =
@@ -109,10 +109,10 @@ module _
     (Running : View → ℕ → Type 0)
     (Recovering : View → ℕ → (ℕ → Bool) → Row → Type 0)
     (promises : Promises (z .clients) Running Recovering) where
-  abbrev Holding : Service → Memory → Recovery → Type 0
+  abbrev pub Holding : Service → Memory → Recovery → Type 0
   Holding = Sound z Running Recovering
 
-  sized : (s : Service) (m : Memory) (r : Recovery) → Holding s m r → Sized z s
+  pub sized : (s : Service) (m : Memory) (r : Recovery) → Holding s m r → Sized z s
   sized s m none h = h .sized
   sized s m (since t) h = h .sized
 
@@ -143,7 +143,7 @@ module _
   accepted-kept s m (since t) (Report i) h p = WhileRecovering.report-kept most promises h i p
   accepted-kept s m (since t) End h p = WhileRecovering.end-kept most promises h p .0
 
-  after-kept :
+  pub after-kept :
       (s : Service) (m : Memory) (r : Recovery) (x : Step)
       → Holding s m r
       → Holding (after s x) (fed m x (refused s x)) (recoveryAfter s r x (refused s x))
@@ -208,7 +208,7 @@ module _
     (Running : View → ℕ → Type 0)
     (Recovering : View → ℕ → (ℕ → Bool) → Row → Type 0)
     (promises : Promises (inForce z .clients) Running Recovering) where
-  fresh-runs : Runs (inForce z) Running (fresh z) blank
+  pub fresh-runs : Runs (inForce z) Running (fresh z) blank
   fresh-runs =
       record {
         sized = fresh-sized z;

@@ -2,16 +2,12 @@
 -- write, and every accepted end of recovery gives back the table that was held just before the crash that began it.
 -- Assumes nothing.
 use Prim.Native.Nat.{ℕ, _≤_}
-use mathlib.Core.Path.{_≡_, sym, subst}
 use native.Mathlib.Omega.{arith}
-use Rattle.decision.specs.declared.sizes.Sizes.{Sizes}
 use Rattle.decision.specs.Sizes.{nobody, inForce}
 use Rattle.decision.proofs.InForce.{in-force-permitted}
 use Rattle.protocol.proofs.Invariant.{Running, Recovering}
 use Rattle.protocol.proofs.Kept.{promises}
-use Rattle.service.specs.declared.service.Service.{Service}
-use Rattle.service.specs.Fresh.{fresh}
-use Rattle.service.specs.Demand3.{Consistent, Demand3}
+use Rattle.service.specs.Demand3.{Demand3}
 use Rattle.service.proofs.Consistent.{consistent}
 
 pub demand3 : Demand3
@@ -20,7 +16,3 @@ demand3 z =
     let most = in-force-permitted z .clients in
     let bound : n ≤ nobody = omega arith in
     consistent z (Running n) (Recovering n) (promises n bound)
-
--- so every service that is the fresh one of some sizes is consistent
-pub from-fresh : (z : Sizes) (s : Service) → s ≡ fresh z → (s ≡ fresh z) × Consistent s
-from-fresh z s e = (e, subst Consistent (sym e) (demand3 z))

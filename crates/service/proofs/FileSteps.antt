@@ -1,8 +1,8 @@
--- Open, close and answer change one file: its view, at each block, as the protocol says, and no other. It leads to the
--- invariant of the whole service. Assumes nothing.
+-- Open, close, answer and what follows a flush change one file: its view, at each block, as the protocol says, and no
+-- other. It leads to the invariant of the whole service. Assumes nothing.
 use Prim.Native.Nat.{ℕ, _<_}
 use mathlib.Core.Path.{_≡_, refl, sym, ap, _∙_, subst}
-use mathlib.Core.Bool.{true, false, cond, not}
+use mathlib.Core.Bool.{Bool, true, false, cond, not}
 use lib.Dec.{eqb}
 use Rattle.records.specs.declared.record.Mode.{Mode}
 use Rattle.decision.specs.declared.sizes.Sizes.{Sizes}
@@ -14,13 +14,13 @@ use Rattle.protocol.specs.declared.entry.Entry.{Entry}
 use Rattle.protocol.specs.declared.reply.Grant.{Grant}
 use Rattle.protocol.specs.declared.reply.Reply.{Reply}
 use Rattle.protocol.specs.declared.reply.Reply.the-variants.{AnsweredGrant}
-use Rattle.protocol.specs.Entry.{callTo, waitingEntry, grantOf, grantedEntry, closedEntry, answeredEntry}
-use Rattle.protocol.specs.Client.{grantedClient, keepsBlocks, closedClient, answeredClient}
+use Rattle.protocol.specs.Entry.{callTo, waitingEntry, grantOf, grantedEntry, closedEntry, flushedEntry, answeredEntry}
+use Rattle.protocol.specs.Client.{grantedClient, keepsBlocks, closedClient, flushedClient, answeredClient}
 use Rattle.protocol.proofs.Seen.{call-seen, grant-seen, waiting-seen, granted-seen, closed-seen, answered-seen}
-use Rattle.protocol.proofs.View.{View, waitingView, grantedView, closedView, answeredView, callAnsweredView}
-use Rattle.protocol.proofs.View.{waiterGrantedView}
+use Rattle.protocol.proofs.View.{View, waitingView, grantedView, closedView, settledView, answeredView}
+use Rattle.protocol.proofs.View.{callAnsweredView, waiterGrantedView}
 use Rattle.file.specs.declared.file.SharedFile.{SharedFile}
-use Rattle.file.specs.FileStep.{FileAfter, granted, afterClose, answered, waiterGranted}
+use Rattle.file.specs.FileStep.{FileAfter, granted, closedFile, flushedFile, answered, waiterGranted}
 use Rattle.service.specs.declared.service.Service.{Service}
 use Rattle.service.specs.Contents.{entryAt, sidesAt, clientAt, fileAt, storesOf, withFile}
 use Rattle.service.proofs.Tests.{cond-not}
@@ -67,13 +67,14 @@ module _
       (turn (sym (grant-seen m e i hi mode) k) (client-is z s f b hi k)) (viewOf z s f b) (viewOf z s f b))
 
   pub closed-step :
-      (mode : Mode)
-      → FileStep z s (put s f (afterClose (fileAt s f) (storesOf s) mode i)) f (λ b. closedView (viewOf z s f b) i mode)
-  closed-step mode =
+      (mode : Mode) (dirty : Bool)
+      → FileStep z s (withFile s f (closedFile (fileAt s f) mode i dirty) (storesOf s)) f
+      (λ b. closedView (viewOf z s f b) i mode dirty)
+  closed-step mode dirty =
       let change : Turn =
       record {
-        entry = closedEntry (entryAt s f) i mode;
-        own = closedClient mode (clientAt s i f);
+        entry = closedEntry (entryAt s f) i mode dirty;
+        own = closedClient mode dirty (clientAt s i f);
         keep = true;
         keepDirty = true;
         send = false;
@@ -81,8 +82,29 @@ module _
       as-view (turned-step most n hi hf change)
       (λ b _.
       let v = viewOf z s f b in
-      same-view (closed-seen (z .clients) (entryAt s f) i hi mode) refl
-      (λ j. ap (λ own. cond (eqb j i) (closedClient mode own) (v .client j)) (client-is z s f b hi))
+      same-view (closed-seen (z .clients) (entryAt s f) i hi mode dirty) refl
+      (λ j. ap (λ own. cond (eqb j i) (closedClient mode dirty own) (v .client j)) (client-is z s f b hi))
+      (at-own (v .copy) i) (at-own (v .held) i) (at-own (v .dirty) i))
+
+  -- the second part of a flush: both sides are told whether a dirty block is left
+  pub settled-step :
+      (left : Bool)
+      → FileStep z s (withFile s f (flushedFile (fileAt s f) i left) (storesOf s)) f
+      (λ b. settledView (viewOf z s f b) i left)
+  settled-step left =
+      let change : Turn =
+      record {
+        entry = flushedEntry (entryAt s f) i left;
+        own = flushedClient left (clientAt s i f);
+        keep = true;
+        keepDirty = true;
+        send = false;
+      } in
+      as-view (turned-step most n hi hf change)
+      (λ b _.
+      let v = viewOf z s f b in
+      same-view refl refl
+      (λ j. ap (λ own. cond (eqb j i) (flushedClient left own) (v .client j)) (client-is z s f b hi))
       (at-own (v .copy) i) (at-own (v .held) i) (at-own (v .dirty) i))
 
   pub answered-step :

@@ -6,6 +6,7 @@ pub mod Making
 pub mod Edges
 pub mod WholeCase
 pub mod Readings
+pub mod Behind
 pub mod HandMade
 pub mod Sizes
 pub mod Tests
@@ -23,5 +24,7 @@ pub mod Invariant
 pub mod WhileRunning
 pub mod WhileRecovering
 pub mod Consistent
+pub mod Owing
+pub mod NothingBehind
 pub mod Demand3
 pub mod Arms

@@ -88,6 +88,31 @@ module _ {ℓ} {A : Type ℓ} where
       stored-below n place value l q d hit k inside same
       ∙ ap (λ t. cond t (value k) (getD l q d)) (ap (λ t. hit && t) (lt-ltb k n h) ∙ and-true hit)
 
+-- one of the numbers below n has the property; and then the count finds one
+pub count-some : (n : ℕ) (p : ℕ → Bool) (k : ℕ) → k < n → p k ≡ true → ltb 0 (count n p) ≡ true
+unfolding count
+count-some zero p k h e = absurd (not-suc-le-zero h)
+count-some (suc n) p k h e =
+    split (eqb k n)
+    (λ same.
+    let last : p n ≡ true = rw (← eqb-true k n same) e in
+    rw last (lt-ltb 0 (count n p + 1) (omega arith)))
+    (λ other.
+    let q : k ≡ n → ⊥ = eqb-false k n other in
+    let some = ltb-true 0 (count n p) (count-some n p k (omega arith) e) in
+    lt-ltb 0 (count n p + cond (p n) 1 0) (omega arith))
+
+pub some-counted : (n : ℕ) (p : ℕ → Bool) → ltb 0 (count n p) ≡ true → (k : ℕ) × (k < n) × (p k ≡ true)
+unfolding count
+some-counted zero p e = absurd (omega (arith, ltb-true 0 0 e))
+some-counted (suc n) p e =
+    split (p n)
+    (λ last. (n, le-refl (suc n), last))
+    (λ last.
+    let some : 0 < count n p + 0 = ltb-true 0 (count n p + 0) (rw last at e) in
+    let (k, below, has) = some-counted n p (lt-ltb 0 (count n p) (omega arith)) in
+    (k, omega arith, has))
+
 -- where none of the numbers below n has the property, each of them lacks it
 pub count-none : (n : ℕ) (p : ℕ → Bool) → ltb 0 (count n p) ≡ false → (k : ℕ) → k < n → p k ≡ false
 unfolding count

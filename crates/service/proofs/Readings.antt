@@ -63,7 +63,7 @@ pub record Readings : Type 0 where
       ∷ Value 6
       ∷ []
   -- a report without the flag leaves the last writer as it is
-  pub noFlag : entryAt (after freshDefault (OW 0 0 ∷ CW 0 0 ∷ XX ∷ RP 0 ∷ RP 1 ∷ [])) 0 .last ≡ 0
+  pub noFlag : entryAt (after freshDefault (OW 0 0 ∷ WR 0 0 0 5 ∷ CW 0 0 ∷ XX ∷ RP 0 ∷ RP 1 ∷ [])) 0 .last ≡ 0
   -- a broken-off invalidation
   pub brokenWrite : answerAfter freshDefault brokenOff (OW 2 0) ≡ Granted (grantUncached 2 1)
   pub brokenRead : answerAfter freshDefault brokenOff (OR 2 0) ≡ Granted (grant 1 0)

@@ -17,6 +17,7 @@ use Rattle.service.specs.declared.service.Service.{Service}
 use Rattle.service.specs.Contents.{sizesOf, entryAt}
 use Rattle.service.specs.Step.{stepOf}
 use Rattle.service.specs.Fresh.{fresh}
+use Rattle.service.specs.NothingBehind.{afterSteps}
 
 -- "without it 8, 32 and 4 hold" (document 02, Wish 7): the fresh service where no sizes are given
 abbrev pub freshDefault : Service
@@ -69,8 +70,7 @@ replies s [] = []
 replies s (x ∷ xs) = let r = stepOf s x in r .reply ∷ replies (r .service) xs
 
 abbrev pub after : Service → List Step → Service
-after s [] = s
-after s (x ∷ xs) = after (stepOf s x .service) xs
+after = afterSteps
 
 -- the reply to the last step, after the others
 abbrev pub answerAfter : Service → List Step → Step → Reply

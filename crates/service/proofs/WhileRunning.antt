@@ -18,17 +18,18 @@ use Rattle.protocol.specs.Table.{Row, seen}
 use Rattle.protocol.proofs.Seen.{call-seen, calls-out-seen, calls-for-seen, answered-seen}
 use Rattle.protocol.proofs.View.{View, writtenView, crashedView}
 use Rattle.protocol.proofs.Promises.{Promises}
-use Rattle.blocks.specs.Stores.{valueRead}
+use Rattle.blocks.specs.Stores.{anyDirty, flushedStores, valueRead}
 use Rattle.file.specs.FileStep.{FileAfter}
 use Rattle.service.specs.declared.service.Service.{Service}
-use Rattle.service.specs.Contents.{entryAt, clientAt, dirtyAt, storesOf}
+use Rattle.service.specs.Contents.{entryAt, clientAt, dirtyAt, storesOf, withStores}
 use Rattle.service.specs.Demand3.{Memory, written, tableOf}
 use Rattle.service.proofs.Tests.{either}
+use Rattle.service.proofs.Lists.{count-some}
 use Rattle.service.proofs.Views.{viewOf, client-is, dirty-is, value-is}
 use Rattle.service.proofs.FileTurn.{FileStep}
-use Rattle.service.proofs.FileSteps.{put, granted-step, waiting-step, closed-step, callAnswered-step}
-use Rattle.service.proofs.FileSteps.{lastAnswered-step}
-use Rattle.service.proofs.BlockSteps.{BlockStep, read-step, write-step, flush-step}
+use Rattle.service.proofs.FileSteps.{put, granted-step, waiting-step, closed-step, settled-step}
+use Rattle.service.proofs.FileSteps.{callAnswered-step, lastAnswered-step}
+use Rattle.service.proofs.BlockSteps.{BlockStep, read-step, write-step, send-step}
 use Rattle.service.proofs.TableSteps.{crash-step}
 use Rattle.service.proofs.Accepted.{Passed, testsOf, doneOf}
 use Rattle.service.proofs.Invariant.{rowIn, table-length, row-is, Runs, Recovers, after-file, after-block}
@@ -36,7 +37,7 @@ use Rattle.service.proofs.Invariant.{after-table}
 use Rattle.service.proofs.Invariant.{written-here, written-elsewhere}
 
 -- the calls that are out once client i has answered its own: those of the entry are those of the seen part
-out-seen :
+pub out-seen :
     (n : ℕ) (e : Entry) (i : ℕ)
     → i < n
     → callsOut n (answeredEntry (seen n e) i (callTo n (seen n e) i)) ≡ callsOut n (answeredEntry e i (callTo n e i))
@@ -44,6 +45,16 @@ out-seen n e i below =
     ap (λ k. callsOut n (answeredEntry (seen n e) i k)) (call-seen n e i below)
     ∙ ap (callsOut n) (sym (answered-seen n e i below (callTo n e i)))
     ∙ calls-out-seen n (answeredEntry e i (callTo n e i))
+
+-- a dirty block that a view shows is one of the file's dirty blocks
+pub shows-dirty :
+    (z : Sizes) (s : Service) {i : ℕ} (f b : ℕ)
+    → i < z .clients
+    → b < z .blocks
+    → viewOf z s f b .dirty i ≡ true
+    → anyDirty (z .blocks) i f (storesOf s) ≡ true
+shows-dirty z s {i} f b hi hb d =
+    count-some (z .blocks) (λ c. dirtyAt s i f c) b hb (dirty-is z s f b hi ∙ d)
 
 module _
     {z : Sizes}
@@ -94,10 +105,12 @@ module _
   close-kept mode i f (client, (file, (_, (waits, (closed, _))))) =
       let hi : i < z .clients = leb-false (z .clients) i client in
       let hf : f < z .files = leb-false (z .files) f file in
-      file-kept (closed-step most (r .sized) hi hf mode)
+      let dirty = anyDirty (z .blocks) i f (storesOf s) in
+      file-kept (closed-step most (r .sized) hi hf mode dirty)
       (λ b hb.
-      promises .closes (viewOf z s f b) (m f b) i mode (r .views f b hf hb) hi waits
-      (subst (λ (c : ClientFile). eqb (countOf mode (c .opens)) 0 ≡ false) (client-is z s f b hi) closed))
+      promises .closes (viewOf z s f b) (m f b) i mode dirty (r .views f b hf hb) hi waits
+      (subst (λ (c : ClientFile). eqb (countOf mode (c .opens)) 0 ≡ false) (client-is z s f b hi) closed)
+      (shows-dirty z s f b hi hb))
 
   pub answer-kept :
       (i f : ℕ) → Passed (testsOf z s (Answer i f)) → Runs z Running (doneOf z s (Answer i f) .service) m
@@ -161,14 +174,17 @@ module _
       rw (written-here m f b v) (promises .writes (viewOf z s f b) (m f b) i v (r .views f b hf hb) hi opens′) in
       block-kept (write-step most (r .sized) hi hf hb v) here (written-elsewhere m f b v)
 
-  pub flush-kept :
-      (i f b : ℕ) → Passed (testsOf z s (Flush i f b)) → Runs z Running (doneOf z s (Flush i f b) .service) m
-  flush-kept i f b (client, (file, (block, (_, (clean, _))))) =
+  -- a flush first sends its block
+  send-kept :
+      (i f b : ℕ)
+      → Passed (testsOf z s (Flush i f b))
+      → Runs z Running (withStores s (flushedStores i f b (storesOf s))) m
+  send-kept i f b (client, (file, (block, (_, (clean, _))))) =
       let hi : i < z .clients = leb-false (z .clients) i client in
       let hf : f < z .files = leb-false (z .files) f file in
       let hb : b < z .blocks = leb-false (z .blocks) b block in
-      block-kept (flush-step most (r .sized) hi hf hb)
-      (promises .flushes (viewOf z s f b) (m f b) i (r .views f b hf hb) hi
+      block-kept (send-step most (r .sized) hi hf hb)
+      (promises .sends (viewOf z s f b) (m f b) i (r .views f b hf hb) hi
       (sym (dirty-is z s f b hi) ∙ not-false (dirtyAt s i f b) clean))
       (λ g c e. refl)
 
@@ -186,3 +202,24 @@ module _
           subst⁻¹ (λ row. Recovering (crashedView (z .clients) (viewOf z s f b)) (m f b) (λ i. false) row)
           (row-is most (r .sized) f hf)
           (promises .crashes (viewOf z s f b) (m f b) (r .views f b hf hb))
+
+-- and then both sides are told whether a dirty block is left
+pub flush-kept :
+    {z : Sizes}
+    → Permitted z
+    → {Running : View → ℕ → Type 0}
+    → {Recovering : View → ℕ → (ℕ → Bool) → Row → Type 0}
+    → Promises (z .clients) Running Recovering
+    → {s : Service} {m : Memory}
+    → Runs z Running s m
+    → (i f b : ℕ)
+    → Passed (testsOf z s (Flush i f b))
+    → Runs z Running (doneOf z s (Flush i f b) .service) m
+flush-kept {z} most promises {s} {m} r i f b passed =
+    let hi : i < z .clients = leb-false (z .clients) i (passed .0) in
+    let hf : f < z .files = leb-false (z .files) f (passed .1 .0) in
+    let s′ : Service = withStores s (flushedStores i f b (storesOf s)) in
+    let sent = send-kept most promises r i f b passed in
+    let left = anyDirty (z .blocks) i f (storesOf s′) in
+    file-kept most promises sent (settled-step most (sent .sized) hi hf left)
+    (λ c hc. promises .settles (viewOf z s′ f c) (m f c) i left (sent .views f c hf hc) hi (shows-dirty z s′ f c hi hc))

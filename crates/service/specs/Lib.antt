@@ -3,3 +3,4 @@ pub mod Contents
 pub mod Step
 pub mod Fresh
 pub mod Demand3
+pub mod NothingBehind

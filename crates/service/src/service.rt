@@ -2,6 +2,7 @@
 ghost use mathlib.Core.Path.{_≡_};
 ghost use Rattle.service.specs.Demand3.{Consistent};
 ghost use Rattle.service.specs.Fresh.{fresh};
+ghost use Rattle.service.specs.NothingBehind.{LeavesNothing};
 use decision::MAX_CELLS;
 use decision::MAX_CLIENTS;
 use decision::MAX_FILES;
@@ -32,10 +33,12 @@ pub struct Service {
 }
 
 impl Service {
-    // The fresh service of these sizes. From it every list of steps is consistent: Demand 3.
+    // The fresh service of these sizes. From it every list of steps is consistent, which is Demand 3, and leaves nothing
+    // behind.
     pub fn new(sizes: Sizes) -> Self
         ensures { λ r. ⌜ r ≡ fresh sizes ⌝ }
         ensures { λ r. ⌜ Consistent r ⌝ }
+        ensures { λ r. ⌜ LeavesNothing r ⌝ }
     {
         let none = ClientFile::none();
         let sides = Sides {

@@ -32,6 +32,11 @@ pub struct Copies {
 }
 
 impl Copies {
+    /// Whether a block in force is dirty.
+    pub fn any_dirty(&self, sizes: Sizes) -> bool {
+        self.dirty[..sizes.blocks].contains(&true)
+    }
+
     /// "A dropped block is not held, not dirty and zero."
     fn drop_blocks(&mut self, sizes: Sizes) {
         self.values[..sizes.blocks].fill(0);
@@ -61,9 +66,11 @@ impl ClientFile {
         }
     }
 
-    pub fn close(&mut self, mode: Mode) {
+    /// "A close of the last writer count with permission sets mark .. if a block is dirty, else clears" it (document
+    /// 02, Wish 4).
+    pub fn close(&mut self, mode: Mode, dirty: bool) {
         if self.record.close(mode) {
-            self.last_writer_flag = true;
+            self.last_writer_flag = dirty;
         }
     }
 
@@ -88,9 +95,15 @@ impl ClientFile {
         self.copies.dirty[block] = true;
     }
 
+    /// "One dirty block goes to the server and is clean."
     pub fn flush(&mut self, block: usize, server: &mut [u64; BLOCKS]) {
         server[block] = self.copies.values[block];
         self.copies.dirty[block] = false;
+    }
+
+    /// "The flush of the last dirty block clears the mark" (document 02, Wish 4); `dirty` tells whether one is left.
+    pub fn flushed(&mut self, dirty: bool) {
+        self.last_writer_flag &= dirty;
     }
 
     /// The client's part of a callback reply: kind 3 is 1, then 2.

@@ -109,9 +109,19 @@ impl Entry {
         Grant { latest, previous: latest - 1, may_cache }
     }
 
-    pub fn close(&mut self, client: usize, mode: Mode) {
+    /// The server's part of a close, by its own record: "a close of the last writer count with permission sets .. last
+    /// writer if a block is dirty, else clears" it (document 02, Wish 4). The client says whether a block is dirty.
+    pub fn close(&mut self, client: usize, mode: Mode, dirty: bool) {
         if self.records[client].close(mode) {
-            self.last_writer = ClientField::of(client);
+            self.last_writer = if dirty { ClientField::of(client) } else { ClientField::NONE };
+        }
+    }
+
+    /// The server's part of a flush: "the flush of the last dirty block clears .., if the station is last writer, that".
+    /// A callback that is out stays out.
+    pub fn flushed(&mut self, client: usize, dirty: bool) {
+        if !dirty && self.last_writer == ClientField::of(client) {
+            self.last_writer = ClientField::NONE;
         }
     }
 

@@ -42,13 +42,13 @@ impl Record {
         self.may_cache = may_cache;
     }
 
-    /// Lowers the count of that mode; "a count of 0 stays 0". Tells whether the client becomes the last writer: this
-    /// was the last writer count, and the client may cache.
+    /// Lowers the count of that mode; "a count of 0 stays 0". Tells whether this was "a close of the last writer count
+    /// with permission".
     pub fn close(&mut self, mode: Mode) -> bool {
-        let last_writer = mode == Mode::Write && self.writers == 1 && self.may_cache;
+        let last_writer_count = mode == Mode::Write && self.writers == 1 && self.may_cache;
         let count = self.count_mut(mode);
         *count = count.saturating_sub(1);
         self.may_cache &= self.is_open();
-        last_writer
+        last_writer_count
     }
 }

@@ -59,11 +59,15 @@ pub trait Rules {
     fn grant_at_client(sizes: Sizes, file: &mut ClientFile, mode: Mode, grant: &Grant) {
         file.grant(sizes, mode, grant);
     }
-    fn close_at_server(entry: &mut Entry, client: usize, mode: Mode) {
-        entry.close(client, mode);
+    /// Whether a client that closes a file has a dirty block of it.
+    fn dirty_at_close(service: &Service, client: usize, file: usize) -> bool {
+        service.any_dirty(client, file)
     }
-    fn close_at_client(file: &mut ClientFile, mode: Mode) {
-        file.close(mode);
+    fn close_at_server(entry: &mut Entry, client: usize, mode: Mode, dirty: bool) {
+        entry.close(client, mode, dirty);
+    }
+    fn close_at_client(file: &mut ClientFile, mode: Mode, dirty: bool) {
+        file.close(mode, dirty);
     }
 
     fn read(file: &mut ClientFile, block: usize, server: &[u64; BLOCKS]) -> u64 {
@@ -74,6 +78,16 @@ pub trait Rules {
     }
     fn flush(file: &mut ClientFile, block: usize, server: &mut [u64; BLOCKS]) {
         file.flush(block, server);
+    }
+    /// Whether a flush has left its client a dirty block of the file.
+    fn dirty_after_flush(service: &Service, client: usize, file: usize) -> bool {
+        service.any_dirty(client, file)
+    }
+    fn flushed_at_server(entry: &mut Entry, client: usize, dirty: bool) {
+        entry.flushed(client, dirty);
+    }
+    fn flushed_at_client(file: &mut ClientFile, dirty: bool) {
+        file.flushed(dirty);
     }
     fn answer_at_client(sizes: Sizes, file: &mut ClientFile, kind: Kind, server: &mut [u64; BLOCKS]) {
         file.answer(sizes, kind, server);
@@ -93,7 +107,7 @@ pub trait Rules {
     }
 }
 
-/// The rules as document 01 gives them.
+/// The rules as document 01 and the wishes of document 02 that have landed give them.
 pub struct Document01;
 
 impl Rules for Document01 {}

@@ -35,6 +35,11 @@ impl Service {
         Outcome::Done
     }
 
+    /// Whether this client has a dirty block of this file.
+    pub fn any_dirty(&self, client: usize, file: usize) -> bool {
+        self.clients[client].files[file].copies.any_dirty(self.sizes())
+    }
+
     #[inline(always)]
     pub fn take<R: Rules>(&mut self, step: &Step) -> Outcome {
         match *step {
@@ -77,8 +82,9 @@ impl Service {
     fn close<R: Rules>(&mut self, mode: Mode, client: u64, file: u64) -> Answer {
         R::may_close(self, mode, client, file)?;
         let (client, file) = (client as usize, file as usize);
-        R::close_at_server(&mut self.server.entries[file], client, mode);
-        R::close_at_client(&mut self.clients[client].files[file], mode);
+        let dirty = R::dirty_at_close(self, client, file);
+        R::close_at_server(&mut self.server.entries[file], client, mode, dirty);
+        R::close_at_client(&mut self.clients[client].files[file], mode, dirty);
         Ok(Outcome::Done)
     }
 
@@ -114,6 +120,9 @@ impl Service {
         let (client, file) = (client as usize, file as usize);
         let server = &mut self.server.entries[file].blocks;
         R::flush(&mut self.clients[client].files[file], block as usize, server);
+        let dirty = R::dirty_after_flush(self, client, file);
+        R::flushed_at_server(&mut self.server.entries[file], client, dirty);
+        R::flushed_at_client(&mut self.clients[client].files[file], dirty);
         Ok(Outcome::Done)
     }
 

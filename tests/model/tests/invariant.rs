@@ -28,6 +28,7 @@ fn hold_with(tally: &mut Tally, kind: FileKind, seed: u64, lines: usize) {
 fn hot_files_keep_the_invariant() {
     let tally = hold(FileKind::Hot, 0..48, 2000);
     assert!(tally.waits() > 1000 && tally.recoveries() > 500);
+    assert!(tally.behind().least() > 100, "{}", tally.behind());
     let met = |number| tally.refused(number) > 10;
     use Refusal::*;
     assert!([NoSuchClient, NoSuchFile, NoSuchBlock, Recovering, NotRecovering, AlreadyReported].into_iter().all(met));
@@ -100,7 +101,14 @@ fn waiting(opener: usize, called: usize) -> WaitField {
     WaitingOpen { opener, mode: Mode::Write, callbacks: Callbacks::to(ClientSet::only(called), Kind::Both) }.into()
 }
 
-const SPOILT: [Spoilt; 21] = [
+/// Client 0 is last writer of file 0 with block 3 dirty.
+const LEFT_DIRTY: [Step; 3] = [
+    Step::Open { mode: Mode::Write, client: 0, file: 0 },
+    Step::Write { client: 0, file: 0, block: 3, value: 7 },
+    Step::Close { mode: Mode::Write, client: 0, file: 0 },
+];
+
+const SPOILT: [Spoilt; 22] = [
     ("A1", &[], |service| service.server.entries[0].records[0] = RECORD),
     ("A2", &[], |service| service.server.entries[0].last_writer = ClientField(0)),
     ("B1", &[Step::Crash], |service| service.server.entries[0].waiting = waiting(0, 1)),
@@ -143,6 +151,7 @@ const SPOILT: [Spoilt; 21] = [
         file.copies.values[3] = 7;
     }),
     ("D4", &[], |service| service.server.entries[0].blocks[3] = 7),
+    ("M1", &LEFT_DIRTY, |service| service.clients[0].files[0].copies.dirty[3] = false),
     ("WS", &[], |service| service.server.entries[0].waiting = waiting(0, 0)),
     ("W6", &[], |service| {
         service.server.entries[0].version = VersionField(u32::MAX);

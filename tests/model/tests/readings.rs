@@ -72,9 +72,9 @@ fn reading_8_the_previous_version_of_1_is_0() {
 }
 
 #[test]
-fn reading_9_a_flush_leaves_the_call_due_and_the_last_writer() {
+fn reading_9_a_flush_leaves_the_call_due() {
     let flushed = [("OW 0 0", "G 2 1 1"), ("WR 0 0 0 7", "K"), ("CW 0 0", "K"), ("OR 1 0", "W 0:1"), ("FL 0 0 0", "K")];
-    check(&flushed, &["files 1", "0 1 2 0"]);
+    check(&flushed, &["files 1", "0 0 2 -"]);
     check(&[&flushed[..], &[("AN 0 0", "A 1 2 1 1"), ("RD 1 0 0", "V 7")]].concat(), &["files 1", "0 2 2 -"]);
 }
 
@@ -96,7 +96,7 @@ fn reading_10_a_called_station_reads_and_writes_until_it_replies() {
 #[test]
 fn reading_11_a_report_without_a_mark_leaves_the_last_writer() {
     check(
-        &[("OW 0 0", "G 2 1 1"), ("CW 0 0", "K"), ("XX", "K"), ("RP 0", "K"), ("RP 1", "K")],
+        &[("OW 0 0", "G 2 1 1"), ("WR 0 0 0 1", "K"), ("CW 0 0", "K"), ("XX", "K"), ("RP 0", "K"), ("RP 1", "K")],
         &["files 1", "0 1 2 0"],
     );
 }

@@ -82,7 +82,8 @@ fn a_set_line_that_is_not_the_first_is_no_step() {
 /// "The eight reports": of eight clients all report, of files past 31 too.
 #[test]
 fn eight_clients_report_on_64_files() {
-    let before = [("SET 8 64 8", "K"), ("OW 0 63", "G 2 1 1"), ("CW 0 63", "K"), ("OR 7 32", "G 1 0 1")];
+    let dirty = [("SET 8 64 8", "K"), ("OW 0 63", "G 2 1 1"), ("WR 0 63 7 5", "K"), ("CW 0 63", "K")];
+    let before = [&dirty[..], &[("OR 7 32", "G 1 0 1")]].concat();
     check(&[&before[..], &RECOVERY].concat(), &["files 2", "32 2 1 -", "63 1 2 0"]);
 }
 

@@ -18,5 +18,5 @@ fn every_vector_is_met() {
             count += 1;
         }
     }
-    assert!(count > 220);
+    assert!(count > 250);
 }

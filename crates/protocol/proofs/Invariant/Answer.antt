@@ -19,7 +19,7 @@ use Rattle.records.specs.Record.{uncached, isWrite}
 use Rattle.decision.specs.Callback.{writesBack, invalidates}
 use Rattle.protocol.specs.Client.{answeredClient}
 use Rattle.protocol.specs.Entry.{recordAt, waits, kindOf, callTo, answeredEntry}
-use Rattle.protocol.proofs.View.{View, at, callAnsweredView}
+use Rattle.protocol.proofs.View.{View, at, callAnsweredView, Backs}
 use Rattle.protocol.proofs.Invariant.{mayCache, hasOpen, hasWriters, isLatest, Own, Apart, Copied, Sound, Agrees, Waiting, everybody, Running}
 use Rattle.protocol.proofs.Invariant.Flags.{conflict, is-false, split, cases, and-right, and-both, other-sym, change, at-other}
 use Rattle.protocol.proofs.Invariant.Lists.{getD-at}
@@ -241,6 +241,17 @@ called-waits n e i called =
     split (waits n e) (λ w. w)
     (λ off. let none : callTo n e i ≡ 0 = cc in absurd (eqb-false (callTo n e i) 0 called none))
 
+-- and it is another client than the one that waits
+called-away :
+    (n : ℕ) (v : View) (k i : ℕ)
+    → Running n v k
+    → eqb (callTo n (v .entry) i) 0 ≡ false
+    → eqb i (v .entry .waiter) ≡ false
+called-away n v k i h called =
+    let e = v .entry in
+    let ws = h .waiting (called-waits n e i called) in
+    ne-eqb i (e .waiter) (λ q. eqb-false (callTo n e i) 0 called (ap (callTo n e) q ∙ ws .uncalled))
+
 pub answer-kept :
     (n : ℕ) (v : View) (k i : ℕ)
     → n ≤ nobody
@@ -252,8 +263,7 @@ answer-kept n v k i bound h below called =
     let e = v .entry in
     let kind = callTo n e i in
     let ws = h .waiting (called-waits n e i called) in
-    let away : eqb i (e .waiter) ≡ false
-    = ne-eqb i (e .waiter) (λ q. eqb-false kind 0 called (ap (callTo n e) q ∙ ws .uncalled)) in
+    let away = called-away n v k i h called in
     let due = ws .marked i away in
     let saved : v .dirty i ≡ true → writesBack kind ≡ true
     = λ d. ⊎-elim due (λ x. ap writesBack (ws .writing i away (x .1) (x .0))) (h .sound .copied i .dirtyIsOwned d) in
@@ -265,3 +275,24 @@ answer-kept n v k i bound h below called =
       waiting = λ _. rw (calls-answered n e i kind fits)
           (waiting-answered i kind below due ws (λ p w. ap invalidates (ws .writing i away p w)) (ws .caching i away));
     }
+
+-- who has answered is not marked, and nobody else changes
+pub answer-backs :
+    (n : ℕ) (v : View) (k i : ℕ)
+    → Running n v k
+    → eqb (callTo n (v .entry) i) 0 ≡ false
+    → Backs v (callAnsweredView n v i)
+answer-backs n v k i h called =
+    let kind = callTo n (v .entry) i in
+    let due = h .waiting (called-waits n (v .entry) i called) .marked i (called-away n v k i h called) in
+    change
+    (λ j b.
+    cond b (answered kind (v .client i)) (v .client j) .marked ≡ true
+    → (v .client j .marked ≡ true) × (v .dirty j ≡ true → cond b false (v .dirty j) ≡ true))
+    i
+    (λ m. absurd (unmarked kind (v .client i) due m))
+    (λ j _ m. (m, λ d. d))
+
+-- one after the other
+pub backs-then : (u v w : View) → Backs u v → Backs v w → Backs u w
+backs-then u v w p q j m = let (marked, kept) = q j m in let (before, kept′) = p j marked in (before, λ d. kept (kept′ d))

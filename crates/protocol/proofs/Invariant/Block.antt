@@ -1,5 +1,5 @@
--- Reads, writes and flushes: they change copies of the block and the server's block, and no client's record. It leads
--- to the promises reads, writes, flushes, readsOwn and writesOwn. Assumes nothing.
+-- Reads, writes, and blocks that are sent: they change copies of the block and the server's block, and no client's record. It leads
+-- to the promises reads, writes, sends, readsOwn and writesOwn. Assumes nothing.
 use Prim.Native.Nat.{ℕ}
 use mathlib.Core.Path.{_≡_, refl}
 use mathlib.Core.Bool.{Bool, true, false, cond, not, _&&_, false≢true}
@@ -10,7 +10,7 @@ use Rattle.records.specs.declared.version.Version.{Version}
 use Rattle.protocol.specs.declared.client.ClientFile.{ClientFile}
 use Rattle.protocol.specs.Client.{readNeedsServer, writeNeedsServer}
 use Rattle.protocol.specs.Table.{Row}
-use Rattle.protocol.proofs.View.{View, at, valueIn, readView, writtenView, flushedView}
+use Rattle.protocol.proofs.View.{View, at, valueIn, readView, writtenView, sentView}
 use Rattle.protocol.proofs.Invariant.{mayCache, hasOpen, hasWriters, isLatest, Copied, Sound, Running, Recovering}
 use Rattle.protocol.proofs.Invariant.Flags.{conflict, cases, and-left, and-right, and-both, positive, other-sym, change, at-same}
 
@@ -108,8 +108,8 @@ module _
               (λ _ clean. absurd (clean i (at-same i true dirty))) (λ _ _. refl);
         }
 
-    sound-flushed : (i : ℕ) → dirty i ≡ true → Sound n version client (copy i) copy held (at i false dirty) k
-    sound-flushed i d =
+    sound-sent : (i : ℕ) → dirty i ≡ true → Sound n version client (copy i) copy held (at i false dirty) k
+    sound-sent i d =
         record {
           clients = h .clients;
           copied = change (λ s b. Copied version (client s) (copy s) (held s) (cond b false (dirty s)) k) i
@@ -141,9 +141,9 @@ write-kept n v k i x h w =
       waiting = h .waiting;
     }
 
-pub flush-kept : (n : ℕ) (v : View) (k i : ℕ) → Running n v k → v .dirty i ≡ true → Running n (flushedView v i) k
-flush-kept n v k i h d =
-    record { sound = sound-flushed (h .sound) i d; table = h .table; calls = h .calls; waiting = h .waiting }
+pub send-kept : (n : ℕ) (v : View) (k i : ℕ) → Running n v k → v .dirty i ≡ true → Running n (sentView v i) k
+send-kept n v k i h d =
+    record { sound = sound-sent (h .sound) i d; table = h .table; calls = h .calls; waiting = h .waiting }
 
 -- In a recovery, where the step needs no server.
 pub own-read-is :

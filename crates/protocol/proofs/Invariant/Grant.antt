@@ -1,14 +1,14 @@
--- The one grant lemma: where no callback is out (WS with no calls), the grant keeps the invariant, be it immediate or
--- deferred. It leads to the promises opens and answersLast. Assumes nothing.
+-- What a grant does to each clause of the invariant, where no callback is out (WS with no calls). It leads to the one
+-- grant lemma, `Granting`. Assumes nothing.
 use Prim.Native.Nat.{ℕ, _+_, _<_, _≤_}
-use mathlib.Core.Path.{_≡_, refl, sym, _∙_, ap, subst, fun-ext}
-use mathlib.Core.Bool.{Bool, true, false, cond, _&&_, _||_, false≢true}
+use mathlib.Core.Path.{_≡_, refl, sym, _∙_, ap, subst}
+use mathlib.Core.Bool.{Bool, true, false, cond, _||_, false≢true}
 use mathlib.Core.Logic.{_⊎_, inl, inr, ⊎-elim}
 use native.Mathlib.Nat.{le-trans}
 use native.Mathlib.Omega.{arith}
 use lib.Dec.{eqb, ltb}
 use lib.ListN.{length-set}
-use borrow.Author.Tests.{eqb-true, eq-eqb, lt-ltb, le-ltb}
+use borrow.Author.Tests.{eqb-true, eq-eqb, lt-ltb}
 use Rattle.records.specs.declared.record.Mode.{Mode}
 use Rattle.records.specs.declared.record.Mode.the-variants.{Read, Write}
 use Rattle.records.specs.declared.version.Version.{Version}
@@ -16,22 +16,20 @@ use Rattle.protocol.specs.declared.client.ClientFile.{ClientFile}
 use Rattle.protocol.specs.declared.entry.Entry.{Entry}
 use Rattle.protocol.specs.declared.reply.Grant.{Grant}
 use Rattle.decision.specs.Sizes.{nobody}
-use Rattle.records.specs.Version.{noVersion, numberOf, isLastVersion}
+use Rattle.records.specs.Version.{noVersion, numberOf}
 use Rattle.records.specs.Record.{isWrite, raised, opened}
 use Rattle.decision.specs.Callback.{writesBack, invalidates}
-use Rattle.decision.specs.Permission.{permissionAtGrant}
-use Rattle.protocol.specs.Entry.{recordAt, grantOf, grantedEntry}
+use Rattle.protocol.specs.Entry.{grantedEntry}
 use Rattle.protocol.specs.Client.{grantedClient, keepsBlocks}
-use Rattle.decision.proofs.Storing.{length-stored}
-use Rattle.protocol.proofs.View.{View, at, grantedView}
+use Rattle.protocol.proofs.View.{at}
 use Rattle.protocol.proofs.Invariant.{mayCache, hasOpen, hasWriters, isLatest, Own, Apart, Copied, Clients}
-use Rattle.protocol.proofs.Invariant.{Sound, Agrees, Waiting, everybody, Running}
+use Rattle.protocol.proofs.Invariant.{Sound, Agrees, Waiting, everybody}
 use Rattle.protocol.proofs.Invariant.Flags.{conflict, is-false, split, cases, and-left, and-right, and-both}
 use Rattle.protocol.proofs.Invariant.Flags.{or-left, or-right, or-cases, other-sym, change, at-same, at-other}
 use Rattle.protocol.proofs.Invariant.Change.{clients-at, known-at}
 use Rattle.protocol.proofs.Invariant.Last.{last-none-at, last-same-at}
 use Rattle.protocol.proofs.Invariant.Block.{dirty-latest}
-use Rattle.protocol.proofs.Invariant.Permission.{Permitted, permitted}
+use Rattle.protocol.proofs.Invariant.Permission.{Permitted}
 use Rattle.protocol.proofs.Invariant.Latest.{Latest, latest}
 
 -- What WS says of another client once no callback is out.
@@ -112,7 +110,7 @@ module _
     opened-to-read : granted .marked ≡ true → isWrite mode ≡ false
     opened-to-read m = is-false (isWrite mode) (λ w. conflict m (unmarked-by-write g (client i) mode w))
 
-    was-marked : granted .marked ≡ true → client i .marked ≡ true
+    pub was-marked : granted .marked ≡ true → client i .marked ≡ true
     was-marked m = sym (marked-as-before g (client i) mode (opened-to-read m)) ∙ m
 
     was-writing : hasWriters granted ≡ true → (isWrite mode ≡ true) ⊎ (hasWriters (client i) ≡ true)
@@ -213,7 +211,7 @@ module _
         record { dirtyIsHeld = was .dirtyIsHeld; dirtyIsOwned = was .dirtyIsOwned; heldIsRight = λ y f. was .heldIsRight y (next .was (client t .label) (h .own t .labelNotAhead) f) }
 
     -- and a dirty block is kept: its client has permission, and its copy is of the latest version
-    dirty-kept :
+    pub dirty-kept :
         {block : ℕ} {copy : ℕ → ℕ} {held dirty : ℕ → Bool} {k : ℕ}
         → Sound n version client block copy held dirty k
         → dirty i ≡ true
@@ -222,7 +220,7 @@ module _
         and-both (⊎-elim (may .marked) (λ x. may .writing (x .1) (x .0)) (s .copied i .dirtyIsOwned d))
         (next .keeps (client i .label) (dirty-latest s i d))
 
-    sound-granted :
+    pub sound-granted :
         {block : ℕ} {copy : ℕ → ℕ} {held dirty : ℕ → Bool} {k : ℕ}
         → Sound n version client block copy held dirty k
         → i < n
@@ -244,7 +242,7 @@ module _
               (λ j e d. clean j (at-other i j _ dirty e ∙ d)));
         }
 
-    table-granted :
+    pub table-granted :
         (e : Entry)
         → i < n
         → n ≤ nobody
@@ -262,27 +260,3 @@ module _
               (λ r. let now : grantedEntry n e i mode g .last ≡ e .last = cc in
               rw now (last-same-at client i granted (a .lastWriter) (marked-as-before g (client i) mode r)));
         }
-
-pub grant-kept :
-    (n : ℕ) (v : View) (k i : ℕ) (mode : Mode)
-    → n ≤ nobody
-    → Running n v k
-    → i < n
-    → (isWrite mode && isLastVersion (v .entry .version)) ≡ false
-    → Ready (v .client) i mode
-    → Running n (grantedView n v i mode) k
-grant-kept n v k i mode bound h below left free =
-    let e = v .entry in
-    let g = grantOf n e i mode in
-    let clients = h .sound .clients in
-    let next : Latest (e .version) mode (g .latest) = latest (e .version) (clients .versionNotZero) mode left in
-    let records : recordAt e ≡ (λ s. v .client s .opens) = fun-ext (λ s. h .table .known s refl) in
-    let may : Permitted (v .client) i mode (g .caching)
-    = subst (λ r. Permitted (v .client) i mode (permissionAtGrant n r i mode)) (sym records)
-    (permitted clients i mode) in
-    record {
-      sound = rw (next .stored) (sound-granted clients i mode g next may free (h .sound) below);
-      table = table-granted clients i mode g next may free e below bound (h .table);
-      calls = length-stored n (λ j. j) (λ j. 0) (e .calls) ∙ h .calls;
-      waiting = λ is. absurd (conflict is (le-ltb nobody n bound));
-    }

@@ -22,14 +22,15 @@ use Rattle.protocol.specs.Entry.{recordAt, waits, kindOf, callTo, callsO
 use Rattle.decision.proofs.Counting.{count-agree}
 use Rattle.decision.proofs.Storing.{length-stored}
 use Rattle.decision.proofs.CallOrder.{kind-due}
-use Rattle.protocol.proofs.View.{View, waitingView, grantedView, callAnsweredView, waiterGrantedView}
+use Rattle.protocol.proofs.View.{View, waitingView, grantedView, callAnsweredView, waiterGrantedView, Backs}
 use Rattle.protocol.proofs.Invariant.{Waiting, Running}
 use Rattle.protocol.proofs.Invariant.Flags.{split, cases}
 use Rattle.protocol.proofs.Invariant.Count.{some}
 use Rattle.protocol.proofs.Invariant.Due.{waiting-due}
 use Rattle.protocol.proofs.Invariant.Kind.{same-sends, same-drops}
-use Rattle.protocol.proofs.Invariant.Grant.{ready, grant-kept}
-use Rattle.protocol.proofs.Invariant.Answer.{answer-kept, called-waits}
+use Rattle.protocol.proofs.Invariant.Grant.{Ready, ready}
+use Rattle.protocol.proofs.Invariant.Granting.{grant-kept, grant-backs}
+use Rattle.protocol.proofs.Invariant.Answer.{answer-kept, called-waits, answer-backs, backs-then}
 
 -- where a count of numbers other than 0 is 0, each is 0
 silent :
@@ -112,28 +113,49 @@ module _
     calls-found : count n (λ t. not (eqb (getD due t 0) 0)) ≡ callsFor n (v .entry) i mode
     calls-found = count-agree n _ _ (λ t is. ap (λ x. not (eqb x 0)) (found t is))
 
-    pub open-kept : n ≤ nobody → eqb (callsFor n (v .entry) i mode) 0 ≡ true → Running n (grantedView n v i mode) k
-    open-kept bound quiet =
-        grant-kept n v k i mode bound h below left
-        (ready due-waiting
-        (silent n (λ t. getD due t 0) (ap (λ x. eqb x 0) calls-found ∙ quiet) (beyond n due due-size)))
+    module _ (quiet : eqb (callsFor n (v .entry) i mode) 0 ≡ true) where
+      free : Ready (v .client) i mode
+      free =
+          ready due-waiting
+          (silent n (λ t. getD due t 0) (ap (λ x. eqb x 0) calls-found ∙ quiet) (beyond n due due-size))
+
+      pub open-kept : n ≤ nobody → Running n (grantedView n v i mode) k
+      open-kept bound = grant-kept n v k i mode h left free bound below
+
+      pub open-backs : Backs v (grantedView n v i mode)
+      open-backs = grant-backs n v k i mode h left free
 
 -- The last answer grants the open that waits.
-pub answer-last-kept :
-    (n : ℕ) (v : View) (k i : ℕ)
-    → n ≤ nobody
-    → Running n v k
-    → i < n
-    → eqb (callTo n (v .entry) i) 0 ≡ false
-    → eqb (callsOut n (callAnsweredView n v i .entry)) 0 ≡ true
-    → (v .entry .waiter < n) × Running n (waiterGrantedView n (callAnsweredView n v i)) k
-answer-last-kept n v k i bound h below called quiet =
-    let is = called-waits n (v .entry) i called in
-    let waiter = ltb-true (v .entry .waiter) n is in
-    let later = callAnsweredView n v i in
-    let h′ = answer-kept n v k i bound h below called in
-    let ws = h′ .waiting is in (
-      waiter,
-      grant-kept n later k (v .entry .waiter) (v .entry .mode) bound h′ waiter (ws .versionLeft)
-          (ready ws (silent n (callTo n (later .entry)) quiet (uncalled n (later .entry) (h′ .calls)))),
-    )
+module _
+    (n : ℕ)
+    (v : View)
+    (k i : ℕ)
+    (bound : n ≤ nobody)
+    (h : Running n v k)
+    (below : i < n)
+    (called : eqb (callTo n (v .entry) i) 0 ≡ false)
+    (quiet : eqb (callsOut n (callAnsweredView n v i .entry)) 0 ≡ true)
+  where
+    abbrev later : View
+    later = callAnsweredView n v i
+
+    waiter : v .entry .waiter < n
+    waiter = ltb-true (v .entry .waiter) n (called-waits n (v .entry) i called)
+
+    answered : Running n later k
+    answered = answer-kept n v k i bound h below called
+
+    ws : Waiting (v .entry .version) (later .client) (v .entry .waiter) (v .entry .mode) (callTo n (later .entry))
+    ws = answered .waiting (called-waits n (v .entry) i called)
+
+    free-now : Ready (later .client) (v .entry .waiter) (v .entry .mode)
+    free-now = ready ws (silent n (callTo n (later .entry)) quiet (uncalled n (later .entry) (answered .calls)))
+
+    pub answer-last-kept : (v .entry .waiter < n) × Running n (waiterGrantedView n later) k
+    answer-last-kept =
+        (waiter, grant-kept n later k (v .entry .waiter) (v .entry .mode) answered (ws .versionLeft) free-now bound waiter)
+
+    pub answer-last-backs : Backs v (waiterGrantedView n later)
+    answer-last-backs =
+        backs-then v later (waiterGrantedView n later) (answer-backs n v k i h called)
+        (grant-backs n later k (v .entry .waiter) (v .entry .mode) answered (ws .versionLeft) free-now)

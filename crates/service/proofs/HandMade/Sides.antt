@@ -20,14 +20,23 @@ use Rattle.service.specs.Fresh.{fresh}
 use Rattle.service.proofs.Run.{freshDefault, OR, CR, CW, RD, WR, FL, AN, grant, grantUncached}
 use Rattle.service.proofs.Making.{opens, reading, readingUncached, writing, writingUncached}
 use Rattle.service.proofs.Making.{side, entry, kinds, waiting}
-use Rattle.service.proofs.Making.{withFile, withSide, withCopy, inRecovery}
+use Rattle.service.proofs.Making.{withFile, withSide, withCopy, withCopyOf, inRecovery}
 use Rattle.service.proofs.Making.{reply, entryAfter, sideAfter, copyAfter, blockAfter}
 
--- "The two sides apart", "The last writer", "A close at a side whose count is 0", "The permission that a kept grant
+-- "The two sides apart", "The last writer", "A clean close beside another last writer", "The last flush of a client that
+-- is not the last writer", "Blocks that are dirty past the sizes", "A close at a side whose count is 0", "The permission that a kept grant
 -- tells where the two sides differ", "Permission at a client that is not open": the server's record of client 0, and
 -- its own
 abbrev sides : ClientRecord → ClientRecord → Service
 sides known own = withSide 0 (side own false 1) (withFile (entry 1 known notOpen nobody))
+
+-- and block 0 is dirty there
+abbrev dirtied : ClientRecord → ClientRecord → Service
+dirtied known own = withCopy 7 true true (sides known own)
+
+-- client 0 is marked, and this client is the last writer
+abbrev marked : ClientRecord → ℕ → Service
+marked r last = withSide 0 (side r true 1) (withFile (entry 1 r notOpen last))
 
 abbrev idle : Service
 idle = withCopy 7 true false (sides notOpen (opens 0 0 true))
@@ -45,14 +54,24 @@ pub record Apart : Type 0 where
   pub ownClean : reply (sides writing writing) (FL 0 0 0) ≡ Refused 13
   pub ownCached : copyAfter (sides notOpen writing) (WR 0 0 0 5) ≡ (5, true, true)
   pub ownUncached : blockAfter (sides writing writingUncached) (WR 0 0 0 5) ≡ 5
-  -- a close makes the last writer by the server's record, and the flag by the client's
-  pub lastByTable : entryAfter (sides writing writingUncached) (CW 0 0) ≡ entry 1 notOpen notOpen 0
-  pub lastUnflagged : sideAfter (sides writing writingUncached) (CW 0 0) 0 ≡ side notOpen false 1
-  pub noLastByTable : entryAfter (sides writingUncached writing) (CW 0 0) ≡ entry 1 notOpen notOpen nobody
-  pub noLastFlagged : sideAfter (sides writingUncached writing) (CW 0 0) 0 ≡ side notOpen true 1
+  -- a close with a dirty block makes the last writer by the server's record, and the flag by the client's
+  pub lastByTable : entryAfter (dirtied writing writingUncached) (CW 0 0) ≡ entry 1 notOpen notOpen 0
+  pub lastUnflagged : sideAfter (dirtied writing writingUncached) (CW 0 0) 0 ≡ side notOpen false 1
+  pub noLastByTable : entryAfter (dirtied writingUncached writing) (CW 0 0) ≡ entry 1 notOpen notOpen nobody
+  pub noLastFlagged : sideAfter (dirtied writingUncached writing) (CW 0 0) 0 ≡ side notOpen true 1
+  -- a close with none clears both, whoever the last writer was
+  pub cleanLast : entryAfter (marked writing 1) (CW 0 0) ≡ entry 1 notOpen notOpen nobody
+  pub cleanFlag : sideAfter (marked writing 1) (CW 0 0) 0 ≡ side notOpen false 1
+  -- the last flush clears the flag, and the last writer if it is this client
+  pub flushedFlag : sideAfter (withCopy 7 true true (marked notOpen 1)) (FL 0 0 0) 0 ≡ side notOpen false 1
+  pub flushedOther : entryAfter (withCopy 7 true true (marked notOpen 1)) (FL 0 0 0) ≡ entry 1 notOpen notOpen 1
+  pub flushedOwn : entryAfter (withCopy 7 true true (marked notOpen 0)) (FL 0 0 0) ≡ entry 1 notOpen notOpen nobody
+  -- a block that is dirty past the sizes does not count
+  pub pastAtClose : entryAfter (withCopyOf 4 7 true true (sides writing writing)) (CW 0 0) ≡ entry 1 notOpen notOpen nobody
+  pub pastAtFlush : entryAfter (withCopyOf 4 7 true true (withCopy 7 true true (marked notOpen 0))) (FL 0 0 0) ≡ entry 1 notOpen notOpen nobody
   -- at a close a count of 0 stays 0 and leaves no last writer, and a record that is not open has no permission
-  pub closed0 : entryAfter (sides notOpen writing) (CW 0 0) ≡ entry 1 notOpen notOpen nobody
-  pub closed0Side : sideAfter (sides notOpen writing) (CW 0 0) 0 ≡ side notOpen true 1
+  pub closed0 : entryAfter (dirtied notOpen writing) (CW 0 0) ≡ entry 1 notOpen notOpen nobody
+  pub closed0Side : sideAfter (dirtied notOpen writing) (CW 0 0) 0 ≡ side notOpen true 1
   pub closed0Permission : entryAfter (sides (opens 0 0 true) reading) (CR 0 0) ≡ entry 1 notOpen notOpen nobody
   -- a kept grant tells the server's permission, and the client takes it, with its label and its copy
   pub keptUncached : reply (sides readingUncached reading) (OR 0 0) ≡ Granted (grantUncached 1 0)
@@ -82,6 +101,13 @@ apart =
       lastUnflagged = refl;
       noLastByTable = refl;
       noLastFlagged = refl;
+      cleanLast = refl;
+      cleanFlag = refl;
+      flushedFlag = refl;
+      flushedOther = refl;
+      flushedOwn = refl;
+      pastAtClose = refl;
+      pastAtFlush = refl;
       closed0 = refl;
       closed0Side = refl;
       closed0Permission = refl;

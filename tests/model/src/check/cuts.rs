@@ -1,6 +1,6 @@
 //! Lines after which a step file is worth cutting short. Only the summary shows the state table, so a file is played
 //! once more up to a line where the table is halfway: an open partly answered, a client that has closed one of several
-//! write opens, a recovery half reported or just ended.
+//! write opens, a callback whose reason a flush has taken away, a recovery half reported or just ended.
 
 use super::Witness;
 use crate::{Mode, Outcome, Service, State, Step};
@@ -10,6 +10,7 @@ pub struct Cuts {
     line: usize,
     partly_answered: Option<usize>,
     partly_closed: Option<usize>,
+    reason_gone: Option<usize>,
     half_reported: Option<usize>,
     recovered: Option<usize>,
 }
@@ -17,7 +18,7 @@ pub struct Cuts {
 impl Cuts {
     /// The beginnings of this input up to the last line of each sort.
     pub fn of<'a>(&self, input: &'a [u8]) -> Vec<&'a [u8]> {
-        let lines = [self.partly_answered, self.partly_closed, self.half_reported, self.recovered];
+        let lines = [self.partly_answered, self.partly_closed, self.reason_gone, self.half_reported, self.recovered];
         lines.into_iter().flatten().map(|line| first_lines(input, line)).collect()
     }
 }
@@ -38,6 +39,14 @@ fn is_partly_closed(service: &Service, step: &Step) -> bool {
     service.server.entries[file as usize].records[client as usize].writers > 0
 }
 
+/// A called client has flushed its last dirty block: the callback stays out.
+fn is_reason_gone(service: &Service, step: &Step) -> bool {
+    let Step::Flush { client, file, .. } = *step else { return false };
+    let (client, file) = (client as usize, file as usize);
+    let called = service.server.entries[file].callback(service.sizes(), client).is_some();
+    called && !service.any_dirty(client, file)
+}
+
 fn is_half_reported(service: &Service) -> bool {
     let all = service.sizes().client_set();
     let missing = service.server.reports_missing(service.sizes());
@@ -55,6 +64,9 @@ impl Witness for Cuts {
         }
         if *outcome == Outcome::Done && is_partly_closed(service, step) {
             self.partly_closed = line;
+        }
+        if *outcome == Outcome::Done && is_reason_gone(service, step) {
+            self.reason_gone = line;
         }
         if *outcome == Outcome::Done && *step == Step::End {
             self.recovered = line;

@@ -26,8 +26,9 @@ pub struct FileView<'a> {
 
 type Clause = fn(&FileView) -> bool;
 
-/// A: while running. B: while recovering. S, L, D: always, on the clients' own records. W: while an open waits.
-pub const CLAUSES: [(&str, Clause); 21] = [
+/// A: while running. B: while recovering. S, L, D: always, on the clients' own records. M: always, of marks and of the
+/// last writer. W: while an open waits.
+pub const CLAUSES: [(&str, Clause); 22] = [
     ("A1", |file| file.recovering() || file.each(|s| file.record_agrees(s))),
     ("A2", |file| file.recovering() || file.each(|s| file.last_writer(s) == file.marked(s))),
     ("B1", |file| file.running() || file.waiting().is_none()),
@@ -62,6 +63,7 @@ pub const CLAUSES: [(&str, Clause); 21] = [
         let clean = |b| file.each(|s| !file.dirty(s, b));
         (0..file.sizes.blocks).all(|b| implies(clean(b), file.entry.blocks[b] == file.memory[b]))
     }),
+    ("M1", |file| file.each(|s| implies(file.marked(s) || file.last_writer(s), file.any_dirty(s) && !file.writes(s)))),
     ("WS", |file| file.waiting().is_none_or(|open| file.callbacks_suffice(&open))),
     ("W6", |file| file.waiting().is_none_or(|open| implies(open.mode == Mode::Write, file.version() < u32::MAX))),
 ];
@@ -142,6 +144,10 @@ impl FileView<'_> {
 
     fn dirty(&self, s: usize, b: usize) -> bool {
         self.clients[s].copies.dirty[b]
+    }
+
+    fn any_dirty(&self, s: usize) -> bool {
+        (0..self.sizes.blocks).any(|b| self.dirty(s, b))
     }
 
     fn value(&self, s: usize, b: usize) -> u64 {

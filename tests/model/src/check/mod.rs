@@ -1,5 +1,6 @@
 //! What is checked beside a run: Demand 3, the invariant that carries it, and the counts of the summary.
 
+mod behind;
 mod cuts;
 mod demand3;
 mod difference;
@@ -10,6 +11,7 @@ mod tally;
 
 use crate::{Outcome, Service, Step};
 
+pub use behind::Behind;
 pub use cuts::Cuts;
 pub use demand3::{Breach, Demand3};
 pub use difference::{Difference, shown};

@@ -2,7 +2,7 @@
 
 use std::fmt;
 
-use super::Witness;
+use super::{Behind, Witness};
 use crate::{Outcome, Refusal, Service, Step};
 
 #[derive(Default)]
@@ -12,6 +12,7 @@ pub struct Tally {
     waits: u64,
     grants_after_waits: u64,
     recoveries: u64,
+    behind: Behind,
     refusals: [u64; Refusal::LAST_NUMBER + 1],
 }
 
@@ -31,10 +32,19 @@ impl Tally {
     pub fn recoveries(&self) -> u64 {
         self.recoveries
     }
+
+    pub fn behind(&self) -> &Behind {
+        &self.behind
+    }
 }
 
 impl Witness for Tally {
-    fn after(&mut self, _service: &Service, step: &Step, outcome: &Outcome) {
+    fn before(&mut self, service: &Service, step: &Step) {
+        self.behind.before(service, step);
+    }
+
+    fn after(&mut self, service: &Service, step: &Step, outcome: &Outcome) {
+        self.behind.after(service, step, outcome);
         if *step == Step::End && *outcome == Outcome::Done {
             self.recoveries += 1;
         }
@@ -59,6 +69,7 @@ impl fmt::Display for Tally {
         writeln!(out, "waits {}", self.waits)?;
         writeln!(out, "grants after waits {}", self.grants_after_waits)?;
         writeln!(out, "recoveries completed {}", self.recoveries)?;
+        writeln!(out, "{}", self.behind)?;
         write!(out, "refusals")?;
         for number in Refusal::NUMBERS {
             write!(out, " {number}:{}", self.refusals[number])?;

@@ -6,13 +6,14 @@ use std::collections::VecDeque;
 use super::Author;
 use super::aim::{Aims, aims_for};
 use super::rng::Rng;
+use super::scene::scene;
 use super::stage::{Scope, Stage};
 use super::text::write_step;
 use super::tide::Tide;
-use crate::{Mode, Settings, Step};
+use crate::{Settings, Step};
 
 /// One step in so many, while the server neither recovers nor has an open that waits, begins a scene.
-const SCENE: usize = 80;
+const SCENE: usize = 40;
 
 pub struct Guided {
     stage: Stage,
@@ -48,38 +49,12 @@ impl Guided {
         }
         let at_rest = !self.stage.service.server.recovering && !self.stage.any_open_waits();
         if at_rest && self.stage.rng.one_in(SCENE) {
-            self.begin_broken_off_invalidation();
+            self.scene.extend(scene(&mut self.stage));
+            return self.choose();
         }
         let aims: &Aims = if at_rest && self.tide.is_some() { &Tide::HIGH } else { aims_for(&self.stage, self.turns) };
         let aim = self.stage.rng.weighted(aims);
         self.stage.aimed(aim)
-    }
-
-    /// Two readers are called, one replies, the server crashes and recovers. Sometimes the one that replied then opens
-    /// anew and tries its copy in another recovery.
-    fn begin_broken_off_invalidation(&mut self) {
-        let [first, second, writer] = self.stage.some_clients();
-        let (file, block) = (self.stage.some_file(), self.stage.some_block());
-        self.scene.extend([
-            Step::Open { mode: Mode::Read, client: first, file },
-            Step::Read { client: first, file, block },
-            Step::Open { mode: Mode::Read, client: second, file },
-            Step::Open { mode: Mode::Write, client: writer, file },
-            Step::Reply { client: first, file },
-            Step::Crash,
-        ]);
-        let clients = self.stage.sizes().clients;
-        let turn = self.stage.rng.below(clients);
-        self.scene.extend((0..clients).map(|client| Step::Report { client: ((client + turn) % clients) as u64 }));
-        self.scene.push_back(Step::End);
-        if self.stage.rng.one_in(3) {
-            self.scene.extend([
-                Step::Close { mode: Mode::Read, client: first, file },
-                Step::Open { mode: Mode::Read, client: first, file },
-                Step::Crash,
-                Step::Read { client: first, file, block },
-            ]);
-        }
     }
 
     pub fn stage(&mut self) -> &mut Stage {

@@ -4,6 +4,7 @@ mod aim;
 mod guided;
 mod malformed;
 mod rng;
+mod scene;
 mod session;
 mod settings;
 mod stage;

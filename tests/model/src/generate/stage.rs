@@ -122,6 +122,12 @@ impl Stage {
         self.rng.below(self.scope.blocks) as u64
     }
 
+    /// Two blocks, different ones where the scope has so many.
+    pub fn some_blocks(&mut self) -> [u64; 2] {
+        let first = self.some_block();
+        [first, (first + 1) % self.scope.blocks as u64]
+    }
+
     fn mode(&mut self) -> Mode {
         *self.rng.pick(&[Mode::Read, Mode::Read, Mode::Write])
     }

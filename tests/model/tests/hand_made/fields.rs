@@ -3,7 +3,7 @@
 
 use model::{ClientField, ClientSet, Mode, State, Step, VersionField, WaitField};
 
-use crate::made::{HandMade, READER, WRITER};
+use crate::made::{HandMade, READER, WRITER, block_0};
 
 /// Each would name a client if it were cut to three bits.
 const NO_CLIENT: [u8; 6] = [8, 9, 15, 16, 128, 255];
@@ -52,20 +52,24 @@ fn a_last_writer_of_8_or_more_prints_as_none() {
     HandMade::fresh().last_writer(7).plays(&[], &["files 1", "0 1 1 7"]);
 }
 
-/// DECISIONS: "it stays stored until a step sets it". A read open, a report without the flag and kind 2 do not set it; a
-/// write open, a close of the last writer count, a crash and kinds 1 and 3 do.
+/// DECISIONS: "it stays stored until a step sets it". A read open, a report without the flag, a flush and kind 2 do not
+/// set it; a write open, a close of the last writer count, a crash and kinds 1 and 3 do.
 #[test]
 fn a_last_writer_of_8_or_more_stays_until_a_step_sets_it() {
     let open = |mode| Step::Open { mode, client: 0, file: 0 };
     let close = Step::Close { mode: Mode::Write, client: 0, file: 0 };
     let reply = Step::Reply { client: 0, file: 0 };
+    let flush = Step::Flush { client: 0, file: 0, block: 0 };
     for field in NO_CLIENT {
         let made = || HandMade::fresh().last_writer(field);
         let left = |made: HandMade, step| made.takes(step).entry().last_writer;
         assert_eq!(left(made(), open(Mode::Read)), ClientField(field));
         assert_eq!(left(made().recovering(ClientSet::NONE), Step::Report { client: 0 }), ClientField(field));
         assert_eq!(left(made(), open(Mode::Write)), ClientField::NONE);
-        assert_eq!(left(made().at_both_ends(0, WRITER), close), ClientField(0));
+        assert_eq!(left(made().at_both_ends(0, WRITER), close), ClientField::NONE);
+        let dirty = || made().copy(0, 1, block_0(7, true, true));
+        assert_eq!(left(dirty().at_both_ends(0, WRITER), close), ClientField(0));
+        assert_eq!(left(dirty(), flush), ClientField(field));
         assert_eq!(left(made(), Step::Crash), ClientField::NONE);
         let answered = [1, 2, 3].map(|kind| left(made().wait(2, Mode::Read, &[(0, kind)]), reply));
         assert_eq!(answered, [ClientField::NONE, ClientField(field), ClientField::NONE]);

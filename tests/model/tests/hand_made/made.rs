@@ -11,7 +11,7 @@ pub const CLOSED: Record = Record { readers: 0, writers: 0, may_cache: false };
 pub const READER: Record = Record { readers: 1, writers: 0, may_cache: true };
 pub const WRITER: Record = Record { readers: 0, writers: 1, may_cache: true };
 
-pub fn uncached(record: Record) -> Record {
+pub const fn uncached(record: Record) -> Record {
     Record { may_cache: false, ..record }
 }
 

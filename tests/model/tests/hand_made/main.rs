@@ -5,6 +5,7 @@ mod close;
 mod copies;
 mod ends;
 mod fields;
+mod flush;
 mod limits;
 #[path = "../common/listing.rs"]
 mod listing;

@@ -1,4 +1,5 @@
-//! Document 01 and Wish 7 of document 02 read once more: plainly, apart from the model's own rules, and for any service.
+//! Document 01 and the wishes of document 02 that have landed, read once more: plainly, apart from the model's own rules,
+//! and for any service.
 
 use model::{
     CLIENTS, Callbacks, ClientField, ClientFile, Entry, Grant, Mode, Outcome, Record, Service, Sizes, Step,
@@ -143,7 +144,7 @@ fn permission(clients: usize, entry: &Entry, opener: usize, mode: Mode) -> bool 
 }
 
 /// "Close in a mode lowers that count by 1", and "a count of 0 stays 0". "A final close takes its permission away." Gives
-/// whether "that was the last writer count and the station may cache".
+/// whether it was "a close of the last writer count with permission".
 fn lower(record: &mut Record, mode: Mode) -> bool {
     let last_cached_writer = mode == Mode::Write && record.writers == 1 && record.may_cache;
     let count = if mode == Mode::Read { &mut record.readers } else { &mut record.writers };
@@ -218,14 +219,22 @@ impl<'a> File<'a> {
         grant
     }
 
-    /// "A station's own change go[es] by the station's record; .. the table go[es] by the server's."
+    /// "A close of the last writer count with permission sets mark and last writer if a block is dirty, else clears both"
+    /// (Wish 4). "A station's own change go[es] by the station's record; .. the table go[es] by the server's."
     fn close(&mut self, client: usize, mode: Mode) -> Outcome {
-        let own = &mut self.clients[client];
-        own.last_writer_flag |= lower(&mut own.record, mode);
+        let any_dirty = self.any_dirty(client);
+        if lower(&mut self.clients[client].record, mode) {
+            self.clients[client].last_writer_flag = any_dirty;
+        }
         if lower(&mut self.entry.records[client], mode) {
-            self.entry.last_writer = ClientField(client as u8);
+            self.entry.last_writer = if any_dirty { ClientField(client as u8) } else { ClientField::NONE };
         }
         Outcome::Done
+    }
+
+    /// Blocks past the settings are not there.
+    fn any_dirty(&self, client: usize) -> bool {
+        (0..self.sizes.blocks).any(|block| self.clients[client].copies.dirty[block])
     }
 
     /// "1 sends every dirty block, each then clean and still held, and clears mark and last writer; 2 drops the copy,
@@ -270,8 +279,15 @@ impl<'a> File<'a> {
         Outcome::Done
     }
 
+    /// "The flush of the last dirty block clears the mark and, if the station is last writer, that" (Wish 4).
     fn flush(&mut self, client: usize, block: usize) -> Outcome {
         self.send(client, block);
+        if !self.any_dirty(client) {
+            self.clients[client].last_writer_flag = false;
+            if last_writer(self.sizes.clients, self.entry) == Some(client) {
+                self.entry.last_writer = ClientField::NONE;
+            }
+        }
         Outcome::Done
     }
 

@@ -89,7 +89,7 @@ const PROMISES: [(&str, Promise); 12] = [
         taken.step != Step::Crash || server.recovering && entries.all(survives)
     }),
     ("a step on a file leaves the other files and the other clients alone", leaves_the_rest_alone),
-    ("a read, a write and a flush leave the table as it is", leaves_the_table),
+    ("a read and a write leave the table as it is, and a flush all but its own last writer", leaves_the_table),
     ("after a grant no open waits and no callback is out", |taken| {
         let after = |file| nothing_waits(taken.sizes().clients, &taken.after.server.entries[file]);
         taken.granted().is_none_or(|(_, file)| after(file))
@@ -148,12 +148,12 @@ fn leaves_the_rest_alone(taken: &Taken) -> bool {
 }
 
 fn leaves_the_table(taken: &Taken) -> bool {
-    let (Step::Read { file, .. } | Step::Write { file, .. } | Step::Flush { file, .. }) = taken.step else {
-        return true;
-    };
-    let Some(before) = taken.before.server.entries.get(file as usize) else { return true };
-    let after = &taken.after.server.entries[file as usize];
-    *after == Entry { blocks: after.blocks, ..before.clone() }
+    let (Step::Read { .. } | Step::Write { .. } | Step::Flush { .. }) = taken.step else { return true };
+    let Some((client, file)) = taken.place() else { return true };
+    let (before, after) = (&taken.before.server.entries[file], &taken.after.server.entries[file]);
+    let flushed = matches!(taken.step, Step::Flush { .. }) && before.last_writer == ClientField(client as u8);
+    let last_writer = if flushed { after.last_writer } else { before.last_writer };
+    *after == Entry { blocks: after.blocks, last_writer, ..before.clone() }
 }
 
 /// The same service with every field stored as it reads.

@@ -22,6 +22,7 @@ fn hold(seeds: Range<u64>, steps: usize) -> Tally {
         let mut service = maker.service();
         for _ in 0..steps {
             let step = maker.step(&service);
+            tally.before(&service, &step);
             let taken = Taken::from(service, step);
             assert_eq!(broken(&taken), None, "seed {seed}: {:?} gets {:?}", taken.step, taken.outcome);
             tally.after(&taken.after, &taken.step, &taken.outcome);
@@ -43,6 +44,7 @@ fn random_services_keep_every_promise() {
     assert!([ReportsMissing, OpenWaits, NoCallback, NotOpen, CountAtLimit, NotDirty].into_iter().all(met));
     assert!(met(VersionAtLimit) && tally.waits() > 1000 && tally.grants_after_waits() > 500);
     assert!(tally.recoveries() > 100);
+    assert!(tally.behind().least() > 20, "{}", tally.behind());
 }
 
 /// Run it with `--release` and `--ignored`.
@@ -136,10 +138,11 @@ impl Maker {
     /// A client's end of a file at this version.
     fn end(&mut self, record: Record, version: u32) -> ClientFile {
         let cached_version = *self.rng.pick(&[0, 1, version - 1, version, version.saturating_add(1)]);
+        let spread = *self.rng.pick(&[2, 8]);
         let copies = Copies {
             values: std::array::from_fn(|_| self.value()),
             held: std::array::from_fn(|_| self.coin()),
-            dirty: std::array::from_fn(|_| self.coin()),
+            dirty: std::array::from_fn(|_| self.rng.one_in(spread)),
         };
         ClientFile { record, last_writer_flag: self.rng.one_in(3), cached_version, copies }
     }
@@ -154,11 +157,26 @@ impl Maker {
             13..20 => Step::Reply { client: self.called(service, file).unwrap_or(client), file },
             20..23 => Step::Read { client, file, block },
             23..26 => Step::Write { client, file, block, value: self.value() },
-            26..28 => Step::Flush { client, file, block },
+            26..28 => self.flush(service, client, file, block),
             28 => Step::Crash,
             29 => Step::End,
             _ => Step::Report { client },
         }
+    }
+
+    /// Half of the time of a dirty block of the file's last writer, if it has one.
+    fn flush(&mut self, service: &Service, client: u64, file: u64, block: u64) -> Step {
+        let dirty = self.dirty_at_last_writer(service, file as usize).filter(|_| self.coin());
+        let (client, block) = dirty.unwrap_or((client, block));
+        Step::Flush { client, file, block }
+    }
+
+    fn dirty_at_last_writer(&mut self, service: &Service, file: usize) -> Option<(u64, u64)> {
+        let sizes = in_force(service);
+        let client = service.server.entries.get(file)?.last_writer.read(sizes)?;
+        let copies = &service.clients[client].files[file].copies;
+        let dirty: Vec<usize> = (0..sizes.blocks).filter(|&block| copies.dirty[block]).collect();
+        (!dirty.is_empty()).then(|| (client as u64, *self.rng.pick(&dirty) as u64))
     }
 
     /// Half of the time a client that is called on this file, if any is.

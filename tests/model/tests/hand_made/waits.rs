@@ -30,7 +30,7 @@ fn a_wait_with_nobody_left_to_answer_stops_opens_and_closes_alone() {
     let made = HandMade::fresh().at_both_ends(0, WRITER).wait(2, Mode::Write, &[]);
     let accepted =
         [("WR 0 0 0 7", "K"), ("FL 0 0 0", "K"), ("RD 0 0 0", "V 7"), ("OW 0 1", "G 2 1 1"), ("CW 0 1", "K")];
-    made.plays(&accepted, &["files 2", "0 5 1 -", "1 1 2 0"]);
+    made.plays(&accepted, &["files 2", "0 5 1 -", "1 0 2 -"]);
 }
 
 /// DECISIONS: "A wait whose client reads as none is no wait, and its callbacks are none."

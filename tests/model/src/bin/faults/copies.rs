@@ -84,11 +84,4 @@ rule_faults! {
             file.copies.held[block] = false;
         }
     }
-    /// A flush leaves the flag, also when no dirty block is left.
-    flush_of_last_dirty_block_clears_the_flag {
-        fn flush(file: &mut ClientFile, block: usize, server: &mut [u64; BLOCKS]) {
-            file.flush(block, server);
-            file.last_writer_flag &= file.copies.dirty.contains(&true);
-        }
-    }
 }

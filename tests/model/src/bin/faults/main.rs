@@ -3,6 +3,7 @@
 //!
 //! `faults` tries them all; `faults play NAME` is a player with that fault.
 
+mod behind;
 mod callbacks;
 mod closing;
 mod copies;
@@ -27,6 +28,7 @@ fn all_faults() -> impl Iterator<Item = &'static Fault> {
     let groups = [
         opening::FAULTS,
         closing::FAULTS,
+        behind::FAULTS,
         copies::FAULTS,
         callbacks::FAULTS,
         recovery::FAULTS,

@@ -111,10 +111,10 @@ rule_faults! {
             entry.report(client, file.record, file.last_writer_flag);
         }
     }
+    /// A client that has writers has no flag, dirty blocks or not.
     report_takes_dirty_blocks_for_the_flag {
         fn report(entry: &mut Entry, client: usize, file: &ClientFile) {
-            let flag = file.last_writer_flag && file.copies.dirty.contains(&true);
-            entry.report(client, file.record, flag);
+            entry.report(client, file.record, file.copies.dirty.contains(&true));
         }
     }
     end_with_one_report_missing {

@@ -38,15 +38,53 @@ rule_faults! {
     final_close_keeps_permission(
         "the permission of a client that is not open is never looked at, and its next open judges it anew"
     ) {
-        fn close_at_server(entry: &mut Entry, client: usize, mode: Mode) {
+        fn close_at_server(entry: &mut Entry, client: usize, mode: Mode, dirty: bool) {
             let may_cache = entry.records[client].may_cache;
-            entry.close(client, mode);
+            entry.close(client, mode, dirty);
             entry.records[client].may_cache = may_cache;
         }
-        fn close_at_client(file: &mut ClientFile, mode: Mode) {
+        fn close_at_client(file: &mut ClientFile, mode: Mode, dirty: bool) {
             let may_cache = file.record.may_cache;
-            file.close(mode);
+            file.close(mode, dirty);
             file.record.may_cache = may_cache;
+        }
+    }
+    clean_close_leaves_flag_and_last_writer("the write open that is closed has cleared both") {
+        fn close_at_server(entry: &mut Entry, client: usize, mode: Mode, dirty: bool) {
+            let last_writer = entry.last_writer;
+            entry.close(client, mode, dirty);
+            if !dirty {
+                entry.last_writer = last_writer;
+            }
+        }
+        fn close_at_client(file: &mut ClientFile, mode: Mode, dirty: bool) {
+            let last_writer_flag = file.last_writer_flag;
+            file.close(mode, dirty);
+            file.last_writer_flag |= last_writer_flag;
+        }
+    }
+    close_counts_dirty_blocks_of_other_clients(
+        "no other client has a dirty block of a file that one has open for write with permission"
+    ) {
+        fn dirty_at_close(service: &Service, _client: usize, file: usize) -> bool {
+            (0..service.sizes().clients).any(|client| service.any_dirty(client, file))
+        }
+    }
+    last_flush_clears_the_last_writer_whoever_it_is(
+        "a client with a dirty block is the last writer, or it has writers and there is none"
+    ) {
+        fn flushed_at_server(entry: &mut Entry, _client: usize, dirty: bool) {
+            if !dirty {
+                entry.last_writer = ClientField::NONE;
+            }
+        }
+    }
+    dirty_blocks_past_the_settings_counted("they are never dirty") {
+        fn dirty_at_close(service: &Service, client: usize, file: usize) -> bool {
+            service.clients[client].files[file].copies.any_dirty(Sizes::LARGEST)
+        }
+        fn dirty_after_flush(service: &Service, client: usize, file: usize) -> bool {
+            service.clients[client].files[file].copies.any_dirty(Sizes::LARGEST)
         }
     }
     dropped_blocks_not_zeroed("a block that is not held is never given") {

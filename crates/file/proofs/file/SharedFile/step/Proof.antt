@@ -43,10 +43,8 @@ returns c = rw (c .before .before .before .before .before .before .step .given .
 
 returns-2 : tie.Need-returns-2
 returns-2 c =
-    let a = c .before .before .before .before .args in
-    let stores = lent (now (a .blocks)) (now (a .copies)) (now (a .held)) (now (a .dirty)) in
-    rw (c .before .before .step2 .given .1)
-    (record { outcomeAfter = c .close .ensures .0 stores; storesAfter = c .close .ensures .1 stores })
+    let a = c .before .before .before .before .before .args in
+    rw (c .before .before .before .step2 .given .1) (c .close .ensures (now (a .blocks)) (now (a .copies)) (now (a .held)))
 
 returns-3 : tie.Need-returns-3
 returns-3 c = rw (c .before .before .before .before .before .before .step3 .given .1) (c .flush .ensures)

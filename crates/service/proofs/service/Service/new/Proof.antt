@@ -1,9 +1,19 @@
--- `Service::new` meets its contract: it makes the fresh service, from which Demand 3 holds. Assumes nothing.
+-- `Service::new` meets its contract: it makes the fresh service, from which Demand 3 holds and nothing is left behind.
+-- Assumes nothing.
+use mathlib.Core.Path.{_≡_, sym, subst}
+use Rattle.decision.specs.declared.sizes.Sizes.{Sizes}
+use Rattle.service.specs.declared.service.Service.{Service}
 use Rattle.service.specs.Fresh.{fresh}
-use Rattle.service.proofs.Demand3.{from-fresh}
+use Rattle.service.specs.Demand3.{Consistent}
+use Rattle.service.specs.NothingBehind.{LeavesNothing}
+use Rattle.service.proofs.Demand3.{demand3}
+use Rattle.service.proofs.NothingBehind.{nothing-left}
 use borrow.Author.Needs.{needs}
 use Rattle.service.proofs.service.Service.new.Statement.{statement}
 use Rattle.service.proofs.service.Service.new.Tie as tie
+
+from-fresh : (z : Sizes) (s : Service) → s ≡ fresh z → (s ≡ fresh z) × (Consistent s × LeavesNothing s)
+from-fresh z s e = (e, (subst Consistent (sym e) (demand3 z), subst LeavesNothing (sym e) (nothing-left z)))
 
 returns : tie.Need-returns
 unfolding fresh

@@ -1,0 +1,165 @@
+-- Nothing is left behind: after every list of steps from the fresh service of any sizes, a client that is last writer, or
+-- marked, has a dirty block of the file and no writers. Assumes nothing.
+use Prim.Native.Nat.{ℕ, _≤_, _<_}
+use mathlib.Core.Path.{_≡_, refl, ap, _∙_, subst, subst⁻¹}
+use mathlib.Core.Bool.{Bool, true}
+use mathlib.Core.List.{List, [], _∷_}
+use mathlib.Core.Logic.{_⊎_}
+use native.Mathlib.Omega.{arith}
+use lib.Dec.{ltb}
+use borrow.Author.Tests.{leb-false, ltb-false}
+use Rattle.decision.specs.declared.sizes.Sizes.{Sizes}
+use Rattle.decision.specs.Sizes.{nobody, inForce, Permitted}
+use Rattle.decision.proofs.InForce.{in-force-permitted}
+use Rattle.protocol.specs.declared.client.ClientFile.{ClientFile}
+use Rattle.protocol.specs.declared.step.Step.{Step}
+use Rattle.protocol.specs.declared.step.Step.the-variants.{Open, Close, Read, Write, Flush, Answer, Crash, Report, End}
+use Rattle.protocol.specs.Client.{noClient}
+use Rattle.protocol.specs.Table.{Row}
+use Rattle.protocol.proofs.Invariant.{Running, Recovering}
+use Rattle.protocol.proofs.Kept.{promises}
+use Rattle.protocol.proofs.View.{View}
+use Rattle.protocol.proofs.Promises.{Promises}
+use Rattle.blocks.specs.Stores.{anyDirty}
+use Rattle.service.specs.declared.service.Service.{Service}
+use Rattle.service.specs.declared.outcome.Outcome.{Outcome}
+use Rattle.service.specs.Contents.{entryAt, clientAt, storesOf}
+use Rattle.service.specs.Fresh.{fresh}
+use Rattle.service.specs.Demand3.{refused, after, Memory, blank, fed, Recovery, none, since, recoveryAfter}
+use Rattle.service.specs.NothingBehind.{Owes, NothingBehind, afterSteps, NothingLeft}
+use Rattle.service.proofs.Tests.{split, conflict}
+use Rattle.service.proofs.Views.{viewOf, client-is}
+use Rattle.service.proofs.BlockSteps.{read-step, write-step}
+use Rattle.service.proofs.Accepted.{Passed, testsOf, doneOf, when-accepted, refused-changes-nothing}
+use Rattle.service.proofs.Consistent.{sized, after-kept, fresh-runs, fresh-view}
+use Rattle.service.proofs.Invariant.{Sound}
+use Rattle.service.proofs.Owing.{Owed, block-owed, write-backs, close-owed, flush-owed, open-owed, answer-owed}
+
+module _
+    {z : Sizes}
+    (most : Permitted z)
+    (Running : View → ℕ → Type 0)
+    (Recovering : View → ℕ → (ℕ → Bool) → Row → Type 0)
+    (promises : Promises (z .clients) Running Recovering) where
+  -- what the invariant says of a client that is last writer, or marked
+  owing :
+      (s : Service) (m : Memory) (r : Recovery) (i f : ℕ)
+      → Sound z Running Recovering s m r
+      → i < z .clients
+      → f < z .files
+      → (entryAt s f .last ≡ i) ⊎ (clientAt s i f .marked ≡ true)
+      → (clientAt s i f .marked ≡ true) × (ltb 0 (clientAt s i f .opens .writers) ≡ true → ⊥)
+  owing s m r i f h hi hf x =
+      let v : View = viewOf z s f 0 in
+      let is : clientAt s i f ≡ v .client i = client-is z s f 0 hi in
+      let x′ : (v .entry .last ≡ i) ⊎ (v .client i .marked ≡ true) =
+      subst (λ (c : ClientFile). (v .entry .last ≡ i) ⊎ (c .marked ≡ true)) is x in
+      subst⁻¹ (λ (c : ClientFile). (c .marked ≡ true) × (ltb 0 (c .opens .writers) ≡ true → ⊥)) is (shown r h x′)
+    where
+      shown : (r : Recovery)
+          → Sound z Running Recovering s m r
+          → (viewOf z s f 0 .entry .last ≡ i) ⊎ (viewOf z s f 0 .client i .marked ≡ true)
+          → (viewOf z s f 0 .client i .marked ≡ true) × (ltb 0 (viewOf z s f 0 .client i .opens .writers) ≡ true → ⊥)
+      shown none h = promises .owes (viewOf z s f 0) (m f 0) i (h .views f 0 hf (most .someBlock)) hi
+      shown (since t) h = promises .owesStill (viewOf z s f 0) (m f 0) i _ _ (h .views f 0 hf (most .someBlock)) hi
+
+  nothing-behind :
+      (s : Service) (m : Memory) (r : Recovery)
+      → Sound z Running Recovering s m r
+      → Owed z s
+      → NothingBehind s
+  nothing-behind s m r h owed =
+      subst⁻¹
+      (λ (z : Sizes).
+      (i f : ℕ)
+      → i < z .clients
+      → f < z .files
+      → (entryAt s f .last ≡ i) ⊎ (clientAt s i f .marked ≡ true)
+      → Owes s i f)
+      (sized most Running Recovering promises s m r h .sizes)
+      (λ i f hi hf x.
+      let (marked, idle) = owing s m r i f h hi hf x in
+      record {
+        dirty =
+            subst⁻¹ (λ (z : Sizes). anyDirty (z .blocks) i f (storesOf s) ≡ true)
+            (sized most Running Recovering promises s m r h .sizes) (owed i f hi hf marked);
+        noWriters = no-count (clientAt s i f .opens .writers) idle;
+      })
+    where
+      no-count : (n : ℕ) → (ltb 0 n ≡ true → ⊥) → n ≡ 0
+      no-count n idle =
+          split (ltb 0 n) (λ some. absurd (idle some)) (λ none. let most = ltb-false 0 n none in omega arith)
+
+  -- an accepted step
+  accepted-owed :
+      (s : Service) (m : Memory) (r : Recovery) (x : Step)
+      → Sound z Running Recovering s m r
+      → Passed (testsOf z s x)
+      → Owed z s
+      → Owed z (doneOf z s x .service)
+  accepted-owed s m none (Open mode i f) h p owed = open-owed most promises h owed mode i f p
+  accepted-owed s m none (Answer i f) h p owed = answer-owed most promises h owed i f p
+  accepted-owed s m r (Close mode i f) h (client, (file, _)) owed =
+      close-owed most promises (sized most Running Recovering promises s m r h) (leb-false (z .clients) i client)
+      (leb-false (z .files) f file) owed mode
+  accepted-owed s m r (Flush i f b) h (client, (file, (block, _))) owed =
+      flush-owed most promises (sized most Running Recovering promises s m r h) (leb-false (z .clients) i client)
+      (leb-false (z .files) f file) owed b (leb-false (z .blocks) b block)
+  accepted-owed s m r (Read i f b) h (client, (file, (block, _))) owed =
+      block-owed most s _
+      (read-step most (sized most Running Recovering promises s m r h) (leb-false (z .clients) i client)
+      (leb-false (z .files) f file) (leb-false (z .blocks) b block))
+      (λ j m. (m, λ d. d)) owed
+  accepted-owed s m r (Write i f b v) h (client, (file, (block, _))) owed =
+      block-owed most s _
+      (write-step most (sized most Running Recovering promises s m r h) (leb-false (z .clients) i client)
+      (leb-false (z .files) f file) (leb-false (z .blocks) b block) v)
+      (write-backs (viewOf z s f b) i v) owed
+  accepted-owed s m r Crash h p owed = owed
+  accepted-owed s m r (Report i) h p owed = owed
+  accepted-owed s m r End h p owed = owed
+  accepted-owed s m (since t) (Open mode i f) h (_, (_, (runs, _))) owed = conflict (h .state) runs
+  accepted-owed s m (since t) (Answer i f) h (_, (_, (runs, _))) owed = conflict (h .state) runs
+
+  after-owed :
+      (s : Service) (m : Memory) (r : Recovery) (x : Step)
+      → Sound z Running Recovering s m r
+      → Owed z s
+      → Owed z (after s x)
+  after-owed s m r x h owed =
+      split (refused s x)
+      (λ e. subst⁻¹ (Owed z) (refused-changes-nothing s x e) owed)
+      (λ e.
+      let (p, done) = when-accepted s x (sized most Running Recovering promises s m r h .sizes) e in
+      subst⁻¹ (λ (o : Outcome). Owed z (o .service)) done (accepted-owed s m r x h p owed))
+
+  -- every list of steps
+  left-behind :
+      (s : Service) (m : Memory) (r : Recovery) (steps : List Step)
+      → Sound z Running Recovering s m r
+      → Owed z s
+      → NothingBehind (afterSteps s steps)
+  left-behind s m r [] h owed = nothing-behind s m r h owed
+  left-behind s m r (x ∷ steps) h owed =
+      left-behind (after s x) (fed m x (refused s x)) (recoveryAfter s r x (refused s x)) steps
+      (after-kept most Running Recovering promises s m r x h) (after-owed s m r x h owed)
+
+-- nobody is marked in the fresh service
+fresh-owed : (z : Sizes) → Owed (inForce z) (fresh z)
+fresh-owed z i f hi hf m =
+    let is : clientAt (fresh z) i f ≡ noClient =
+    client-is (inForce z) (fresh z) f 0 hi ∙ ap (λ (v : View). v .client i) (fresh-view z f 0 hf) in
+    conflict (subst (λ (c : ClientFile). c .marked ≡ true) is m) refl
+
+pub nothing-left : NothingLeft
+nothing-left z =
+    let n : ℕ = inForce z .clients in
+    let most = in-force-permitted z in
+    let fits = most .clients in
+    let bound : n ≤ nobody = omega arith in
+    let kept = promises n bound in
+    record {
+      always = λ steps.
+          left-behind most (Running n) (Recovering n) kept (fresh z) blank none steps
+          (fresh-runs z (Running n) (Recovering n) kept) (fresh-owed z);
+    }
