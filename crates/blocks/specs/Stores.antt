@@ -61,6 +61,11 @@ answeredStores n kind i f a =
       dirty = kept n false false (firstCell i f) (a .dirty);
     }
 
+-- "Writing back now tells how many blocks it sent" (document 02, Wish 5): "For kinds 1 and 3 it equals the dirty blocks of
+-- that file there just before the reply; an invalidation alone gives 0."
+abbrev pub sentBlocks : ℕ → ℕ → ℕ → ℕ → Stores → ℕ
+sentBlocks n kind i f a = cond (writesBack kind) (dirtyBlocks n i f a) 0
+
 -- "one dirty block goes to the server and is clean"
 abbrev pub flushedStores : ℕ → ℕ → ℕ → Stores → Stores
 flushedStores i f b a =

@@ -84,7 +84,7 @@ pub fn drop_copies_unless(
     clean_unless(keep, count, base, dirty);
 }
 
-// Does to the blocks of the file what answering a callback of the kind asks.
+// Does to the blocks of the file what answering a callback of the kind asks, and tells how many it sent to the server.
 pub fn answer_blocks(
     kind: u8,
     count: usize,
@@ -94,19 +94,35 @@ pub fn answer_blocks(
     copies: &mut [u64; MAX_CELLS],
     held: &mut [bool; MAX_CELLS],
     dirty: &mut [bool; MAX_CELLS],
-)
+) -> usize
     requires { ⌜ count ≤ maxBlocks ⌝ }
     requires { ⌜ base + maxBlocks ≤ maxCells ⌝ }
     requires { ⌜ to + maxBlocks ≤ maxPlaces ⌝ }
+    ensures { λ r. ⌜ r ≡ cond (writesBack kind) (tally count (λ b. getD (now (dirty .entry)) (base + b) false)) 0 ⌝ }
     ensures { λ _. ⌜ now (blocks .exit)
         ≡ sent count (writesBack kind) (now (dirty .entry)) (now (copies .entry)) base to (now (blocks .entry)) ⌝ }
     ensures { λ _. ⌜ now (copies .exit) ≡ kept count (not (drops kind)) 0 base (now (copies .entry)) ⌝ }
     ensures { λ _. ⌜ now (held .exit) ≡ kept count (not (drops kind)) false base (now (held .entry)) ⌝ }
     ensures { λ _. ⌜ now (dirty .exit) ≡ kept count false false base (now (dirty .entry)) ⌝ }
 {
-    send_if(writes_back(kind), count, base, to, dirty, copies, blocks);
+    let sends = writes_back(kind);
+    let sent = count_if(sends, count, base, dirty);
+    send_if(sends, count, base, to, dirty, copies, blocks);
     drop_held_unless(!invalidates(kind), count, base, copies, held);
     clean_unless(false, count, base, dirty);
+    sent
+}
+
+// How many of the blocks are dirty; none where they are not asked for.
+fn count_if(asked: bool, count: usize, base: usize, dirty: &[bool; MAX_CELLS]) -> usize
+    requires { ⌜ count ≤ maxBlocks ⌝ }
+    requires { ⌜ base + maxBlocks ≤ maxCells ⌝ }
+    ensures { λ r. ⌜ r ≡ cond asked (tally count (λ b. getD (now (dirty .entry)) (base + b) false)) 0 ⌝ }
+{
+    if !asked {
+        return 0;
+    }
+    count_dirty(count, base, dirty)
 }
 
 // Drops the copies, unless they are kept.

@@ -13,7 +13,7 @@ use Rattle.protocol.specs.declared.reply.Reply.the-variants.{Refused, Answered,
 use Rattle.protocol.specs.declared.step.Step.the-variants.{Answer}
 use Rattle.protocol.specs.Entry.{waits, callTo, callsOut, grantOf}
 use Rattle.protocol.specs.Refusal.{answerTests}
-use Rattle.blocks.specs.Stores.{Stores}
+use Rattle.blocks.specs.Stores.{Stores, sentBlocks}
 use Rattle.file.specs.declared.file.SharedFile.{SharedFile}
 use Rattle.file.specs.FileStep.{leaving, granted, answered, grantedIfLast, afterAnswer, unlessTested, fileStep}
 use Rattle.protocol.proofs.Tested.{passed, named, when-accepted}
@@ -39,19 +39,23 @@ module _ (z : Sizes) (recovering : Bool) (x : SharedFile) (a : Stores) (i f : �
         (λ e. ltb-true (x .entry .waiter) (z .clients) e)
         (λ e. absurd (true≢false (rw e at kind)))
 
-    -- x′ and a′ are what the callback's answer leaves, before any grant, and `out` the callbacks that are out then
-    module _ (kind out : ℕ) (x′ : SharedFile) (a′ : Stores)
+    -- x′ and a′ are what the callback's answer leaves, before any grant; `sent` blocks went to the server, and `out`
+    -- callbacks are out then
+    module _ (kind sent out : ℕ) (x′ : SharedFile) (a′ : Stores)
         (is : kind ≡ callTo (z .clients) (x .entry) i)
         (sameFile : x′ ≡ answered z f x a i kind .file)
         (sameStores : a′ ≡ answered z f x a i kind .stores)
+        (told : sent ≡ sentBlocks (z .blocks) kind i f a)
         (counted : out ≡ callsOut (z .clients) (x′ .entry)) where
-      left : answered z f x a i (callTo (z .clients) (x .entry) i) ≡ leaving x′ a′ Answered
-      left = ap (answered z f x a i) (sym is) ∙ sym (ap₂ (λ (y : SharedFile) (b : Stores). leaving y b Answered) sameFile sameStores)
+      after : afterAnswer z x a i f ≡ grantedIfLast z f sent (leaving x′ a′ (Answered sent))
+      after =
+          (λ k. let called = sym is k in grantedIfLast z f (sentBlocks (z .blocks) called i f a) (answered z f x a i called))
+          ∙ (λ k. grantedIfLast z f (sym told k) (leaving (sym sameFile k) (sym sameStores k) (Answered (sym told k))))
 
-      pub answer-waits : (out ≡ 0 → ⊥) → fileStep z recovering x a (Answer i f) ≡ leaving x′ a′ Answered
+      pub answer-waits : (out ≡ 0 → ⊥) → fileStep z recovering x a (Answer i f) ≡ leaving x′ a′ (Answered sent)
       answer-waits some =
           taken
-          ∙ ap (grantedIfLast z f) left
+          ∙ after
           ∙ unless _ _ (ap (λ (n : ℕ). eqb n 0) (sym counted) ∙ ne-eqb out 0 some)
 
       pub answer-grants :
@@ -59,12 +63,12 @@ module _ (z : Sizes) (recovering : Bool) (x : SharedFile) (a : Stores) (i f : �
           → out ≡ 0
           → g ≡ grantOf (z .clients) (x′ .entry) (x′ .entry .waiter) (x′ .entry .mode)
           → fileStep z recovering x a (Answer i f)
-          ≡ granted z f x′ a′ (x′ .entry .waiter) (x′ .entry .mode) g (AnsweredGrant (x′ .entry .waiter) g)
+          ≡ granted z f x′ a′ (x′ .entry .waiter) (x′ .entry .mode) g (AnsweredGrant sent (x′ .entry .waiter) g)
       answer-grants g all is′ =
           taken
-          ∙ ap (grantedIfLast z f) left
+          ∙ after
           ∙ when _ _ (ap (λ (n : ℕ). eqb n 0) (sym counted) ∙ eq-eqb out 0 all)
           ∙ ap
           (λ (g′ : Grant).
-          granted z f x′ a′ (x′ .entry .waiter) (x′ .entry .mode) g′ (AnsweredGrant (x′ .entry .waiter) g′))
+          granted z f x′ a′ (x′ .entry .waiter) (x′ .entry .mode) g′ (AnsweredGrant sent (x′ .entry .waiter) g′))
           (sym is′)

@@ -1,12 +1,14 @@
 -- What the parts leave in the lent arrays, as the definitions of a grant and an answer have it. Assumes nothing.
-use Prim.Native.Nat.{ℕ}
+use Prim.Native.Nat.{ℕ, _+_}
 use mathlib.Core.Path.{_≡_}
-use mathlib.Core.Bool.{Bool, false, not}
+use mathlib.Core.Bool.{Bool, false, cond, not}
 use mathlib.Core.List.{List}
+use lib.ListN.{getD}
 use Rattle.decision.specs.Sizes.{firstPlace, firstCell}
+use Rattle.decision.specs.Lists.{count}
 use Rattle.decision.specs.Callback.{writesBack, invalidates}
 use Rattle.protocol.specs.Client.{kept, sent}
-use Rattle.blocks.specs.Stores.{lent, droppedUnless, answeredStores}
+use Rattle.blocks.specs.Stores.{lent, sentBlocks, droppedUnless, answeredStores}
 
 module _ (n i f : ℕ) (blocks copies : List ℕ) (held dirty : List Bool) where
   pub dropped :
@@ -17,6 +19,13 @@ module _ (n i f : ℕ) (blocks copies : List ℕ) (held dirty : List Bool) where
       → dirty′ ≡ kept n keep false base dirty
       → lent blocks copies′ held′ dirty′ ≡ droppedUnless n keep i f (lent blocks copies held dirty)
   dropped keep base copies′ held′ dirty′ at c h d = rw (c, h, d, at)
+
+  pub sent-blocks :
+      (kind base told : ℕ)
+      → base ≡ firstCell i f
+      → told ≡ cond (writesBack kind) (count n (λ b. getD dirty (base + b) false)) 0
+      → told ≡ sentBlocks n kind i f (lent blocks copies held dirty)
+  sent-blocks kind base told at counts = rw (counts, at)
 
   pub answered :
       (kind base to : ℕ) (blocks′ copies′ : List ℕ) (held′ dirty′ : List Bool)

@@ -18,7 +18,7 @@ use Rattle.protocol.specs.Entry.{callTo, callsOut, callsFor, callsDue, waitingE
 use Rattle.protocol.specs.Entry.{closedEntry, flushedEntry, answeredEntry}
 use Rattle.protocol.specs.Client.{sideOf, withSide, grantedClient, keepsBlocks, closedClient, flushedClient, answeredClient}
 use Rattle.protocol.specs.Refusal.{Test, tested, openTests, closeTests, flushTests, answerTests}
-use Rattle.blocks.specs.Stores.{Stores, lent, dirtyIn, anyDirty, droppedUnless, answeredStores, flushedStores}
+use Rattle.blocks.specs.Stores.{Stores, lent, dirtyIn, anyDirty, sentBlocks, droppedUnless, answeredStores, flushedStores}
 use Rattle.file.specs.declared.file.SharedFile.{SharedFile}
 use Rattle.file.specs.declared.file.FileOutcome.{FileOutcome}
 
@@ -101,7 +101,7 @@ afterFlush z x a i f b =
 
 -- ---- answering
 
--- client i has answered its callback of the kind
+-- client i has answered its callback of the kind, and tells how many blocks it sent
 abbrev pub answered : Sizes → ℕ → SharedFile → Stores → ℕ → ℕ → FileAfter
 answered z f x a i kind =
     leaving
@@ -110,21 +110,23 @@ answered z f x a i kind =
       sides = withSide (x .sides) i (answeredClient kind (sideOf (x .sides) i));
     })
     (answeredStores (z .blocks) kind i f a)
-    Answered
+    (Answered (sentBlocks (z .blocks) kind i f a))
 
--- the open that waits is granted
-abbrev pub waiterGranted : Sizes → ℕ → SharedFile → Stores → FileAfter
-waiterGranted z f x a =
+-- the open that waits is granted, by an answer that sent so many blocks
+abbrev pub waiterGranted : Sizes → ℕ → ℕ → SharedFile → Stores → FileAfter
+waiterGranted z f sent x a =
     let g = grantOf (z .clients) (x .entry) (x .entry .waiter) (x .entry .mode) in
-    granted z f x a (x .entry .waiter) (x .entry .mode) g (AnsweredGrant (x .entry .waiter) g)
+    granted z f x a (x .entry .waiter) (x .entry .mode) g (AnsweredGrant sent (x .entry .waiter) g)
 
 -- "granted in the step in which the last called station replies"
-abbrev pub grantedIfLast : Sizes → ℕ → FileAfter → FileAfter
-grantedIfLast z f o =
-    cond (eqb (callsOut (z .clients) (o .file .entry)) 0) (waiterGranted z f (o .file) (o .stores)) o
+abbrev pub grantedIfLast : Sizes → ℕ → ℕ → FileAfter → FileAfter
+grantedIfLast z f sent o =
+    cond (eqb (callsOut (z .clients) (o .file .entry)) 0) (waiterGranted z f sent (o .file) (o .stores)) o
 
 abbrev pub afterAnswer : Sizes → SharedFile → Stores → ℕ → ℕ → FileAfter
-afterAnswer z x a i f = grantedIfLast z f (answered z f x a i (callTo (z .clients) (x .entry) i))
+afterAnswer z x a i f =
+    let kind = callTo (z .clients) (x .entry) i in
+    grantedIfLast z f (sentBlocks (z .blocks) kind i f a) (answered z f x a i kind)
 
 -- ---- a step
 

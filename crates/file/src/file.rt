@@ -307,7 +307,7 @@ impl SharedFile {
         let sides = self.sides;
         let own = sides.side(client);
         let kind = before.call_to(sizes.clients, client);
-        answer_blocks(
+        let sent = answer_blocks(
             kind,
             sizes.blocks,
             first_cell(client, file),
@@ -323,7 +323,7 @@ impl SharedFile {
         };
         let entry = answered.entry;
         if entry.calls_out(sizes.clients) != 0 {
-            return answered.replied(Reply::Answered);
+            return answered.replied(Reply::Answered(sent));
         }
         let waiter = entry.waiter;
         let opener = waiter as usize;
@@ -335,7 +335,7 @@ impl SharedFile {
             file,
             mode,
             grant,
-            Reply::AnsweredGrant(waiter, grant),
+            Reply::AnsweredGrant(sent, waiter, grant),
             blocks,
             copies,
             held,

@@ -17,18 +17,19 @@ letterOf (Granted g) = 71
 letterOf Waiting = 87
 letterOf (Value v) = 86
 letterOf (Refused k) = 78
-letterOf Answered = 65
-letterOf (AnsweredGrant i g) = 65
+letterOf (Answered n) = 65
+letterOf (AnsweredGrant n i g) = 65
 letterOf Done = 75
 
--- the numbers that follow the letter; those of Waiting are its calls, which stand beside the reply
+-- the numbers that follow the letter; those of Waiting are its calls, which stand beside the reply. How many blocks came
+-- back is printed "directly after A, before any grant" (document 02, Wish 5).
 abbrev pub valuesOf : Reply → List ℕ
 valuesOf (Granted g) = grantValues g
 valuesOf Waiting = []
 valuesOf (Value v) = v ∷ []
 valuesOf (Refused k) = k ∷ []
-valuesOf Answered = []
-valuesOf (AnsweredGrant i g) = i ∷ grantValues g
+valuesOf (Answered n) = n ∷ []
+valuesOf (AnsweredGrant n i g) = n ∷ i ∷ grantValues g
 valuesOf Done = []
 
 -- "A step is accepted when its reply is not a refusal; an open that waits is accepted."
@@ -37,6 +38,6 @@ isRefused (Granted g) = false
 isRefused Waiting = false
 isRefused (Value v) = false
 isRefused (Refused k) = true
-isRefused Answered = false
-isRefused (AnsweredGrant i g) = false
+isRefused (Answered n) = false
+isRefused (AnsweredGrant n i g) = false
 isRefused Done = false

@@ -17,10 +17,10 @@ pub enum Reply {
     Value(u64),
     // Refused, for document 01's number.
     Refused(u8),
-    // The callback is answered, and others are still out.
-    Answered,
-    // The callback is answered, and this client's waiting open is granted.
-    AnsweredGrant(u8, Grant),
+    // The callback is answered with so many blocks, and others are still out.
+    Answered(usize),
+    // The callback is answered with so many blocks, and this client's waiting open is granted.
+    AnsweredGrant(usize, u8, Grant),
     // Done: a close, a write, a flush, a crash, a report, or the end of recovery.
     Done,
 }

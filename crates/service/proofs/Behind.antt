@@ -75,7 +75,7 @@ pub record Behind : Type 0 where
   pub whileWriting : state (OW 0 0 ∷ WR 0 0 0 5 ∷ FL 0 0 0 ∷ []) ≡ OneWriter
   -- "A call already out is still replied to": also when its reason is gone
   pub stillWaits : reply called (OR 2 0) ≡ Refused 9
-  pub answered : reply called (AN 0 0) ≡ AnsweredGrant 1 (grant 2 1)
+  pub answered : reply called (AN 0 0) ≡ AnsweredGrant 0 1 (grant 2 1)
   pub value : reply (called ++ (AN 0 0 ∷ [])) (RD 1 0 0) ≡ Value 5
   -- a crash between the flush and the answer: the recovered table has no last writer
   pub crashed : last (called ++ (XX ∷ recovered)) ≡ nobody

@@ -19,6 +19,7 @@ use Rattle.protocol.specs.Client.{grantedClient, keepsBlocks, closedClient, flu
 use Rattle.protocol.proofs.Seen.{call-seen, grant-seen, waiting-seen, granted-seen, closed-seen, answered-seen}
 use Rattle.protocol.proofs.View.{View, waitingView, grantedView, closedView, settledView, answeredView}
 use Rattle.protocol.proofs.View.{callAnsweredView, waiterGrantedView}
+use Rattle.blocks.specs.Stores.{sentBlocks}
 use Rattle.file.specs.declared.file.SharedFile.{SharedFile}
 use Rattle.file.specs.FileStep.{FileAfter, granted, closedFile, flushedFile, answered, waiterGranted}
 use Rattle.service.specs.declared.service.Service.{Service}
@@ -32,7 +33,10 @@ use Rattle.service.proofs.FileTurn.{FileStep, Turn, turnedView, turned-
 abbrev pub put : Service → ℕ → FileAfter → Service
 put s f o = withFile s f (o .file) (o .stores)
 
--- what client i's answer of the callback that it has leaves
+-- what client i's answer of the callback that it has sends and leaves
+abbrev callSent : Sizes → Service → ℕ → ℕ → ℕ
+callSent z s i f = sentBlocks (z .blocks) (callTo (z .clients) (entryAt s f) i) i f (storesOf s)
+
 abbrev pub callAnswered : Sizes → Service → ℕ → ℕ → FileAfter
 callAnswered z s i f = answered z f (fileAt s f) (storesOf s) i (callTo (z .clients) (entryAt s f) i)
 
@@ -165,10 +169,11 @@ pub lastAnswered-step :
     → f < z .files
     → entryAt s f .waiter < z .clients
     → let o = callAnswered z s i f in
-    FileStep z s (put s f (waiterGranted z f (o .file) (o .stores))) f
+    FileStep z s (put s f (waiterGranted z f (callSent z s i f) (o .file) (o .stores))) f
     (λ b. waiterGrantedView (z .clients) (callAnsweredView (z .clients) (viewOf z s f b) i))
 lastAnswered-step {z} most {s} {i} {f} n hi hf hw =
     let m = z .clients in
+    let sent = callSent z s i f in
     let o : FileAfter = callAnswered z s i f in
     let s′ : Service = put s f o in
     let p = callAnswered-step most n hi hf in
@@ -177,10 +182,10 @@ lastAnswered-step {z} most {s} {i} {f} n hi hf hw =
     let w : ℕ = entryAt s′ f .waiter in
     let e : Entry = entryAt s′ f in
     let q = granted-step most {s = s′} {i = w} (p .sized) (rw waiter hw) hf (e .mode)
-    (AnsweredGrant w (grantOf m e w (e .mode))) in
-    let r : FileStep z s (put s′ f (waiterGranted z f (fileAt s′ f) (storesOf s′))) f _ =
+    (AnsweredGrant sent w (grantOf m e w (e .mode))) in
+    let r : FileStep z s (put s′ f (waiterGranted z f sent (fileAt s′ f) (storesOf s′))) f _ =
     then-step p (as-view q (λ b hb. ap (waiterGrantedView m) (p .here b hb))) in
-    let y : FileAfter = waiterGranted z f (o .file) (o .stores) in
+    let y : FileAfter = waiterGranted z f sent (o .file) (o .stores) in
     subst (λ s″. FileStep z s s″ f (λ b. waiterGrantedView m (callAnsweredView m (viewOf z s f b) i)))
-    (ap (λ x. put s′ f (waiterGranted z f x (o .stores))) is ∙ twice s f (o .file) (y .file) (o .stores) (y .stores))
+    (ap (λ x. put s′ f (waiterGranted z f sent x (o .stores))) is ∙ twice s f (o .file) (y .file) (o .stores) (y .stores))
     r

@@ -99,11 +99,11 @@ lastVersion = withFile (waiting (entry 4294967295 notOpen notOpen 0) 1 Write (ki
 
 pub record Limits : Type 0 where
   -- an open that waited is granted at a count of 255, which stays at both sides
-  pub fullGrant : reply fullCount (AN 0 0) ≡ AnsweredGrant 1 (grant 1 0)
+  pub fullGrant : reply fullCount (AN 0 0) ≡ AnsweredGrant 0 1 (grant 1 0)
   pub fullEntry : entryAfter fullCount (AN 0 0) ≡ entry 1 readingUncached (opens 255 0 true) nobody
   pub fullSide : sideAfter fullCount (AN 0 0) 1 ≡ side (opens 255 0 true) false 1
   -- and at the last version, which stays, and the grant tells the one before too
-  pub lastGrant : reply lastVersion (AN 0 0) ≡ AnsweredGrant 1 (grant 4294967295 4294967294)
+  pub lastGrant : reply lastVersion (AN 0 0) ≡ AnsweredGrant 0 1 (grant 4294967295 4294967294)
   pub lastEntry : entryAfter lastVersion (AN 0 0) ≡ entry 4294967295 notOpen writing nobody
 
 pub limits : Limits
@@ -154,17 +154,17 @@ pub record Waits : Type 0 where
   pub noneCrashed : entryAfter noWaiter XX ≡ entry 1 notOpen notOpen nobody
   -- a kind above 3 is no callback: its answer gets 10, and no grant waits for it
   pub kindAnswer : reply (noKind 4) (AN 0 0) ≡ Refused 10
-  pub kindGrant : reply (noKind 4) (AN 1 0) ≡ AnsweredGrant 2 (grantUncached 2 1)
-  pub kindLargest : reply (noKind 255) (AN 1 0) ≡ AnsweredGrant 2 (grantUncached 2 1)
+  pub kindGrant : reply (noKind 4) (AN 1 0) ≡ AnsweredGrant 0 2 (grantUncached 2 1)
+  pub kindLargest : reply (noKind 255) (AN 1 0) ≡ AnsweredGrant 0 2 (grantUncached 2 1)
   -- an opener that is called answers like any other: it loses its permission, and is granted if it was the last
-  pub openerFirst : reply (openerCalled 2) (AN 1 0) ≡ Answered
-  pub openerLast : reply (openerCalled 0) (AN 1 0) ≡ AnsweredGrant 1 (grantUncached 2 1)
+  pub openerFirst : reply (openerCalled 2) (AN 1 0) ≡ Answered 0
+  pub openerLast : reply (openerCalled 0) (AN 1 0) ≡ AnsweredGrant 0 1 (grantUncached 2 1)
   -- client 0 answers, the last writer is 5: kinds 1 and 3 clear it, kind 2 leaves it
   pub clears1 : entryAfter (calledFor 1) (AN 0 0) ≡ entry 1 notOpen reading nobody
   pub clears3 : entryAfter (calledFor 3) (AN 0 0) ≡ entry 1 notOpen reading nobody
   pub leaves2 : entryAfter (calledFor 2) (AN 0 0) ≡ entry 1 notOpen reading 5
   -- permission is judged at the grant: a writer that was called to write back alone still shuts it out
-  pub judged : reply stillWriting (AN 0 0) ≡ AnsweredGrant 1 (grantUncached 1 0)
+  pub judged : reply stillWriting (AN 0 0) ≡ AnsweredGrant 0 1 (grantUncached 1 0)
 
 pub waits : Waits
 unfolding fresh stepOf fileStep blockStep tableStep stateOf permissionAtGrant count stored
@@ -206,7 +206,7 @@ pub record Recoveries : Type 0 where
   pub storedAnswer : reply waitStored (AN 2 0) ≡ Refused 5
   -- the end leaves the wait and its callbacks: opens then get 9, and the last answer grants it
   pub storedEnd : reply (after waitStored recovered) (OR 2 0) ≡ Refused 9
-  pub storedGrant : reply (after waitStored recovered) (AN 0 0) ≡ AnsweredGrant 1 (grant 2 1)
+  pub storedGrant : reply (after waitStored recovered) (AN 0 0) ≡ AnsweredGrant 0 1 (grant 2 1)
   -- an end clears the reports
   pub cleared : stepOf (allReported true) EN .service .server .table .reported ≡ replicate maxClients false
   -- a running server looks at no report: a report and an end get 6, and a crash takes the reports away

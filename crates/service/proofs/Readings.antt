@@ -41,7 +41,7 @@ pub record Readings : Type 0 where
   pub readsToo : answerAfter freshDefault (OW 0 0 ∷ []) (RD 0 0 0) ≡ Value 0
   -- the version before 1 is 0
   pub beforeFirst : answerAfter freshDefault [] (OR 0 0) ≡ Granted (grant 1 0)
-  -- a flush is allowed while an open waits, and leaves the callback due, the flag and the last writer
+  -- a flush is allowed while an open waits, and leaves the callback due, which then brings no block
   pub flushWhileWaiting :
       replies freshDefault (OW 0 0 ∷ WR 0 0 0 5 ∷ CW 0 0 ∷ OR 1 0 ∷ FL 0 0 0 ∷ AN 0 0 ∷ RD 1 0 0 ∷ [])
       ≡ Granted (grant 2 1)
@@ -49,7 +49,7 @@ pub record Readings : Type 0 where
       ∷ Done
       ∷ Waiting
       ∷ Done
-      ∷ AnsweredGrant 1 (grant 2 1)
+      ∷ AnsweredGrant 0 1 (grant 2 1)
       ∷ Value 5
       ∷ []
   -- a called client goes on reading and writing its copy until it answers
@@ -59,7 +59,7 @@ pub record Readings : Type 0 where
       ∷ Waiting
       ∷ Done
       ∷ Value 6
-      ∷ AnsweredGrant 1 (grantUncached 2 1)
+      ∷ AnsweredGrant 1 1 (grantUncached 2 1)
       ∷ Value 6
       ∷ []
   -- a report without the flag leaves the last writer as it is

@@ -71,10 +71,10 @@ pub record Chosen : Type 0 where
   pub latest :
       replies (after opened recovery) (OR 1 0 ∷ AN 0 0 ∷ RD 1 0 0 ∷ OR 1 2 ∷ AN 2 2 ∷ RD 1 2 2 ∷ [])
       ≡ Waiting
-      ∷ AnsweredGrant 1 (grant 2 1)
+      ∷ AnsweredGrant 1 1 (grant 2 1)
       ∷ Value 5
       ∷ Waiting
-      ∷ AnsweredGrant 1 (grantUncached 2 1)
+      ∷ AnsweredGrant 1 1 (grantUncached 2 1)
       ∷ Value 9
       ∷ []
 

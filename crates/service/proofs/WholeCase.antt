@@ -25,7 +25,7 @@ pub record WholeCase : Type 0 where
       ∷ Done
       ∷ Waiting
       ∷ Refused 11
-      ∷ AnsweredGrant 1 (grant 2 1)
+      ∷ AnsweredGrant 1 1 (grant 2 1)
       ∷ Value 77
       ∷ Waiting
       ∷ []

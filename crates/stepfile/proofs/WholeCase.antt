@@ -22,7 +22,7 @@ pub record WholeCase : Type 0 where
   pub empty : played (bytes "") ≡ bytes "files 0\n"
   pub case :
       played (bytes "OW 0 3\nWR 0 3 0 77\nCW 0 3\nOR 1 3\nRD 1 3 0\nAN 0 3\nRD 1 3 0\nOW 2 3\n")
-      ≡ bytes "1 G 2 1 1\n2 K\n3 K\n4 W 0:1\n5 N 11\n6 A 1 2 1 1\n7 V 77\n8 W 1:2\nfiles 1\n3 2 2 -\n"
+      ≡ bytes "1 G 2 1 1\n2 K\n3 K\n4 W 0:1\n5 N 11\n6 A 1 1 2 1 1\n7 V 77\n8 W 1:2\nfiles 1\n3 2 2 -\n"
   -- "in ascending station number" (document 02, Wish 1), in whichever order the stations opened the file
   pub calls :
       played (bytes "OR 5 0\nOR 2 0\nOR 7 0\nOW 0 0\n")

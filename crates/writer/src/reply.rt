@@ -66,8 +66,8 @@ fn letter_of(reply: Reply) -> u8
         Reply::Waiting => b'W',
         Reply::Value(_) => b'V',
         Reply::Refused(_) => b'N',
-        Reply::Answered => b'A',
-        Reply::AnsweredGrant(_, _) => b'A',
+        Reply::Answered(_) => b'A',
+        Reply::AnsweredGrant(_, _, _) => b'A',
         Reply::Done => b'K',
     }
 }
@@ -93,9 +93,10 @@ fn put_fields(out: &mut [u8], at: usize, reply: Reply, calls: [u8; MAX_CLIENTS])
         Reply::Waiting => put_calls(out, at, calls),
         Reply::Value(value) => put_argument(out, at, value),
         Reply::Refused(refusal) => put_argument(out, at, refusal as u64),
-        Reply::Answered => at,
-        Reply::AnsweredGrant(client, grant) => {
-            let granted = put_argument(out, at, client as u64);
+        Reply::Answered(sent) => put_argument(out, at, sent as u64),
+        Reply::AnsweredGrant(sent, client, grant) => {
+            let opener = put_argument(out, at, sent as u64);
+            let granted = put_argument(out, opener, client as u64);
             put_grant(out, granted, grant)
         }
         Reply::Done => at,

@@ -37,6 +37,11 @@ impl Copies {
         self.dirty[..sizes.blocks].contains(&true)
     }
 
+    /// How many blocks in force are dirty.
+    pub fn count_dirty(&self, sizes: Sizes) -> usize {
+        self.dirty[..sizes.blocks].iter().filter(|&&dirty| dirty).count()
+    }
+
     /// "A dropped block is not held, not dirty and zero."
     fn drop_blocks(&mut self, sizes: Sizes) {
         self.values[..sizes.blocks].fill(0);

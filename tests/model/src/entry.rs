@@ -117,8 +117,8 @@ impl Entry {
         }
     }
 
-    /// The server's part of a flush: "the flush of the last dirty block clears .., if the station is last writer, that".
-    /// A callback that is out stays out.
+    /// The server's part of a flush: "the flush of the last dirty block clears .., if the station is last writer,
+    /// that". A callback that is out stays out.
     pub fn flushed(&mut self, client: usize, dirty: bool) {
         if !dirty && self.last_writer == ClientField::of(client) {
             self.last_writer = ClientField::NONE;

@@ -11,8 +11,12 @@ pub enum Outcome {
     /// The value of a read: `V`.
     Value(u64),
     Refused(Refusal),
-    /// A callback reply, with the opener and its grant if this was the last one: `A`.
-    Replied(Option<(usize, Grant)>),
+    /// A callback reply, with the number of blocks that it sent, and the opener and its grant if this was the last one:
+    /// `A`.
+    Replied {
+        sent: usize,
+        granted: Option<(usize, Grant)>,
+    },
     /// Any other accepted step, and a line SET: `K`.
     Done,
 }

@@ -96,11 +96,14 @@ impl Text<'_> {
                 self.bytes(b" N ");
                 self.number(refusal.number() as u64);
             }
-            Outcome::Replied(None) => self.bytes(b" A"),
-            Outcome::Replied(Some((opener, grant))) => {
+            Outcome::Replied { sent, granted } => {
                 self.bytes(b" A ");
-                self.number(*opener as u64);
-                self.grant(grant);
+                self.number(*sent as u64);
+                if let Some((opener, grant)) = granted {
+                    self.byte(b' ');
+                    self.number(*opener as u64);
+                    self.grant(grant);
+                }
             }
             Outcome::Done => self.bytes(b" K"),
         }

@@ -89,6 +89,10 @@ pub trait Rules {
     fn flushed_at_client(file: &mut ClientFile, dirty: bool) {
         file.flushed(dirty);
     }
+    /// The number of blocks that a callback reply tells, asked for just before it.
+    fn blocks_sent(service: &Service, client: usize, file: usize, kind: Kind) -> usize {
+        service.blocks_to_send(client, file, kind)
+    }
     fn answer_at_client(sizes: Sizes, file: &mut ClientFile, kind: Kind, server: &mut [u64; BLOCKS]) {
         file.answer(sizes, kind, server);
     }

@@ -1,7 +1,7 @@
 //! The server's end and the clients' ends together: one step at a time, changed in place.
 
 use crate::{
-    CLIENTS, Callbacks, Client, Grant, Mode, Outcome, Refusal, Rules, Server, Settings, Sizes, Step, WaitingOpen,
+    CLIENTS, Callbacks, Client, Grant, Kind, Mode, Outcome, Refusal, Rules, Server, Settings, Sizes, Step, WaitingOpen,
 };
 
 #[derive(Clone, PartialEq, Eq, Debug)]
@@ -38,6 +38,12 @@ impl Service {
     /// Whether this client has a dirty block of this file.
     pub fn any_dirty(&self, client: usize, file: usize) -> bool {
         self.clients[client].files[file].copies.any_dirty(self.sizes())
+    }
+
+    /// How many blocks an answer to a callback of this kind sends: "for kinds 1 and 3 .. the dirty blocks of that file
+    /// there just before the reply; an invalidation alone gives 0" (document 02, Wish 5).
+    pub fn blocks_to_send(&self, client: usize, file: usize, kind: Kind) -> usize {
+        if kind.writes_back() { self.clients[client].files[file].copies.count_dirty(self.sizes()) } else { 0 }
     }
 
     #[inline(always)]
@@ -92,12 +98,13 @@ impl Service {
         let kind = R::may_reply(self, client, file)?;
         let (client, file) = (client as usize, file as usize);
         let sizes = self.sizes();
+        let sent = R::blocks_sent(self, client, file, kind);
         let entry = &mut self.server.entries[file];
         R::answer_at_client(sizes, &mut self.clients[client].files[file], kind, &mut entry.blocks);
         R::answer_at_server(entry, client, kind);
         let due = entry.waiting.read(sizes).filter(|waiting| waiting.callbacks.is_empty());
         let granted = due.map(|open| (open.opener, self.grant::<R>(open.opener, file, open.mode)));
-        Ok(Outcome::Replied(granted))
+        Ok(Outcome::Replied { sent, granted })
     }
 
     fn read<R: Rules>(&mut self, client: u64, file: u64, block: u64) -> Answer {

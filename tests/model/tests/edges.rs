@@ -13,7 +13,7 @@ const WHOLE_CASE: [(&str, &str); 8] = [
     ("CW 0 3", "K"),
     ("OR 1 3", "W 0:1"),
     ("RD 1 3 0", "N 11"),
-    ("AN 0 3", "A 1 2 1 1"),
+    ("AN 0 3", "A 1 1 2 1 1"),
     ("RD 1 3 0", "V 77"),
     ("OW 2 3", "W 1:2"),
 ];
@@ -95,7 +95,7 @@ fn after_the_listing_xx_then_an_1_3_gets_5() {
 }
 
 const BROKEN_OFF: [(&str, &str); 4] =
-    [("OR 1 0", "G 1 0 1"), ("OR 2 0", "G 1 0 1"), ("OW 3 0", "W 1:2 2:2"), ("AN 1 0", "A")];
+    [("OR 1 0", "G 1 0 1"), ("OR 2 0", "G 1 0 1"), ("OW 3 0", "W 1:2 2:2"), ("AN 1 0", "A 0")];
 
 #[test]
 fn broken_off_invalidation_is_write_shared() {

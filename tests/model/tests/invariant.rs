@@ -3,8 +3,8 @@
 use model::check::{CLAUSES, Demand3, Invariant, Tally, Witness, broken_clauses};
 use model::generate::{FileKind, step_file};
 use model::{
-    Callbacks, ClientField, ClientSet, Document01, Kind, Mode, Record, Refusal, Service, Step, VersionField, WaitField,
-    WaitingOpen, replay,
+    BLOCKS, Callbacks, ClientField, ClientSet, Document01, Kind, Mode, Record, Refusal, Service, Step, VersionField,
+    WaitField, WaitingOpen, replay,
 };
 
 /// Plays seeded files under the invariant; tells what they met.
@@ -28,7 +28,7 @@ fn hold_with(tally: &mut Tally, kind: FileKind, seed: u64, lines: usize) {
 fn hot_files_keep_the_invariant() {
     let tally = hold(FileKind::Hot, 0..48, 2000);
     assert!(tally.waits() > 1000 && tally.recoveries() > 500);
-    assert!(tally.behind().least() > 100, "{}", tally.behind());
+    assert!(tally.behind().least() > 50, "{}", tally.behind());
     let met = |number| tally.refused(number) > 10;
     use Refusal::*;
     assert!([NoSuchClient, NoSuchFile, NoSuchBlock, Recovering, NotRecovering, AlreadyReported].into_iter().all(met));
@@ -50,6 +50,7 @@ fn files_with_settings_keep_the_invariant() {
         }
     }
     assert!(tally.refused(Refusal::SettingOutOfRange) > 10);
+    assert!((0..=BLOCKS).all(|sent| tally.replies(sent) > 5), "{tally}");
     assert!(tally.waits() > 1000 && tally.recoveries() > 200);
 }
 

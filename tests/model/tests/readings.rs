@@ -35,7 +35,7 @@ fn reading_3_a_closed_station_in_recovery_gets_5() {
 fn reading_4_the_summary_is_the_table_as_it_stands() {
     check(&[("OW 0 0", "G 2 1 1"), ("XX", "K")], &["files 1", "0 0 2 -"]);
     check(
-        &[("OR 1 0", "G 1 0 1"), ("OR 2 0", "G 1 0 1"), ("OW 3 0", "W 1:2 2:2"), ("AN 1 0", "A")],
+        &[("OR 1 0", "G 1 0 1"), ("OR 2 0", "G 1 0 1"), ("OW 3 0", "W 1:2 2:2"), ("AN 1 0", "A 0")],
         &["files 1", "0 6 1 -"],
     );
 }
@@ -75,7 +75,7 @@ fn reading_8_the_previous_version_of_1_is_0() {
 fn reading_9_a_flush_leaves_the_call_due() {
     let flushed = [("OW 0 0", "G 2 1 1"), ("WR 0 0 0 7", "K"), ("CW 0 0", "K"), ("OR 1 0", "W 0:1"), ("FL 0 0 0", "K")];
     check(&flushed, &["files 1", "0 0 2 -"]);
-    check(&[&flushed[..], &[("AN 0 0", "A 1 2 1 1"), ("RD 1 0 0", "V 7")]].concat(), &["files 1", "0 2 2 -"]);
+    check(&[&flushed[..], &[("AN 0 0", "A 0 1 2 1 1"), ("RD 1 0 0", "V 7")]].concat(), &["files 1", "0 2 2 -"]);
 }
 
 #[test]
@@ -86,7 +86,7 @@ fn reading_10_a_called_station_reads_and_writes_until_it_replies() {
             ("OR 1 0", "W 0:3"),
             ("WR 0 0 0 5", "K"),
             ("RD 0 0 0", "V 5"),
-            ("AN 0 0", "A 1 2 1 0"),
+            ("AN 0 0", "A 1 1 2 1 0"),
             ("RD 1 0 0", "V 5"),
         ],
         &["files 1", "0 6 2 -"],
@@ -103,7 +103,7 @@ fn reading_11_a_report_without_a_mark_leaves_the_last_writer() {
 
 #[test]
 fn reading_12_after_a_broken_off_invalidation() {
-    let broken_off = [("OR 1 0", "G 1 0 1"), ("OR 2 0", "G 1 0 1"), ("OW 3 0", "W 1:2 2:2"), ("AN 1 0", "A")];
+    let broken_off = [("OR 1 0", "G 1 0 1"), ("OR 2 0", "G 1 0 1"), ("OW 3 0", "W 1:2 2:2"), ("AN 1 0", "A 0")];
     let then = |next, summary| check(&[&broken_off[..], &RECOVERY, &[next]].concat(), &["files 1", summary]);
     then(("OW 2 0", "G 2 1 0"), "0 6 2 -");
     then(("OR 2 0", "G 1 0 1"), "0 6 1 -");

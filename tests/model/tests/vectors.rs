@@ -18,5 +18,5 @@ fn every_vector_is_met() {
             count += 1;
         }
     }
-    assert!(count > 250);
+    assert!(count > 280);
 }

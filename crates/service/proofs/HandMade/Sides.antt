@@ -5,7 +5,7 @@ use mathlib.Core.Path.{_≡_, refl}
 use mathlib.Core.Bool.{true, false}
 use Rattle.records.specs.declared.record.ClientRecord.{ClientRecord}
 use Rattle.records.specs.declared.record.Mode.the-variants.{Read}
-use Rattle.protocol.specs.declared.reply.Reply.the-variants.{Granted, Value, Refused}
+use Rattle.protocol.specs.declared.reply.Reply.the-variants.{Granted, Value, Refused, AnsweredGrant}
 use Rattle.decision.specs.Sizes.{nobody}
 use Rattle.decision.specs.Lists.{count, stored}
 use Rattle.records.specs.Record.{notOpen}
@@ -136,13 +136,17 @@ pub record Blocks : Type 0 where
   pub flushed : blockAfter (unheld 1) (FL 0 0 0) ≡ 7
   pub flushedCopy : copyAfter (unheld 1) (FL 0 0 0) ≡ (7, false, false)
   pub sent : blockAfter (unheld 1) (AN 0 0) ≡ 7
+  pub sentCounts : reply (unheld 1) (AN 0 0) ≡ AnsweredGrant 1 1 (grantUncached 1 0)
   pub sentCopy : copyAfter (unheld 1) (AN 0 0) ≡ (7, false, false)
   -- a read fetches over it and holds it, and it stays dirty
   pub fetched : reply (unheld 1) (RD 0 0 0) ≡ Value 0
   pub fetchedCopy : copyAfter (unheld 1) (RD 0 0 0) ≡ (0, true, true)
   -- kind 2 drops a dirty block and sends nothing
   pub dropped : blockAfter (unheld 2) (AN 0 0) ≡ 0
+  pub droppedCounts : reply (unheld 2) (AN 0 0) ≡ AnsweredGrant 0 1 (grantUncached 1 0)
   pub droppedCopy : copyAfter (unheld 2) (AN 0 0) ≡ (0, false, false)
+  -- a block that is dirty past the sizes is not sent and does not count
+  pub pastCounts : reply (withCopyOf 4 8 true true (unheld 1)) (AN 0 0) ≡ AnsweredGrant 1 1 (grantUncached 1 0)
   -- a flush looks at the dirty flag alone: the client need not be open
   pub flushedClosed : blockAfter (withCopy 7 true true freshDefault) (FL 0 0 0) ≡ 7
   -- a copy held without permission is not read, and stays
@@ -156,11 +160,14 @@ blocks =
       flushed = refl;
       flushedCopy = refl;
       sent = refl;
+      sentCounts = refl;
       sentCopy = refl;
       fetched = refl;
       fetchedCopy = refl;
       dropped = refl;
+      droppedCounts = refl;
       droppedCopy = refl;
+      pastCounts = refl;
       flushedClosed = refl;
       unread = refl;
       unreadCopy = refl;

@@ -3,7 +3,7 @@
 use std::fmt;
 
 use super::{Behind, Witness};
-use crate::{Outcome, Refusal, Service, Step};
+use crate::{BLOCKS, Outcome, Refusal, Service, Step};
 
 #[derive(Default)]
 pub struct Tally {
@@ -12,6 +12,8 @@ pub struct Tally {
     waits: u64,
     grants_after_waits: u64,
     recoveries: u64,
+    /// Callback replies, by the number of blocks sent.
+    replies: [u64; BLOCKS + 1],
     behind: Behind,
     refusals: [u64; Refusal::LAST_NUMBER + 1],
 }
@@ -31,6 +33,11 @@ impl Tally {
 
     pub fn recoveries(&self) -> u64 {
         self.recoveries
+    }
+
+    /// Callback replies that sent so many blocks.
+    pub fn replies(&self, sent: usize) -> u64 {
+        self.replies[sent]
     }
 
     pub fn behind(&self) -> &Behind {
@@ -55,9 +62,12 @@ impl Witness for Tally {
         match outcome {
             Outcome::Value(_) => self.reads += 1,
             Outcome::Waits(_) => self.waits += 1,
-            Outcome::Replied(Some(_)) => self.grants_after_waits += 1,
+            Outcome::Replied { sent, granted } => {
+                self.replies[*sent] += 1;
+                self.grants_after_waits += u64::from(granted.is_some());
+            }
             Outcome::Refused(refusal) => self.refusals[refusal.number()] += 1,
-            Outcome::Granted(_) | Outcome::Replied(None) | Outcome::Done => {}
+            Outcome::Granted(_) | Outcome::Done => {}
         }
     }
 }
@@ -69,6 +79,8 @@ impl fmt::Display for Tally {
         writeln!(out, "waits {}", self.waits)?;
         writeln!(out, "grants after waits {}", self.grants_after_waits)?;
         writeln!(out, "recoveries completed {}", self.recoveries)?;
+        let replies: Vec<String> = self.replies.iter().enumerate().map(|(n, count)| format!("{n}:{count}")).collect();
+        writeln!(out, "answers by blocks sent {}", replies.join(" "))?;
         writeln!(out, "{}", self.behind)?;
         write!(out, "refusals")?;
         for number in Refusal::NUMBERS {

@@ -3,8 +3,11 @@
 use super::stage::Stage;
 use crate::{ClientFile, Mode, Step};
 
-/// Of so many scenes, one is the broken-off invalidation; the others are of what is left behind.
+/// Of so many scenes, one is the broken-off invalidation.
 const BROKEN_OFF: usize = 3;
+
+/// Of so many others, one is of what an answer sends; the rest are of what is left behind.
+const SENT_BACK: usize = 4;
 
 /// One scene in so many is broken off somewhere.
 const CUT: usize = 4;
@@ -18,7 +21,8 @@ pub fn scene(stage: &mut Stage) -> Vec<Step> {
     let before = put_to_rest(stage, cast.file);
     let mut steps = match before {
         Some(before) if !stage.rng.one_in(BROKEN_OFF) => {
-            let play = *stage.rng.pick(&BEHIND);
+            let plays: &[Play] = if stage.rng.one_in(SENT_BACK) { &SENT } else { &BEHIND };
+            let play = *stage.rng.pick(plays);
             [before, play(&cast)].concat()
         }
         _ => broken_off_invalidation(&cast, stage.rng.one_in(3)),
@@ -52,6 +56,8 @@ struct Cast {
     clients: [u64; 3],
     file: u64,
     blocks: [u64; 2],
+    /// All blocks of the scope.
+    all_blocks: u64,
     value: u64,
     /// All clients, in the order in which they report.
     reporters: Vec<u64>,
@@ -64,7 +70,7 @@ impl Cast {
         let all = stage.sizes().clients;
         let turn = stage.rng.below(all);
         let reporters = (0..all).map(|client| ((client + turn) % all) as u64).collect();
-        Cast { clients, file, blocks, value, reporters }
+        Cast { clients, file, blocks, all_blocks: stage.blocks_in_scope(), value, reporters }
     }
 
     fn open(&self, mode: Mode, client: usize) -> Step {
@@ -84,8 +90,17 @@ impl Cast {
     }
 
     fn write(&self, block: usize) -> Step {
-        let (client, value) = (self.clients[0], self.value.wrapping_add(block as u64));
-        Step::Write { client, file: self.file, block: self.blocks[block], value }
+        self.write_at(self.blocks[block], block as u64)
+    }
+
+    fn write_at(&self, block: u64, more: u64) -> Step {
+        Step::Write { client: self.clients[0], file: self.file, block, value: self.value.wrapping_add(more) }
+    }
+
+    /// Client 0 opens for write and writes every block.
+    fn all_written(&self) -> Vec<Step> {
+        let writes = (0..self.all_blocks).map(|block| self.write_at(block, block));
+        [self.open(Mode::Write, 0)].into_iter().chain(writes).collect()
     }
 
     fn flush(&self, block: usize) -> Step {
@@ -114,9 +129,27 @@ impl Cast {
     }
 }
 
-/// What client 0 leaves behind when it closes and flushes (document 02, Wish 4), and what client 1 then finds. The file
-/// is CLOSED before.
-const BEHIND: [fn(&Cast) -> Vec<Step>; 17] = [
+/// The file is CLOSED before.
+type Play = fn(&Cast) -> Vec<Step>;
+
+/// What client 0's answer sends (document 02, Wish 5).
+const SENT: [Play; 4] = [
+    // Every block, by a client that has closed, by a writer, and by one that has flushed some.
+    |cast| [cast.all_written(), vec![cast.close(Mode::Write, 0)], cast.next_reader()].concat(),
+    |cast| [cast.all_written(), cast.next_reader()].concat(),
+    |cast| {
+        let called = [cast.open(Mode::Write, 1), cast.flush(0), cast.flush(1), cast.write(1), cast.reply(0)];
+        [cast.all_written(), called.to_vec(), vec![cast.read(1, 0), cast.read(1, 1)]].concat()
+    },
+    // A block that is held but clean beside a dirty one.
+    |cast| {
+        let held = [cast.open(Mode::Write, 0), cast.read(0, 0), cast.write(1), cast.close(Mode::Write, 0)];
+        [held.to_vec(), cast.next_reader()].concat()
+    },
+];
+
+/// What client 0 leaves behind when it closes and flushes (document 02, Wish 4), and what client 1 then finds.
+const BEHIND: [Play; 17] = [
     // A close with nothing written, by a client that has read, and by one that goes on reading.
     |cast| [vec![cast.open(Mode::Write, 0), cast.read(0, 0), cast.close(Mode::Write, 0)], cast.next_reader()].concat(),
     |cast| {

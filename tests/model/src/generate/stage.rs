@@ -122,6 +122,10 @@ impl Stage {
         self.rng.below(self.scope.blocks) as u64
     }
 
+    pub fn blocks_in_scope(&self) -> u64 {
+        self.scope.blocks as u64
+    }
+
     /// Two blocks, different ones where the scope has so many.
     pub fn some_blocks(&mut self) -> [u64; 2] {
         let first = self.some_block();

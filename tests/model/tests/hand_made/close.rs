@@ -1,6 +1,6 @@
-//! Closes where the two ends differ. "Close in a mode lowers that count by 1. .. A final close takes its permission away;
-//! its copy stays." "A close of the last writer count with permission sets mark and last writer if a block is dirty, else
-//! clears both" (document 02, Wish 4).
+//! Closes where the two ends differ. "Close in a mode lowers that count by 1. .. A final close takes its permission
+//! away; its copy stays." "A close of the last writer count with permission sets mark and last writer if a block is
+//! dirty, else clears both" (document 02, Wish 4).
 
 use model::{ClientField, Copies, Mode, Record, Step};
 

@@ -20,15 +20,15 @@ fn a_flush_sends_a_dirty_block_that_is_not_held() {
 /// "1 sends every dirty block, each then clean and still held": held or not as it was.
 #[test]
 fn a_write_back_sends_a_dirty_block_that_is_not_held() {
-    let answered = |kind| {
+    let answered = |kind, said| {
         let made = dirty_not_held().wait(2, Mode::Read, &[(0, kind)]);
-        let made = made.plays(&[("AN 0 0", "A 2 1 0 1")], &["files 1", "0 2 1 -"]);
+        let made = made.plays(&[("AN 0 0", said)], &["files 1", "0 2 1 -"]);
         (made.entry().blocks[0], made.client(0).cached_version, made.client(0).copies.clone())
     };
-    assert_eq!(answered(1), (7, 1, block_0(7, false, false)));
-    assert_eq!(answered(3), (7, 0, Copies::default()));
-    // "2 drops the copy": what is dirty is lost.
-    assert_eq!(answered(2), (5, 0, Copies::default()));
+    assert_eq!(answered(1, "A 1 2 1 0 1"), (7, 1, block_0(7, false, false)));
+    assert_eq!(answered(3, "A 1 2 1 0 1"), (7, 0, Copies::default()));
+    // "2 drops the copy": what is dirty is lost, and "an invalidation alone gives 0" (Wish 5).
+    assert_eq!(answered(2, "A 0 2 1 0 1"), (5, 0, Copies::default()));
 }
 
 /// DECISIONS: "a read fetches over it and holds it, and it stays dirty". A flush then sends the fetched value.

@@ -59,7 +59,7 @@ fn a_flush_goes_by_the_clients_block() {
 /// "Calls .. go by the server's" record; the client's own calls nobody.
 #[test]
 fn calls_go_by_the_servers_record() {
-    apart(CLOSED, READER).plays(&[("OW 1 0", "W 0:2"), ("AN 0 0", "A 1 2 1 0")], &["files 1", "0 6 2 -"]);
+    apart(CLOSED, READER).plays(&[("OW 1 0", "W 0:2"), ("AN 0 0", "A 0 1 2 1 0")], &["files 1", "0 6 2 -"]);
     apart(CLOSED, WRITER).plays(&[("OR 1 0", "W 0:3")], &["files 1", "0 5 1 -"]);
     apart(WRITER, CLOSED).plays(&[("OW 1 0", "G 2 1 1")], &["files 1", "0 5 2 -"]);
     apart(WRITER, READER).plays(&[("OR 1 0", "G 1 0 1")], &["files 1", "0 4 1 -"]);
@@ -76,7 +76,7 @@ fn the_last_writer_is_the_servers() {
     HandMade::fresh().flagged(0).plays(&[("OR 1 0", "G 1 0 1")], &["files 1", "0 2 1 -"]);
     let answered = HandMade::fresh()
         .last_writer(0)
-        .plays(&[("OR 1 0", "W 0:1"), ("AN 0 0", "A 1 1 0 1")], &["files 1", "0 2 1 -"]);
+        .plays(&[("OR 1 0", "W 0:1"), ("AN 0 0", "A 0 1 1 0 1")], &["files 1", "0 2 1 -"]);
     assert_eq!(answered.entry().last_writer, ClientField::NONE);
 }
 
@@ -126,7 +126,7 @@ fn a_grant_raises_each_count() {
 fn an_invalidation_takes_permission_at_both_ends() {
     for (at_client, at_server) in [(READER, uncached(READER)), (uncached(READER), READER), (READER, READER)] {
         let made = apart(at_client, at_server).wait(2, Mode::Write, &[(0, 2)]);
-        let answered = made.plays(&[("AN 0 0", "A 2 2 1 0")], &["files 1", "0 6 2 -"]);
+        let answered = made.plays(&[("AN 0 0", "A 0 2 2 1 0")], &["files 1", "0 6 2 -"]);
         assert_eq!((answered.client(0).record, answered.entry().records[0]), (uncached(READER), uncached(READER)));
     }
 }

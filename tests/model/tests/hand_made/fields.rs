@@ -91,8 +91,8 @@ fn a_version_of_0_is_granted_as_1() {
 #[test]
 fn a_version_of_0_is_granted_as_1_after_a_wait() {
     let waiting = |mode| HandMade::fresh().version(0).wait(2, mode, &[(0, 1)]);
-    waiting(Mode::Read).plays(&[("AN 0 0", "A 2 1 0 1")], &["files 1", "0 2 1 -"]);
-    waiting(Mode::Write).plays(&[("AN 0 0", "A 2 2 1 1")], &["files 1", "0 5 2 -"]);
+    waiting(Mode::Read).plays(&[("AN 0 0", "A 0 2 1 0 1")], &["files 1", "0 2 1 -"]);
+    waiting(Mode::Write).plays(&[("AN 0 0", "A 0 2 2 1 1")], &["files 1", "0 5 2 -"]);
 }
 
 /// DECISIONS: the summary prints "1, and a CLOSED file with it is not listed". "Versions and blocks survive a crash."
@@ -109,7 +109,7 @@ fn a_version_of_0_prints_as_1() {
 fn a_kind_above_3_is_no_callback() {
     for kind in [4, 5, 6, 7, 128, 129, 130, 131, 255] {
         let made = HandMade::fresh().at_both_ends(1, READER).wait(2, Mode::Read, &[(0, 1), (1, kind)]);
-        let answered = made.plays(&[("AN 1 0", "N 10"), ("AN 0 0", "A 2 1 0 1")], &["files 1", "0 4 1 -"]);
+        let answered = made.plays(&[("AN 1 0", "N 10"), ("AN 0 0", "A 0 2 1 0 1")], &["files 1", "0 4 1 -"]);
         assert_eq!(answered.client(1).record, READER);
         assert_eq!(answered.entry().waiting, WaitField::NONE);
     }

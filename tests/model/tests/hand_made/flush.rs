@@ -1,5 +1,5 @@
-//! Flushes of the last dirty block. "The flush of the last dirty block clears the mark and, if the station is last writer,
-//! that. A call already out is still replied to" (document 02, Wish 4).
+//! Flushes of the last dirty block. "The flush of the last dirty block clears the mark and, if the station is last
+//! writer, that. A call already out is still replied to" (document 02, Wish 4).
 
 use model::{ClientField, Copies, Mode, Step};
 
@@ -73,6 +73,6 @@ fn a_callback_stays_out_when_its_reason_is_gone() {
     for kind in [1, 2, 3] {
         let flushed = marked(&[0], 0).wait(2, Mode::Read, &[(0, kind)]).takes(FLUSH);
         assert_eq!((marks(&flushed), flushed.entry().waiting.callbacks.0[0]), ((false, ClientField::NONE), kind));
-        flushed.plays(&[("OR 1 0", "N 9"), ("AN 0 0", "A 2 1 0 1")], &["files 1", "0 2 1 -"]);
+        flushed.plays(&[("OR 1 0", "N 9"), ("AN 0 0", "A 0 2 1 0 1")], &["files 1", "0 2 1 -"]);
     }
 }

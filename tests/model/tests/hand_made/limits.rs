@@ -14,7 +14,7 @@ fn readers(readers: u8) -> Record {
 /// DECISIONS: "A count of 255 .. stay[s] as [it is]".
 #[test]
 fn a_grant_after_a_wait_leaves_a_count_of_255() {
-    for (mode, said, summary) in [(Mode::Read, "A 2 1 0 1", "0 5 1 -"), (Mode::Write, "A 2 2 1 1", "0 5 2 -")] {
+    for (mode, said, summary) in [(Mode::Read, "A 0 2 1 0 1", "0 5 1 -"), (Mode::Write, "A 0 2 2 1 1", "0 5 2 -")] {
         let made = HandMade::fresh().at_both_ends(2, FULL).wait(2, mode, &[(0, 1)]);
         let granted = made.plays(&[("AN 0 0", said)], &["files 1", summary]);
         assert_eq!(granted.entry().records[2], FULL);
@@ -45,7 +45,7 @@ fn a_full_count_of_the_other_mode_does_not_matter() {
 #[test]
 fn a_write_open_granted_after_a_wait_leaves_the_version_at_its_limit() {
     let made = HandMade::fresh().version(u32::MAX).last_writer(5).wait(0, Mode::Write, &[(1, 2)]);
-    let answer = [("AN 1 0", "A 0 4294967295 4294967294 1")];
+    let answer = [("AN 1 0", "A 0 0 4294967295 4294967294 1")];
     let summary = ["files 1", "0 5 4294967295 -"];
     let granted = made.clone().plays(&answer, &summary);
     assert_eq!(granted.entry().version, VersionField(u32::MAX));
@@ -70,7 +70,7 @@ fn at_its_limit_a_version_refuses_write_opens_alone() {
 #[test]
 fn a_version_below_its_limit_rises_once_more_after_a_wait() {
     let made = HandMade::fresh().version(u32::MAX - 1).wait(2, Mode::Write, &[(0, 3)]);
-    let said = [("AN 0 0", "A 2 4294967295 4294967294 1"), ("OW 2 0", "N 14")];
+    let said = [("AN 0 0", "A 0 2 4294967295 4294967294 1"), ("OW 2 0", "N 14")];
     made.plays(&said, &["files 1", "0 5 4294967295 -"]);
 }
 

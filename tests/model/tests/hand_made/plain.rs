@@ -1,5 +1,5 @@
-//! Document 01 and the wishes of document 02 that have landed, read once more: plainly, apart from the model's own rules,
-//! and for any service.
+//! Document 01 and the wishes of document 02 that have landed, read once more: plainly, apart from the model's own
+//! rules, and for any service.
 
 use model::{
     CLIENTS, Callbacks, ClientField, ClientFile, Entry, Grant, Mode, Outcome, Record, Service, Sizes, Step,
@@ -219,8 +219,8 @@ impl<'a> File<'a> {
         grant
     }
 
-    /// "A close of the last writer count with permission sets mark and last writer if a block is dirty, else clears both"
-    /// (Wish 4). "A station's own change go[es] by the station's record; .. the table go[es] by the server's."
+    /// "A close of the last writer count with permission sets mark and last writer if a block is dirty, else clears
+    /// both" (Wish 4). "A station's own change go[es] by the station's record; .. the table go[es] by the server's."
     fn close(&mut self, client: usize, mode: Mode) -> Outcome {
         let any_dirty = self.any_dirty(client);
         if lower(&mut self.clients[client].record, mode) {
@@ -238,12 +238,17 @@ impl<'a> File<'a> {
     }
 
     /// "1 sends every dirty block, each then clean and still held, and clears mark and last writer; 2 drops the copy,
-    /// label 0, permission gone; 3 is 1, then 2."
+    /// label 0, permission gone; 3 is 1, then 2." "Writing back now tells how many blocks it sent" (Wish 5).
     fn reply(&mut self, client: usize) -> Outcome {
         let kind = std::mem::take(&mut self.entry.waiting.callbacks.0[client]);
+        let mut sent = 0;
         if kind != 2 {
-            let dirty = self.clients[client].copies.dirty;
-            (0..self.sizes.blocks).filter(|&block| dirty[block]).for_each(|block| self.send(client, block));
+            for block in 0..self.sizes.blocks {
+                if self.clients[client].copies.dirty[block] {
+                    self.send(client, block);
+                    sent += 1;
+                }
+            }
             (self.clients[client].last_writer_flag, self.entry.last_writer) = (false, ClientField::NONE);
         }
         if kind != 1 {
@@ -255,7 +260,7 @@ impl<'a> File<'a> {
         let (opener, mode) = (usize::from(self.entry.waiting.opener.0), self.entry.waiting.mode);
         let kinds = &self.entry.waiting.callbacks.0[..self.sizes.clients];
         let was_last = !kinds.iter().any(|kind| (1..=3).contains(kind));
-        Outcome::Replied(was_last.then(|| (opener, self.grant(opener, mode))))
+        Outcome::Replied { sent, granted: was_last.then(|| (opener, self.grant(opener, mode))) }
     }
 
     /// "A station that may cache gives the held block, or fetches and holds it. Without permission the server's block is

@@ -1,8 +1,8 @@
 //! What holds of every step from every service, hand-made or not.
 
 use model::{
-    CLIENTS, Callbacks, ClientField, Document01, Entry, FILES, Mode, Outcome, Record, Service, Settings, Sizes, Step,
-    VersionField,
+    CLIENTS, Callbacks, ClientField, Document01, Entry, FILES, Grant, Mode, Outcome, Record, Service, Settings, Sizes,
+    Step, VersionField,
 };
 
 use crate::sizes::{in_force, with_past_of};
@@ -45,7 +45,7 @@ impl Taken {
         let (client, file) = self.place()?;
         match self.outcome {
             Outcome::Granted(_) => Some((client, file)),
-            Outcome::Replied(granted) => granted.map(|(opener, _)| (opener, file)),
+            Outcome::Replied { granted, .. } => granted.map(|(opener, _)| (opener, file)),
             _ => None,
         }
     }
@@ -62,7 +62,7 @@ pub fn broken(taken: &Taken) -> Option<&'static str> {
 
 type Promise = fn(&Taken) -> bool;
 
-const PROMISES: [(&str, Promise); 12] = [
+const PROMISES: [(&str, Promise); 13] = [
     ("refusals are tested in number order, lowest first", |taken| {
         taken.refusal() == refusals::lowest(&taken.before, &taken.step)
     }),
@@ -90,6 +90,13 @@ const PROMISES: [(&str, Promise); 12] = [
     }),
     ("a step on a file leaves the other files and the other clients alone", leaves_the_rest_alone),
     ("a read and a write leave the table as it is, and a flush all but its own last writer", leaves_the_table),
+    (
+        "an answer tells as many blocks as were dirty before it and are not after it, and an invalidation none",
+        |taken| {
+            let Outcome::Replied { sent, .. } = taken.outcome else { return true };
+            sent == sent_by(taken)
+        },
+    ),
     ("after a grant no open waits and no callback is out", |taken| {
         let after = |file| nothing_waits(taken.sizes().clients, &taken.after.server.entries[file]);
         taken.granted().is_none_or(|(_, file)| after(file))
@@ -114,9 +121,10 @@ fn nothing_waits(clients: usize, entry: &Entry) -> bool {
 }
 
 /// "G latest previous permission; or W and each call; or V value; or N refusal; or A, followed, if an open was granted,
-/// by its station and its G fields; else K."
+/// by its station and its G fields; else K." With A comes the number of blocks that were sent, as many as there are at
+/// the most (Wishes 5 and 7).
 fn has_its_form(taken: &Taken) -> bool {
-    let clients = taken.sizes().clients;
+    let Sizes { clients, blocks, .. } = taken.sizes();
     match (taken.step, taken.outcome) {
         (_, Outcome::Refused(_)) => taken.step != Step::Crash,
         (Step::Open { .. }, Outcome::Granted(grant)) => grant.previous + 1 == grant.latest,
@@ -127,9 +135,9 @@ fn has_its_form(taken: &Taken) -> bool {
                 && called.iter().all(|&kind| kind <= 3)
                 && past.iter().all(|&kind| kind == 0)
         }
-        (Step::Reply { .. }, Outcome::Replied(None)) => true,
-        (Step::Reply { .. }, Outcome::Replied(Some((opener, grant)))) => {
-            opener < clients && grant.previous + 1 == grant.latest
+        (Step::Reply { .. }, Outcome::Replied { sent, granted }) => {
+            let granted_well = |(opener, grant): (usize, Grant)| opener < clients && grant.previous + 1 == grant.latest;
+            sent <= blocks && granted.is_none_or(granted_well)
         }
         (Step::Read { .. }, Outcome::Value(_)) => true,
         (Step::Open { .. } | Step::Reply { .. } | Step::Read { .. }, _) => false,
@@ -154,6 +162,15 @@ fn leaves_the_table(taken: &Taken) -> bool {
     let flushed = matches!(taken.step, Step::Flush { .. }) && before.last_writer == ClientField(client as u8);
     let last_writer = if flushed { after.last_writer } else { before.last_writer };
     *after == Entry { blocks: after.blocks, last_writer, ..before.clone() }
+}
+
+/// The blocks that an answer has made clean, if its callback asked for them.
+fn sent_by(taken: &Taken) -> usize {
+    let Some((client, file)) = taken.place() else { return 0 };
+    let kind = taken.before.server.entries[file].waiting.callbacks.0[client];
+    let dirty = |service: &Service, block| service.clients[client].files[file].copies.dirty[block];
+    let cleaned = |&block: &usize| dirty(&taken.before, block) && !dirty(&taken.after, block);
+    if kind == 2 { 0 } else { (0..taken.sizes().blocks).filter(cleaned).count() }
 }
 
 /// The same service with every field stored as it reads.

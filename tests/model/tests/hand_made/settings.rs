@@ -49,7 +49,7 @@ fn a_last_writer_past_the_clients_is_none() {
 #[test]
 fn a_wait_of_a_client_past_the_clients_is_no_wait() {
     let made = HandMade::fresh().wait(3, Mode::Write, &[(0, 1)]);
-    made.clone().settings(4, 32, 4).plays(&[("OR 1 0", "N 9"), ("AN 0 0", "A 3 2 1 1")], &["files 1", "0 5 2 -"]);
+    made.clone().settings(4, 32, 4).plays(&[("OR 1 0", "N 9"), ("AN 0 0", "A 0 3 2 1 1")], &["files 1", "0 5 2 -"]);
     made.settings(3, 32, 4).plays(&[("AN 0 0", "N 10"), ("OR 1 0", "G 1 0 1")], &["files 1", "0 2 1 -"]);
 }
 
@@ -65,7 +65,7 @@ fn a_record_past_the_clients_names_no_state() {
 #[test]
 fn a_callback_past_the_clients_is_not_waited_for() {
     let made = HandMade::fresh().wait(1, Mode::Read, &[(0, 1), (3, 2)]).settings(3, 32, 4);
-    let granted = made.plays(&[("AN 3 0", "N 2"), ("AN 0 0", "A 1 1 0 1")], &["files 1", "0 2 1 -"]);
+    let granted = made.plays(&[("AN 3 0", "N 2"), ("AN 0 0", "A 0 1 1 0 1")], &["files 1", "0 2 1 -"]);
     assert_eq!(granted.entry().waiting.callbacks.0, [0, 0, 0, 2, 0, 0, 0, 0]);
     let waiting = granted.plays(&[("OW 0 0", "W 1:2")], &["files 1", "0 2 1 -"]);
     assert_eq!(waiting.entry().waiting.callbacks.0, [0, 2, 0, 2, 0, 0, 0, 0]);

@@ -66,7 +66,7 @@ fn after_a_grant_no_open_waits_and_no_call_is_out() {
     assert_eq!(granted.entry().waiting, WaitField::NONE);
 
     let waiting = HandMade::fresh().wait(5, Mode::Write, &[(0, 1), (3, 4), (5, 255)]);
-    let granted = waiting.clone().plays(&[("AN 0 0", "A 5 2 1 1"), ("AN 3 0", "N 10")], &["files 1", "0 5 2 -"]);
+    let granted = waiting.clone().plays(&[("AN 0 0", "A 0 5 2 1 1"), ("AN 3 0", "N 10")], &["files 1", "0 5 2 -"]);
     assert_eq!(granted.entry().waiting, WaitField::NONE);
 
     let crashed = waiting.plays(&[("XX", "K")], &["files 0"]);
@@ -77,15 +77,15 @@ fn after_a_grant_no_open_waits_and_no_call_is_out() {
 #[test]
 fn the_opener_among_the_called_answers_like_any_other() {
     let first = HandMade::fresh().wait(2, Mode::Read, &[(0, 1), (2, 1)]);
-    first.clone().plays(&[("AN 2 0", "A"), ("AN 2 0", "N 10"), ("AN 0 0", "A 2 1 0 1")], &["files 1", "0 2 1 -"]);
-    first.plays(&[("AN 0 0", "A"), ("AN 2 0", "A 2 1 0 1")], &["files 1", "0 2 1 -"]);
+    first.clone().plays(&[("AN 2 0", "A 0"), ("AN 2 0", "N 10"), ("AN 0 0", "A 0 2 1 0 1")], &["files 1", "0 2 1 -"]);
+    first.plays(&[("AN 0 0", "A 0"), ("AN 2 0", "A 0 2 1 0 1")], &["files 1", "0 2 1 -"]);
 }
 
 /// "1 sends every dirty block .. and clears mark and last writer"; the grant then finds its own copy.
 #[test]
 fn the_opener_writes_back_before_its_own_grant() {
     let made = HandMade::fresh().last_writer(2).flagged(2).copy(2, 1, block_0(7, true, true));
-    let granted = made.wait(2, Mode::Read, &[(2, 1)]).plays(&[("AN 2 0", "A 2 1 0 1")], &["files 1", "0 2 1 -"]);
+    let granted = made.wait(2, Mode::Read, &[(2, 1)]).plays(&[("AN 2 0", "A 1 2 1 0 1")], &["files 1", "0 2 1 -"]);
     assert_eq!((granted.entry().blocks[0], &granted.client(2).copies), (7, &block_0(7, true, false)));
     assert!(!granted.client(2).last_writer_flag);
 }
@@ -95,15 +95,15 @@ fn the_opener_writes_back_before_its_own_grant() {
 #[test]
 fn the_opener_invalidates_before_its_own_grant() {
     let reader = HandMade::fresh().at_both_ends(2, READER).copy(2, 1, block_0(7, true, false));
-    let granted = reader.wait(2, Mode::Write, &[(2, 2)]).plays(&[("AN 2 0", "A 2 2 1 0")], &["files 1", "0 6 2 -"]);
+    let granted = reader.wait(2, Mode::Write, &[(2, 2)]).plays(&[("AN 2 0", "A 0 2 2 1 0")], &["files 1", "0 6 2 -"]);
     assert_eq!((granted.client(2).cached_version, &granted.client(2).copies), (0, &Copies::default()));
 
     let writer = HandMade::fresh().at_both_ends(2, WRITER).copy(2, 1, block_0(7, true, true));
-    let granted = writer.wait(2, Mode::Read, &[(2, 3)]).plays(&[("AN 2 0", "A 2 1 0 0")], &["files 1", "0 6 1 -"]);
+    let granted = writer.wait(2, Mode::Read, &[(2, 3)]).plays(&[("AN 2 0", "A 1 2 1 0 0")], &["files 1", "0 6 1 -"]);
     assert_eq!((granted.entry().blocks[0], &granted.client(2).copies), (7, &Copies::default()));
 
     let closed = HandMade::fresh().wait(2, Mode::Write, &[(2, 2)]);
-    closed.plays(&[("AN 2 0", "A 2 2 1 1")], &["files 1", "0 5 2 -"]);
+    closed.plays(&[("AN 2 0", "A 0 2 2 1 1")], &["files 1", "0 5 2 -"]);
 }
 
 /// DECISIONS: "Kinds 1 and 3 clear the last writer, whoever it is"; the mark is that of the client that answers. Kind 2
@@ -112,7 +112,7 @@ fn the_opener_invalidates_before_its_own_grant() {
 fn kinds_1_and_3_clear_the_last_writer_whoever_it_is() {
     for (kind, summary) in [(1, "0 2 1 -"), (2, "0 2 1 5"), (3, "0 2 1 -")] {
         let made = HandMade::fresh().last_writer(5).flagged(5).flagged(0).wait(2, Mode::Read, &[(0, kind)]);
-        let answered = made.plays(&[("AN 0 0", "A 2 1 0 1")], &["files 1", summary]);
+        let answered = made.plays(&[("AN 0 0", "A 0 2 1 0 1")], &["files 1", summary]);
         assert_eq!([0, 5].map(|client| answered.client(client).last_writer_flag), [kind == 2, true]);
     }
 }
@@ -121,7 +121,7 @@ fn kinds_1_and_3_clear_the_last_writer_whoever_it_is() {
 #[test]
 fn every_answer_changes_the_table_at_once() {
     let made = HandMade::fresh().at_both_ends(0, READER).last_writer(5).wait(2, Mode::Write, &[(0, 3), (1, 2)]);
-    let answered = made.plays(&[("AN 0 0", "A")], &["files 1", "0 6 1 -"]);
+    let answered = made.plays(&[("AN 0 0", "A 0")], &["files 1", "0 6 1 -"]);
     assert_eq!(answered.entry().records[0], uncached(READER));
 }
 
@@ -129,7 +129,7 @@ fn every_answer_changes_the_table_at_once() {
 #[test]
 fn a_called_client_need_not_be_open() {
     let made = HandMade::fresh().copy(0, 1, block_0(7, true, true)).wait(2, Mode::Read, &[(0, 3)]);
-    let answered = made.plays(&[("AN 0 0", "A 2 1 0 1")], &["files 1", "0 2 1 -"]);
+    let answered = made.plays(&[("AN 0 0", "A 1 2 1 0 1")], &["files 1", "0 2 1 -"]);
     assert_eq!((answered.entry().blocks[0], &answered.client(0).copies), (7, &Copies::default()));
 }
 
@@ -138,8 +138,8 @@ fn a_called_client_need_not_be_open() {
 #[test]
 fn permission_is_judged_at_the_grant() {
     let waiting = |mode| HandMade::fresh().at_both_ends(3, READER).wait(2, mode, &[(0, 1)]);
-    waiting(Mode::Read).plays(&[("AN 0 0", "A 2 1 0 1")], &["files 1", "0 4 1 -"]);
-    waiting(Mode::Write).plays(&[("AN 0 0", "A 2 2 1 0")], &["files 1", "0 6 2 -"]);
+    waiting(Mode::Read).plays(&[("AN 0 0", "A 0 2 1 0 1")], &["files 1", "0 4 1 -"]);
+    waiting(Mode::Write).plays(&[("AN 0 0", "A 0 2 2 1 0")], &["files 1", "0 6 2 -"]);
     let writer = HandMade::fresh().at_both_ends(3, WRITER).wait(2, Mode::Read, &[(0, 1)]);
-    writer.plays(&[("AN 0 0", "A 2 1 0 0"), ("WR 3 0 0 9", "K")], &["files 1", "0 6 1 -"]);
+    writer.plays(&[("AN 0 0", "A 0 2 1 0 0"), ("WR 3 0 0 9", "K")], &["files 1", "0 6 1 -"]);
 }

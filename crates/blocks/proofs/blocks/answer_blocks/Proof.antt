@@ -1,4 +1,4 @@
--- `answer_blocks` meets its contract: each of its three parts gives a clause. Assumes nothing.
+-- `answer_blocks` meets its contract: each of its four parts gives a clause or two. Assumes nothing.
 use borrow.Author.Needs.{needs}
 use Rattle.blocks.proofs.blocks.answer_blocks.Statement.{statement}
 use Rattle.blocks.proofs.blocks.answer_blocks.Tie as tie
@@ -8,11 +8,15 @@ returns c =
     let dropped = c .before .before in
     let sorted = dropped .before .before .before in
     let sent = sorted .before in
-    let known = sent .before .before .before .before in (
-      rw (← (known .writes-back .ensures)) (sent .send-if .ensures),
+    let counted = sent .before .before .before .before in
+    let known = counted .before .before in (
+      rw (← known .writes-back .ensures) (counted .count-if .ensures),
       (
-        rw (← (sorted .invalidates .ensures)) (dropped .drop-held-unless .ensures .0),
-        (rw (← (sorted .invalidates .ensures)) (dropped .drop-held-unless .ensures .1), c .clean-unless .ensures),
+        rw (← known .writes-back .ensures) (sent .send-if .ensures),
+        (
+          rw (← sorted .invalidates .ensures) (dropped .drop-held-unless .ensures .0),
+          (rw (← sorted .invalidates .ensures) (dropped .drop-held-unless .ensures .1), c .clean-unless .ensures),
+        ),
       ),
     )
 
@@ -20,6 +24,7 @@ pub answer-blocks-spec : {M : Type 1} → statement M
 answer-blocks-spec =
     tie.close
     (tie.spec
+    (search needs)
     (search needs)
     (search needs)
     (search needs)

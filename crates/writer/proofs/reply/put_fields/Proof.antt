@@ -47,19 +47,23 @@ returns-4 c =
     )
 
 returns-5 : tie.Need-returns-5
-unfolding valuesText
 returns-5 c =
-    let start = c .before .before .before in
-    (known _ _ (start .args .calls) (c .enum-told2 .given .1) (wrote-none _ _ (omega (arith, start .pre))), search needs)
+    let put = c .before .before in
+    let is = put .before .before .before in (
+      known _ _ (is .before .before .before .args .calls) (is .reply4 .given .1) (wrote-as (one-text _) (put .put-argument3 .ensures .0)),
+      search needs,
+    )
 
 returns-6 : tie.Need-returns-6
 unfolding valuesText
 returns-6 c =
     let put = c .before .before in
     let client = put .before .before .before .before in
-    let is = client .before .before .before in (
-      known _ _ (is .before .before .before .args .calls) (is .reply4 .given .1)
-          (wrote-then (client .put-argument3 .ensures .0) (put .put-grant2 .ensures .0)),
+    let count = client .before .before .before .before in
+    let is = count .before .before .before in (
+      known _ _ (is .before .before .before .args .calls) (is .reply5 .given .1)
+          (wrote-then (count .put-argument4 .ensures .0)
+          (wrote-then (client .put-argument5 .ensures .0) (put .put-grant2 .ensures .0))),
       search needs,
     )
 
@@ -67,12 +71,14 @@ returns-7 : tie.Need-returns-7
 unfolding valuesText
 returns-7 c =
     let start = c .before .before .before in
-    (known _ _ (start .args .calls) (c .enum-told3 .given .1) (wrote-none _ _ (omega (arith, start .pre))), search needs)
+    (known _ _ (start .args .calls) (c .enum-told2 .given .1) (wrote-none _ _ (omega (arith, start .pre))), search needs)
 
 pub put-fields-spec : {M : Type 1} → statement M
 put-fields-spec =
     tie.close
     (tie.spec
+    (search needs)
+    (search needs)
     (search needs)
     (search needs)
     (search needs)
@@ -96,6 +102,7 @@ put-fields-spec =
     returns-3
     (search needs)
     returns-4
+    (search needs)
     returns-5
     (search needs)
     returns-6

@@ -1,4 +1,4 @@
-//! What a fault is, and how one is written: a rule of the model replaced, or the text changed on its way in.
+//! What a fault is, and how one is written: a rule of the model replaced, or the text changed on its way in or out.
 
 use model::check::{Demand3, Witness};
 use model::{Document01, replay};
@@ -15,6 +15,8 @@ pub enum Wrong {
     Rules(fn(&[u8], &mut dyn Witness) -> Vec<u8>),
     /// The text as it is taken, played by the right rules.
     Text(fn(&[u8]) -> Vec<u8>),
+    /// What is said of the text, played by the right rules.
+    Said(fn(&[u8]) -> Vec<u8>),
 }
 
 impl Fault {
@@ -23,6 +25,7 @@ impl Fault {
         match self.wrong {
             Wrong::Rules(play) => play(input, demand3),
             Wrong::Text(taken) => replay::<Document01>(&taken(input), demand3),
+            Wrong::Said(said) => said(&replay::<Document01>(input, demand3)),
         }
     }
 }

@@ -12,6 +12,8 @@ mod fault;
 mod lines;
 mod opening;
 mod recovery;
+mod said;
+mod sent;
 mod settings;
 mod trial;
 mod unseen;
@@ -31,6 +33,8 @@ fn all_faults() -> impl Iterator<Item = &'static Fault> {
         behind::FAULTS,
         copies::FAULTS,
         callbacks::FAULTS,
+        sent::FAULTS,
+        said::FAULTS,
         recovery::FAULTS,
         door::FAULTS,
         lines::FAULTS,

@@ -131,6 +131,28 @@ rule_faults! {
             }
         }
     }
+    invalidation_tells_dirty_blocks("no client that is called for an invalidation alone has a dirty block") {
+        fn blocks_sent(service: &Service, client: usize, file: usize, _kind: Kind) -> usize {
+            service.blocks_to_send(client, file, Kind::WriteBack)
+        }
+    }
+    blocks_told_with_a_grant_only("a client that is asked for its blocks is the only one called") {
+        fn blocks_sent(service: &Service, client: usize, file: usize, kind: Kind) -> usize {
+            let called = service.server.entries[file].waiting.callbacks;
+            if called.without(client).is_empty() { service.blocks_to_send(client, file, kind) } else { 0 }
+        }
+    }
+    dirty_blocks_of_other_clients_told("no other client has a dirty block of a file whose blocks are asked for") {
+        fn blocks_sent(service: &Service, _client: usize, file: usize, kind: Kind) -> usize {
+            (0..service.sizes().clients).map(|client| service.blocks_to_send(client, file, kind)).sum()
+        }
+    }
+    blocks_past_the_settings_told("they are never dirty") {
+        fn blocks_sent(service: &Service, client: usize, file: usize, kind: Kind) -> usize {
+            let copies = &service.clients[client].files[file].copies;
+            if kind.writes_back() { copies.count_dirty(Sizes::LARGEST) } else { 0 }
+        }
+    }
     files_past_the_settings_listed("they stay CLOSED at version 1, and such a file is not listed") {
         fn files_in_summary(_sizes: Sizes) -> usize {
             FILES

@@ -1,123 +1,164 @@
 -- `answer` meets its contract: refused, answered, or answered with the waiting open granted. Assumes nothing.
-use Prim.Native.Nat.{_<_}
-use mathlib.Core.Path.{_≡_, refl, _∙_}
+use Prim.Native.Nat.{ℕ, _<_}
+use mathlib.Core.Path.{_≡_, refl, ap, _∙_}
 use native.Mathlib.Omega.{arith}
 use denote.Ref.{now}
-use Rattle.decision.specs.Sizes.{maxClients, maxFiles}
+use Rattle.decision.specs.Sizes.{maxClients, maxFiles, firstCell}
+use Rattle.protocol.specs.Client.{withSide, answeredClient}
 use Rattle.protocol.specs.Refusal.{answerTests}
-use Rattle.blocks.specs.Stores.{lent}
-use Rattle.file.specs.FileStep.{answered as answeredFile}
+use Rattle.blocks.specs.Stores.{Stores, lent, sentBlocks}
+use Rattle.file.specs.FileStep.{FileAfter, answered as answeredFile}
 use Rattle.protocol.proofs.Tested.{named}
 use Rattle.file.proofs.Leaves.{leaves-as, leaves-refused}
 use Rattle.blocks.proofs.Wrapped.{wrapped-cell, wrapped-place}
-use Rattle.file.proofs.Leaving.{answered}
+use Rattle.file.proofs.Leaving.{answered, sent-blocks}
 use Rattle.file.proofs.Answering.{answer-step, someone-waits, answer-waits, answer-grants}
 use borrow.Author.Needs.{needs}
 use Rattle.file.proofs.file.SharedFile.answer.Statement.{statement}
 use Rattle.file.proofs.file.SharedFile.answer.Tie as tie
 
--- an answer that is not refused is of a client and a file that are there
-client-there : (c : tie.Else1) → c .before .before .before .args .client < maxClients
-client-there c =
-    let a = c .before .before .before .args in
-    let (client, _, _) =
-    named (a .sizes) (a .client) (a .file) (c .before .answer-refusal .result) _ (c .before .answer-refusal .ensures) (c .if1 .left) in
-    omega (arith, client, c .before .before .before .pre .clients)
+-- What is known once the answer is not refused: the client and the file are there.
+module _ (c : tie.Else1) where
+  abbrev start : tie.Start
+  start = c .before .before .before
 
-file-there : (c : tie.Else1) → c .before .before .before .args .file < maxFiles
-file-there c =
-    let a = c .before .before .before .args in
-    let (_, file, _) =
-    named (a .sizes) (a .client) (a .file) (c .before .answer-refusal .result) _ (c .before .answer-refusal .ensures) (c .if1 .left) in
-    omega (arith, file, c .before .before .before .pre .files)
+  abbrev before : Stores
+  before = let a = start .args in lent (now (a .blocks)) (now (a .copies)) (now (a .held)) (now (a .dirty))
 
--- the file, once the callback is answered
-file-left : (c : tie.After-with-side)
-    → (let a = c .before .before .before .before .before .before .before .before .before .before .before .before .before .before .before .before .args in
-    record { entry = c .before .before .answered .result; sides = c .with-side .result }
-    ≡ answeredFile (a .sizes) (a .file) (a .self) (lent (now (a .blocks)) (now (a .copies)) (now (a .held)) (now (a .dirty))) (a .client) (c .before .before .before .before .before .before .before .before .before .before .call-to .result) .file)
-file-left c =
-    rw (c .before .before .answered .ensures, c .with-side .ensures, c .before .answered2 .ensures, c .before .before .before .before .before .before .before .before .before .before .before .side .ensures)
+  there : (start .args .client < maxClients) × (start .args .file < maxFiles)
+  there =
+      let a = start .args in
+      let r = c .before .answer-refusal in
+      let (client, file, _) = named (a .sizes) (a .client) (a .file) (r .result) _ (r .ensures) (c .if1 .left) in (
+        omega (arith, client, start .pre .clients),
+        omega (arith, file, start .pre .files),
+      )
+
+-- What is known once the callback is answered, before any grant.
+module _ (c : tie.After-with-side) where
+  abbrev blocks-point : tie.After-answer-blocks
+  blocks-point = c .before .before .before
+
+  abbrev cell-point : tie.After-first-cell
+  cell-point = blocks-point .before .before .before .before .before .before
+
+  abbrev call-point : tie.After-call-to
+  call-point = cell-point .before
+
+  abbrev accepted : tie.Else1
+  accepted = call-point .before .before .before
+
+  abbrev kind : ℕ
+  kind = call-point .call-to .result
+
+  abbrev left : FileAfter
+  left =
+      let a = start accepted .args in
+      answeredFile (a .sizes) (a .file) (a .self) (before accepted) (a .client) kind
+
+  file-left : record { entry = c .before .before .answered .result; sides = c .with-side .result } ≡ left .file
+  file-left =
+      let a = start accepted .args in
+      let own = c .before .answered2 .ensures ∙ ap (answeredClient kind) (call-point .before .side .ensures) in
+      λ k.
+      record {
+        entry = c .before .before .answered .ensures k;
+        sides = (c .with-side .ensures ∙ ap (withSide (a .self .sides) (a .client)) own) k;
+      }
+
+  at : cell-point .first-cell .result ≡ firstCell (start accepted .args .client) (start accepted .args .file)
+  at =
+      let a = start accepted .args in
+      cell-point .first-cell .ensures .0 ∙ wrapped-cell (a .client) (a .file) (there accepted .0) (there accepted .1)
+
+  abbrev stores-left : (s : Stores) × (s ≡ left .stores)
+  stores-left =
+      let a = start accepted .args in
+      let place-point = blocks-point .before .before .before .before .before in (
+        _,
+        answered (a .sizes .blocks) (a .client) (a .file) (now (a .blocks)) (now (a .copies)) (now (a .held)) (now (a .dirty)) kind
+            (cell-point .first-cell .result) (place-point .first-place .result) _ _ _ _ at
+            (place-point .first-place .ensures .0 ∙ wrapped-place (a .file) (there accepted .1))
+            (blocks-point .answer-blocks .ensures .1 .0)
+            (blocks-point .answer-blocks .ensures .1 .1 .0)
+            (blocks-point .answer-blocks .ensures .1 .1 .1 .0)
+            (blocks-point .answer-blocks .ensures .1 .1 .1 .1),
+      )
+
+  sent : blocks-point .answer-blocks .result
+      ≡ sentBlocks (start accepted .args .sizes .blocks) kind (start accepted .args .client) (start accepted .args .file) (before accepted)
+  sent =
+      let a = start accepted .args in
+      sent-blocks (a .sizes .blocks) (a .client) (a .file) (now (a .blocks)) (now (a .copies)) (now (a .held)) (now (a .dirty)) kind
+      (cell-point .first-cell .result) (blocks-point .answer-blocks .result) at (blocks-point .answer-blocks .ensures .0)
 
 returns : tie.Need-returns
 returns c =
-    let a = c .before .before .before .before .args in
+    let p = c .before .before in
+    let a = p .before .before .args in
+    let stores = lent (now (a .blocks)) (now (a .copies)) (now (a .held)) (now (a .dirty)) in
     leaves-refused (answerTests (a .sizes) (a .recovering) (a .self .entry) (a .client) (a .file)) (a .self)
-    (now (a .blocks)) (now (a .copies)) (now (a .held)) (now (a .dirty)) _ _ (c .before .before .answer-refusal .result) _
-    (answer-step (a .sizes) (a .recovering) (a .self) (lent (now (a .blocks)) (now (a .copies)) (now (a .held)) (now (a .dirty))) (a .client) (a .file))
-    (c .before .before .answer-refusal .ensures)
+    (now (a .blocks)) (now (a .copies)) (now (a .held)) (now (a .dirty)) _ _ (p .answer-refusal .result) _
+    (answer-step (a .sizes) (a .recovering) (a .self) stores (a .client) (a .file))
+    (p .answer-refusal .ensures)
     (c .before .if1 .taken)
-    (c .replied .ensures (lent (now (a .blocks)) (now (a .copies)) (now (a .held)) (now (a .dirty))))
+    (c .replied .ensures stores)
 
 answer-blocks-requires : tie.Need-answer-blocks-requires
 answer-blocks-requires c κs =
-    (c .before .before .before .before .before .before .before .before .before .before .before .before .pre .blocks, (c .before .before .before .before .before .first-cell .ensures .1, c .before .before .before .before .first-place .ensures .1))
+    let place-point = c .before .before .before .before in
+    let cell-point = place-point .before in (
+      start (cell-point .before .before .before .before) .pre .blocks,
+      (cell-point .first-cell .ensures .1, place-point .first-place .ensures .1),
+    )
 
 answered-requires : tie.Need-answered-requires
-answered-requires c κs = client-there (c .before .before .before .before .before .before .before .before .before .before)
+answered-requires c κs = there (c .before .before .before .before .before .before .before .before .before .before) .0
 
 calls-out-requires : tie.Need-calls-out-requires
-calls-out-requires c κs = c .before .before .before .before .before .before .before .before .before .before .before .before .before .before .before .before .before .pre .clients
+calls-out-requires c κs = start (accepted (c .before)) .pre .clients
 
 returns-2 : tie.Need-returns-2
 returns-2 c =
-    let a = c .before .before .before .before .before .before .before .before .before .before .before .before .before .before .before .before .before .before .before .before .args in
+    let counted = c .before .before in
+    let p = counted .before .before in
+    let r = accepted p .before .answer-refusal in
+    let a = start (accepted p) .args in
     leaves-as _ _ _ _ _ _ _
-    (answer-waits (a .sizes) (a .recovering) (a .self) (lent (now (a .blocks)) (now (a .copies)) (now (a .held)) (now (a .dirty))) (a .client) (a .file) (c .before .before .before .before .before .before .before .before .before .before .before .before .before .before .before .before .before .before .answer-refusal .result)
-    (c .before .before .before .before .before .before .before .before .before .before .before .before .before .before .before .before .before .before .answer-refusal .ensures)
-    (c .before .before .before .before .before .before .before .before .before .before .before .before .before .before .before .before .before .if1 .left)
-    (c .before .before .before .before .before .before .before .before .before .before .before .before .before .before .call-to .result) (c .before .before .calls-out .result) _ _
-    (c .before .before .before .before .before .before .before .before .before .before .before .before .before .before .call-to .ensures)
-    (file-left (c .before .before .before .before))
-    (answered (a .sizes .blocks) (a .client) (a .file) (now (a .blocks)) (now (a .copies)) (now (a .held)) (now (a .dirty))
-    (c .before .before .before .before .before .before .before .before .before .before .before .before .before .before .call-to .result) _ _ _ _ _ _
-    (c .before .before .before .before .before .before .before .before .before .before .before .before .before .first-cell .ensures .0 ∙ wrapped-cell (a .client) (a .file) (client-there (c .before .before .before .before .before .before .before .before .before .before .before .before .before .before .before .before .before)) (file-there (c .before .before .before .before .before .before .before .before .before .before .before .before .before .before .before .before .before)))
-    (c .before .before .before .before .before .before .before .before .before .before .before .before .first-place .ensures .0 ∙ wrapped-place (a .file) (file-there (c .before .before .before .before .before .before .before .before .before .before .before .before .before .before .before .before .before)))
-    (c .before .before .before .before .before .before .before .answer-blocks .ensures .0)
-    (c .before .before .before .before .before .before .before .answer-blocks .ensures .1 .0)
-    (c .before .before .before .before .before .before .before .answer-blocks .ensures .1 .1 .0)
-    (c .before .before .before .before .before .before .before .answer-blocks .ensures .1 .1 .1))
-    (c .before .before .calls-out .ensures)
-    (c .before .if2 .taken))
-    (record { outcomeAfter = c .replied2 .ensures (lent (now (a .blocks)) (now (a .copies)) (now (a .held)) (now (a .dirty))); storesAfter = refl })
+    (answer-waits (a .sizes) (a .recovering) (a .self) (before (accepted p)) (a .client) (a .file) (r .result) (r .ensures)
+    (accepted p .if1 .left) (kind p) (blocks-point p .answer-blocks .result) (counted .calls-out .result) _ _
+    (call-point p .call-to .ensures) (file-left p) (stores-left p .1) (sent p) (counted .calls-out .ensures) (c .before .if2 .taken))
+    (record { outcomeAfter = c .replied2 .ensures (before (accepted p)); storesAfter = refl })
 
 grant-requires : tie.Need-grant-requires
-grant-requires c κs = c .before .before .before .before .before .before .before .before .before .before .before .before .before .before .before .before .before .before .before .pre .clients
+grant-requires c κs = start (accepted (c .before .before .before)) .pre .clients
 
 granted-requires : tie.Need-granted-requires
 granted-requires c κs =
-    let a = c .before .before .before .before .before .before .before .before .before .before .before .before .before .before .before .before .before .before .before .before .before .before .before .before .args in (
-      c .before .before .before .before .before .before .before .before .before .before .before .before .before .before .before .before .before .before .before .before .before .before .before .before .pre,
+    let p = c .before .before .before .before .before .before .before .before in
+    let r = accepted p .before .answer-refusal in
+    let a = start (accepted p) .args in (
+      start (accepted p) .pre,
       (
-        rw (c .before .before .before .before .before .before .before .before .before .before .answered .ensures)
-            (someone-waits (a .sizes) (a .recovering) (a .self) (lent (now (a .blocks)) (now (a .copies)) (now (a .held)) (now (a .dirty))) (a .client) (a .file) (c .before .before .before .before .before .before .before .before .before .before .before .before .before .before .before .before .before .before .before .before .before .before .answer-refusal .result) (c .before .before .before .before .before .before .before .before .before .before .before .before .before .before .before .before .before .before .before .before .before .before .answer-refusal .ensures) (c .before .before .before .before .before .before .before .before .before .before .before .before .before .before .before .before .before .before .before .before .before .if1 .left)),
-        named (a .sizes) (a .client) (a .file) (c .before .before .before .before .before .before .before .before .before .before .before .before .before .before .before .before .before .before .before .before .before .before .answer-refusal .result) _ (c .before .before .before .before .before .before .before .before .before .before .before .before .before .before .before .before .before .before .before .before .before .before .answer-refusal .ensures)
-            (c .before .before .before .before .before .before .before .before .before .before .before .before .before .before .before .before .before .before .before .before .before .if1 .left) .1,
+        rw (p .before .before .answered .ensures)
+            (someone-waits (a .sizes) (a .recovering) (a .self) (before (accepted p)) (a .client) (a .file) (r .result) (r .ensures)
+            (accepted p .if1 .left)),
+        named (a .sizes) (a .client) (a .file) (r .result) _ (r .ensures) (accepted p .if1 .left) .1,
       ),
     )
 
 returns-3 : tie.Need-returns-3
 returns-3 c =
-    let a = c .before .before .before .before .before .before .before .before .before .before .before .before .before .before .before .before .before .before .before .before .before .before .before .before .before .args in
+    let granting = c .before .before .before .before .before in
+    let counted = granting .before .before in
+    let p = counted .before .before in
+    let r = accepted p .before .answer-refusal in
+    let a = start (accepted p) .args in
     leaves-as _ _ _ _ _ _ _
-    (answer-grants (a .sizes) (a .recovering) (a .self) (lent (now (a .blocks)) (now (a .copies)) (now (a .held)) (now (a .dirty))) (a .client) (a .file) (c .before .before .before .before .before .before .before .before .before .before .before .before .before .before .before .before .before .before .before .before .before .before .before .answer-refusal .result)
-    (c .before .before .before .before .before .before .before .before .before .before .before .before .before .before .before .before .before .before .before .before .before .before .before .answer-refusal .ensures)
-    (c .before .before .before .before .before .before .before .before .before .before .before .before .before .before .before .before .before .before .before .before .before .before .if1 .left)
-    (c .before .before .before .before .before .before .before .before .before .before .before .before .before .before .before .before .before .before .before .call-to .result) (c .before .before .before .before .before .before .before .calls-out .result) _ _
-    (c .before .before .before .before .before .before .before .before .before .before .before .before .before .before .before .before .before .before .before .call-to .ensures)
-    (file-left (c .before .before .before .before .before .before .before .before .before))
-    (answered (a .sizes .blocks) (a .client) (a .file) (now (a .blocks)) (now (a .copies)) (now (a .held)) (now (a .dirty))
-    (c .before .before .before .before .before .before .before .before .before .before .before .before .before .before .before .before .before .before .before .call-to .result) _ _ _ _ _ _
-    (c .before .before .before .before .before .before .before .before .before .before .before .before .before .before .before .before .before .before .first-cell .ensures .0 ∙ wrapped-cell (a .client) (a .file) (client-there (c .before .before .before .before .before .before .before .before .before .before .before .before .before .before .before .before .before .before .before .before .before .before)) (file-there (c .before .before .before .before .before .before .before .before .before .before .before .before .before .before .before .before .before .before .before .before .before .before)))
-    (c .before .before .before .before .before .before .before .before .before .before .before .before .before .before .before .before .before .first-place .ensures .0 ∙ wrapped-place (a .file) (file-there (c .before .before .before .before .before .before .before .before .before .before .before .before .before .before .before .before .before .before .before .before .before .before)))
-    (c .before .before .before .before .before .before .before .before .before .before .before .before .answer-blocks .ensures .0)
-    (c .before .before .before .before .before .before .before .before .before .before .before .before .answer-blocks .ensures .1 .0)
-    (c .before .before .before .before .before .before .before .before .before .before .before .before .answer-blocks .ensures .1 .1 .0)
-    (c .before .before .before .before .before .before .before .before .before .before .before .before .answer-blocks .ensures .1 .1 .1))
-    (c .before .before .before .before .before .before .before .calls-out .ensures)
-    (c .before .before .before .before .before .grant .result)
-    (c .before .before .before .before .before .before .if2 .left)
-    (c .before .before .before .before .before .grant .ensures))
+    (answer-grants (a .sizes) (a .recovering) (a .self) (before (accepted p)) (a .client) (a .file) (r .result) (r .ensures)
+    (accepted p .if1 .left) (kind p) (blocks-point p .answer-blocks .result) (counted .calls-out .result) _ _
+    (call-point p .call-to .ensures) (file-left p) (stores-left p .1) (sent p) (counted .calls-out .ensures)
+    (granting .grant .result) (granting .before .if2 .left) (granting .grant .ensures))
     (c .granted .ensures)
 
 pub answer-spec : {M : Type 1} → statement M
