@@ -16,6 +16,7 @@ pub use entry::NOBODY;
 pub use entry::count_calls;
 pub use refusal::COUNT_FULL;
 pub use refusal::IN_RECOVERY;
+pub use refusal::LIST_TOO_LONG;
 pub use refusal::NO_BLOCK;
 pub use refusal::NO_CALL;
 pub use refusal::NO_CLIENT;

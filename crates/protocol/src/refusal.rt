@@ -30,6 +30,8 @@ pub const NOT_DIRTY: u8 = 13;
 
 pub const VERSION_SPENT: u8 = 14;
 
+pub const LIST_TOO_LONG: u8 = 18;
+
 pub const OUT_OF_RANGE: u8 = 19;
 
 // The number where the test holds, else what the later tests give; 0 is none.

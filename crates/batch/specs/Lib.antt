@@ -1,0 +1,3 @@
+-- A batch, in reading order.
+pub mod Batch
+pub mod Demand3
