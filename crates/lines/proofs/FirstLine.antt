@@ -1,12 +1,13 @@
--- A line that gives no step: the first may choose the sizes. Assumes nothing.
+-- A line that gives no step: the first may choose the sizes, if they are settable. Assumes nothing.
 use Prim.Native.Nat.{ℕ, _+_, _-_}
 use mathlib.Core.Path.{_≡_, refl, sym, ap, _∙_}
+use mathlib.Core.Bool.{Bool, true, false, cond, not, _&&_}
 use mathlib.Core.List.{List, [], _∷_, _++_, append-assoc}
 use native.Mathlib.Omega.{arith}
+use lib.Dec.{eqb}
 use lib.ListN.{length, take, drop, length-append, take-append-drop}
 use lib.Seq.{length-take-le, take-at, drop-at}
-use borrow.Author.Tests.{eq-eqb, ne-eqb}
-use Rattle.records.proofs.Choosing.{when, unless}
+use Rattle.records.proofs.Choosing.{when, unless, cond-not}
 use Rattle.service.specs.declared.service.Service.{Service}
 use Rattle.stepfile.specs.declared.parsed.Parsed.{Parsed}
 use Rattle.stepfile.specs.declared.parsed.Parsed.the-variants.{NoStep}
@@ -15,15 +16,23 @@ use Rattle.stepfile.specs.Setting.{settingOf}
 use Rattle.stepfile.specs.Played.{refusedWith, setOutcome, outcomeOf}
 use Rattle.lines.proofs.Reaching.{LineAt}
 
-module _ (s : Service) (number : ℕ) (l : List ℕ) (p : Parsed) where
-  -- on a later line
-  pub late-line : p ≡ NoStep → (number ≡ 1 → ⊥) → refusedWith s 1 ≡ outcomeOf s number l p
-  late-line none late = sym (ap (outcomeOf s number l) none ∙ unless _ _ (ne-eqb number 1 late))
+module _ (settable : Bool) (s : Service) (number : ℕ) (l : List ℕ) (p : Parsed) where
+  -- what the line comes to, by the test of the code
+  abbrev late : Bool
+  late = not (settable && eqb number 1)
+
+  line-outcome : p ≡ NoStep → outcomeOf settable s number l p ≡ cond late (refusedWith s 1) (setOutcome s (settingOf l))
+  line-outcome none =
+      ap (outcomeOf settable s number l) none
+      ∙ sym (cond-not (settable && eqb number 1) (refusedWith s 1) (setOutcome s (settingOf l)))
+
+  -- on a later line, or where the sizes are not to be chosen
+  pub late-line : p ≡ NoStep → late ≡ true → refusedWith s 1 ≡ outcomeOf settable s number l p
+  late-line none e = sym (line-outcome none ∙ when _ _ e)
 
   -- on the first
-  pub set-line : (x : Setting) → p ≡ NoStep → number ≡ 1 → x ≡ settingOf l → setOutcome s x ≡ outcomeOf s number l p
-  set-line x none one is =
-      ap (setOutcome s) is ∙ sym (ap (outcomeOf s number l) none ∙ when _ _ (eq-eqb number 1 one))
+  pub set-line : (x : Setting) → p ≡ NoStep → late ≡ false → x ≡ settingOf l → setOutcome s x ≡ outcomeOf settable s number l p
+  set-line x none e is = ap (setOutcome s) is ∙ sym (line-outcome none ∙ unless _ _ e)
 
 -- the line's bytes, without its LF
 pub line-bytes : (input : List ℕ) (used next : ℕ) (l : List ℕ) → LineAt input used l next → take (next - 1 - used) (drop used input) ≡ l

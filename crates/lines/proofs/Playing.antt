@@ -67,77 +67,77 @@ module _ (room to number : ℕ) (can : canReply room to number ≡ true) where
 
 -- What the loop has done when it stands before a line: the reply lines so far are written, and the rest of the input
 -- gives what the whole was to give.
-pub record Reached (s : Service) (n : ℕ) (input out : List ℕ) (t : Service) (number used to : ℕ) (out′ : List ℕ) : Type 0 where
-  pub at : At s n input t number used to
-  pub writes : Wrote out 0 (transcriptOf s n (take used input)) out′ to
-  pub on : progressOf (length out) (wholeLines (drop used input)) t number used to ≡ lineProgress s n input out
+pub record Reached (settable : Bool) (s : Service) (n : ℕ) (input out : List ℕ) (t : Service) (number used to : ℕ) (out′ : List ℕ) : Type 0 where
+  pub at : At settable s n input t number used to
+  pub writes : Wrote out 0 (transcriptOf settable s n (take used input)) out′ to
+  pub on : progressOf settable (length out) (wholeLines (drop used input)) t number used to ≡ lineProgress settable s n input out
 
-module _ (s : Service) (n : ℕ) (input out : List ℕ) where
+module _ (settable : Bool) (s : Service) (n : ℕ) (input out : List ℕ) where
   -- before the first line
-  pub none-yet : Reached s n input out s n 0 0 out
+  pub none-yet : Reached settable s n input out s n 0 0 out
   unfolding lines transcript
-  none-yet = record { at = at-start s n input; writes = wrote-none out 0 (omega arith); on = refl }
+  none-yet = record { at = at-start settable s n input; writes = wrote-none out 0 (omega arith); on = refl }
 
   -- the buffer keeps its length
-  pub same-length : (t : Service) (number used to : ℕ) (out₁ : List ℕ) → Reached s n input out t number used to out₁ → length out₁ ≡ length out
+  pub same-length : (t : Service) (number used to : ℕ) (out₁ : List ℕ) → Reached settable s n input out t number used to out₁ → length out₁ ≡ length out
   same-length t number used to out₁ w =
-      ap length (w .writes .bytes) ∙ length-written out 0 (transcriptOf s n (take used input)) (w .writes .fits)
+      ap length (w .writes .bytes) ∙ length-written out 0 (transcriptOf settable s n (take used input)) (w .writes .fits)
 
   -- the line is replied to as the outcome has it, and the service after it is the outcome's
   pub one-more :
       (t : Service) (number used to : ℕ) (out₁ : List ℕ) (p : Parsed) (next : ℕ) (o : Outcome) (to′ : ℕ) (out₂ : List ℕ)
-      → Reached s n input out t number used to out₁
+      → Reached settable s n input out t number used to out₁
       → readAt input used ≡ Line p next
       → canReply (length out₁) to number ≡ true
-      → ((l : List ℕ) → LineAt input used l next → o ≡ outcomeOf t number l p)
+      → ((l : List ℕ) → LineAt input used l next → o ≡ outcomeOf settable t number l p)
       → WroteIfRoom lineRoom out₁ to (lineText number (o .reply) (o .calls)) out₂ to′
       → to′ ≤ to + lineRoom
-      → Reached s n input out (o .service) (number + 1) next to′ out₂
+      → Reached settable s n input out (o .service) (number + 1) next to′ out₂
   unfolding replyLine serviceAfter
   one-more t number used to out₁ p next o to′ out₂ w e can is placed most =
       let read = read-line input used p next (w .at .inside) e in
       let l = read .line in
-      let fine : o ≡ outcomeOf t number l (parseLine l) = is l (read .at) ∙ ap (outcomeOf t number l) (sym (read .gives)) in
-      let after-line : o .service ≡ serviceAfter t number l = ap (λ (x : Outcome). x .service) fine in
-      let text : lineText number (o .reply) (o .calls) ≡ replyLine t number l =
+      let fine : o ≡ outcomeOf settable t number l (parseLine l) = is l (read .at) ∙ ap (outcomeOf settable t number l) (sym (read .gives)) in
+      let after-line : o .service ≡ serviceAfter settable t number l = ap (λ (x : Outcome). x .service) fine in
+      let text : lineText number (o .reply) (o .calls) ≡ replyLine settable t number l =
       ap (λ (x : Outcome). lineText number (x .reply) (x .calls)) fine in
       let wrote = if-room-wrote lineRoom out₁ to _ out₂ to′ (has-room (length out₁) to number can) most placed in
-      let next-to : to + length (replyLine t number l) ≡ to′ = ap (λ (x : List ℕ). to + length x) (sym text) ∙ sym (wrote .next) in
+      let next-to : to + length (replyLine settable t number l) ≡ to′ = ap (λ (x : List ℕ). to + length x) (sym text) ∙ sym (wrote .next) in
       let same = same-length t number used to out₁ w in
       let lines-left = wholeLines (drop next input) in
       record {
         at =
-            subst (λ (k : ℕ). At s n input (o .service) (number + 1) next k) next-to
-            (subst (λ (x : Service). At s n input x (number + 1) next (to + length (replyLine t number l))) (sym after-line)
-            (at-next s n input t number used to (w .at) l next (read .at)));
+            subst (λ (k : ℕ). At settable s n input (o .service) (number + 1) next k) next-to
+            (subst (λ (x : Service). At settable s n input x (number + 1) next (to + length (replyLine settable t number l))) (sym after-line)
+            (at-next settable s n input t number used to (w .at) l next (read .at)));
         writes =
             wrote-as
-            (ap (λ (x : List ℕ). transcriptOf s n (take used input) ++ x) text
-            ∙ transcript-next s n input t number used to (w .at) l next (read .at))
+            (ap (λ (x : List ℕ). transcriptOf settable s n (take used input) ++ x) text
+            ∙ transcript-next settable s n input t number used to (w .at) l next (read .at))
             (wrote-then (w .writes) wrote);
         on =
-            ap (λ (x : Service). progressOf (length out) lines-left x (number + 1) next to′) after-line
-            ∙ ap (λ (k : ℕ). progressOf (length out) lines-left (serviceAfter t number l) (number + 1) next k) (sym next-to)
-            ∙ ap (λ (k : ℕ). progressOf (length out) lines-left (serviceAfter t number l) (number + 1) k (to + length (replyLine t number l)))
+            ap (λ (x : Service). progressOf settable (length out) lines-left x (number + 1) next to′) after-line
+            ∙ ap (λ (k : ℕ). progressOf settable (length out) lines-left (serviceAfter settable t number l) (number + 1) next k) (sym next-to)
+            ∙ ap (λ (k : ℕ). progressOf settable (length out) lines-left (serviceAfter settable t number l) (number + 1) k (to + length (replyLine settable t number l)))
             (sym (read .offset))
             ∙ sym
-            (progress-next s n input (length out) l lines-left t number used to
+            (progress-next settable s n input (length out) l lines-left t number used to
             (ap (λ (k : ℕ). canReply k to number) (sym same) ∙ can))
-            ∙ ap (λ (ls : List (List ℕ)). progressOf (length out) ls t number used to) (sym (read .at .onward))
+            ∙ ap (λ (ls : List (List ℕ)). progressOf settable (length out) ls t number used to) (sym (read .at .onward))
             ∙ w .on;
       }
 
   -- the loop ends where no other line can be replied to, or none is left
-  module _ (t : Service) (number used to : ℕ) (out₁ : List ℕ) (w : Reached s n input out t number used to out₁) where
+  module _ (t : Service) (number used to : ℕ) (out₁ : List ℕ) (w : Reached settable s n input out t number used to out₁) where
     -- what the function promises of its answer, of the output buffer and of how much of it was written
     abbrev Promised : Type 0
     Promised =
-        (stopped t number used to ≡ lineProgress s n input out)
-        × ((out₁ ≡ linesWritten s n input out) × (to ≤ length out))
+        (stopped t number used to ≡ lineProgress settable s n input out)
+        × ((out₁ ≡ linesWritten settable s n input out) × (to ≤ length out))
 
-    promised : stopped t number used to ≡ lineProgress s n input out → Promised
+    promised : stopped t number used to ≡ lineProgress settable s n input out → Promised
     promised e =
-        let bytes = w .writes .bytes ∙ ap (λ (x : Progress). written out 0 (transcriptOf s n (take (x .used) input))) e in
+        let bytes = w .writes .bytes ∙ ap (λ (x : Progress). written out 0 (transcriptOf settable s n (take (x .used) input))) e in
         let fits : to ≤ length out = omega (arith, w .writes .next, w .writes .fits) in
         (e, (bytes, fits))
 
@@ -146,7 +146,7 @@ module _ (s : Service) (n : ℕ) (input out : List ℕ) where
         let same = same-length t number used to out₁ w in
         promised
         (sym
-        (progress-full s n input (length out) (wholeLines (drop used input)) t number used to
+        (progress-full settable s n input (length out) (wholeLines (drop used input)) t number used to
         (ap (λ (k : ℕ). canReply k to number) (sym same) ∙ cannot))
         ∙ w .on)
 
@@ -154,6 +154,6 @@ module _ (s : Service) (n : ℕ) (input out : List ℕ) where
     stops-whole e =
         promised
         (sym
-        (ap (λ (ls : List (List ℕ)). progressOf (length out) ls t number used to) (no-line input used e)
-        ∙ progress-none s n input (length out) t number used to)
+        (ap (λ (ls : List (List ℕ)). progressOf settable (length out) ls t number used to) (no-line input used e)
+        ∙ progress-none settable s n input (length out) t number used to)
         ∙ w .on)

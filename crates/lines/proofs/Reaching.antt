@@ -2,7 +2,7 @@
 -- the number that the transcript gives. Assumes nothing.
 use Prim.Native.Nat.{ℕ, _+_, _-_, _≤_, _<_}
 use mathlib.Core.Path.{_≡_, refl, sym, ap, subst, _∙_}
-use mathlib.Core.Bool.{true, false}
+use mathlib.Core.Bool.{Bool, true, false}
 use mathlib.Core.List.{List, [], _∷_, _++_, append-assoc, nil≢cons}
 use native.Mathlib.Omega.{arith}
 use lib.ListN.{length, take, drop, length-append, take-append-drop}
@@ -66,35 +66,35 @@ first-whole input used h l ls e = from (firstLine (drop used input)) refl
 
 -- the input is played up to an offset where a line starts: t is the service there, the next line has the number, and the
 -- reply lines have so many bytes
-pub record At (s : Service) (n : ℕ) (input : List ℕ) (t : Service) (number used to : ℕ) : Type 0 where
+pub record At (settable : Bool) (s : Service) (n : ℕ) (input : List ℕ) (t : Service) (number used to : ℕ) : Type 0 where
   pub inside : used ≤ length input
   pub breaks : BreaksLine (take used input)
   pub numbers : number ≡ n + length (lines (take used input))
-  pub service : t ≡ afterInput s n (take used input)
-  pub size : to ≡ length (transcriptOf s n (take used input))
+  pub service : t ≡ afterInput settable s n (take used input)
+  pub size : to ≡ length (transcriptOf settable s n (take used input))
 
-module _ (s : Service) (n : ℕ) (input : List ℕ) where
+module _ (settable : Bool) (s : Service) (n : ℕ) (input : List ℕ) where
   -- before the first line
-  pub at-start : At s n input s n 0 0
+  pub at-start : At settable s n input s n 0 0
   unfolding lines transcript after
   at-start = record { inside = omega arith; breaks = breaks-none; numbers = omega arith; service = refl; size = refl }
 
   -- past another line
-  module _ (t : Service) (number used to : ℕ) (w : At s n input t number used to) (l : List ℕ) (next : ℕ) (at : LineAt input used l next) where
+  module _ (t : Service) (number used to : ℕ) (w : At settable s n input t number used to) (l : List ℕ) (next : ℕ) (at : LineAt input used l next) where
     abbrev a : List ℕ
     a = take used input
 
     -- the reply line that the transcript has
-    reply-line : replyLine t number l ≡ replyLine (afterInput s n a) (n + length (lines a)) l
-    reply-line = ap (λ (k : ℕ). replyLine t k l) (w .numbers) ∙ ap (λ (x : Service). replyLine x (n + length (lines a)) l) (w .service)
+    reply-line : replyLine settable t number l ≡ replyLine settable (afterInput settable s n a) (n + length (lines a)) l
+    reply-line = ap (λ (k : ℕ). replyLine settable t k l) (w .numbers) ∙ ap (λ (x : Service). replyLine settable x (n + length (lines a)) l) (w .service)
 
-    pub transcript-next : transcriptOf s n a ++ replyLine t number l ≡ transcriptOf s n (take next input)
+    pub transcript-next : transcriptOf settable s n a ++ replyLine settable t number l ≡ transcriptOf settable s n (take next input)
     transcript-next =
-        ap (λ (x : List ℕ). transcriptOf s n a ++ x) reply-line
-        ∙ sym (transcript-more replyLine serviceAfter s n a l (w .breaks) (at .none))
-        ∙ ap (transcriptOf s n) (sym (at .upto))
+        ap (λ (x : List ℕ). transcriptOf settable s n a ++ x) reply-line
+        ∙ sym (transcript-more (replyLine settable) (serviceAfter settable) s n a l (w .breaks) (at .none))
+        ∙ ap (transcriptOf settable s n) (sym (at .upto))
 
-    pub at-next : At s n input (serviceAfter t number l) (number + 1) next (to + length (replyLine t number l))
+    pub at-next : At settable s n input (serviceAfter settable t number l) (number + 1) next (to + length (replyLine settable t number l))
     at-next =
         record {
           inside = at .inside;
@@ -103,39 +103,39 @@ module _ (s : Service) (n : ℕ) (input : List ℕ) where
               ap (λ (k : ℕ). k + 1) (w .numbers)
               ∙ omega (arith, ap (λ (x : List ℕ). length (lines x)) (at .upto), count-more a l (w .breaks) (at .none));
           service =
-              ap (λ (k : ℕ). serviceAfter t k l) (w .numbers)
-              ∙ ap (λ (x : Service). serviceAfter x (n + length (lines a)) l) (w .service)
-              ∙ sym (after-more serviceAfter s n a l (w .breaks) (at .none))
-              ∙ ap (afterInput s n) (sym (at .upto));
+              ap (λ (k : ℕ). serviceAfter settable t k l) (w .numbers)
+              ∙ ap (λ (x : Service). serviceAfter settable x (n + length (lines a)) l) (w .service)
+              ∙ sym (after-more (serviceAfter settable) s n a l (w .breaks) (at .none))
+              ∙ ap (afterInput settable s n) (sym (at .upto));
           size =
-              ap (λ (k : ℕ). k + length (replyLine t number l)) (w .size)
-              ∙ sym (length-append (transcriptOf s n a) (replyLine t number l))
+              ap (λ (k : ℕ). k + length (replyLine settable t number l)) (w .size)
+              ∙ sym (length-append (transcriptOf settable s n a) (replyLine settable t number l))
               ∙ ap length transcript-next;
         }
 
   -- one line more, by the definition
   pub progress-next : (room : ℕ) (l : List ℕ) (ls : List (List ℕ)) (t : Service) (number used to : ℕ)
       → canReply room to number ≡ true
-      → progressOf room (l ∷ ls) t number used to
-      ≡ progressOf room ls (serviceAfter t number l) (number + 1) (used + length l + 1) (to + length (replyLine t number l))
+      → progressOf settable room (l ∷ ls) t number used to
+      ≡ progressOf settable room ls (serviceAfter settable t number l) (number + 1) (used + length l + 1) (to + length (replyLine settable t number l))
   unfolding progressOf
   progress-next room l ls t number used to can = when _ _ can
 
   -- it stops where no other line can be replied to, and where there is none
   pub progress-full : (room : ℕ) (ls : List (List ℕ)) (t : Service) (number used to : ℕ)
       → canReply room to number ≡ false
-      → progressOf room ls t number used to ≡ stopped t number used to
+      → progressOf settable room ls t number used to ≡ stopped t number used to
   unfolding progressOf
   progress-full room [] t number used to cannot = refl
   progress-full room (l ∷ ls) t number used to cannot = unless _ _ cannot
 
-  pub progress-none : (room : ℕ) (t : Service) (number used to : ℕ) → progressOf room [] t number used to ≡ stopped t number used to
+  pub progress-none : (room : ℕ) (t : Service) (number used to : ℕ) → progressOf settable room [] t number used to ≡ stopped t number used to
   unfolding progressOf
   progress-none room t number used to = refl
 
   -- where the play stops, and why
   pub record Stop (out : List ℕ) (p : Progress) : Type 0 where
-    pub at : At s n input (p .service) (p .number) (p .used) (p .written)
+    pub at : At settable s n input (p .service) (p .number) (p .used) (p .written)
     pub none : canReply (length out) (p .written) (p .number) ≡ true → NoLF (drop (p .used) input)
 
   no-whole : (d : List ℕ) → wholeLines d ≡ [] → NoLF d
@@ -147,9 +147,9 @@ module _ (s : Service) (n : ℕ) (input : List ℕ) where
       from nothing q = no-lf d q
 
   stop-from : (out : List ℕ) (ls : List (List ℕ)) (t : Service) (number used to : ℕ)
-      → At s n input t number used to
+      → At settable s n input t number used to
       → wholeLines (drop used input) ≡ ls
-      → Stop out (progressOf (length out) ls t number used to)
+      → Stop out (progressOf settable (length out) ls t number used to)
   stop-from out [] t number used to w e =
       subst (Stop out) (sym (progress-none (length out) t number used to)) (record { at = w; none = λ can. no-whole (drop used input) e })
   stop-from out (l ∷ ls) t number used to w e =
@@ -159,12 +159,12 @@ module _ (s : Service) (n : ℕ) (input : List ℕ) where
       let f : l ∷ wholeLines (drop (used + length l + 1) input) ≡ l ∷ ls = sym (line .onward) ∙ e in
       let rest : wholeLines (drop (used + length l + 1) input) ≡ ls = cc in
       subst (Stop out) (sym (progress-next (length out) l ls t number used to can))
-      (stop-from out ls (serviceAfter t number l) (number + 1) (used + length l + 1) (to + length (replyLine t number l))
+      (stop-from out ls (serviceAfter settable t number l) (number + 1) (used + length l + 1) (to + length (replyLine settable t number l))
       (at-next t number used to w l (used + length l + 1) line)
       rest))
       (λ cannot.
       subst (Stop out) (sym (progress-full (length out) (l ∷ ls) t number used to cannot))
       (record { at = w; none = λ can. conflict can cannot }))
 
-  pub stop : (out : List ℕ) → Stop out (lineProgress s n input out)
+  pub stop : (out : List ℕ) → Stop out (lineProgress settable s n input out)
   stop out = stop-from out (wholeLines input) s n 0 0 at-start refl

@@ -43,12 +43,12 @@ no-lf-take (suc n) [] h = tt
 no-lf-take (suc n) (b ∷ d) h = (h .0, no-lf-take n d (h .1))
 
 -- a rest of 87 bytes or more that has no LF may be cut to 87
-module _ (b : List ℕ) (none : NoLF b) (long : 87 ≤ length b) (s : Service) (more : List ℕ) where
+module _ (settable : Bool) (b : List ℕ) (none : NoLF b) (long : 87 ≤ length b) (s : Service) (more : List ℕ) where
   cut-long : 86 < length (take 87 b)
   cut-long = rw (length-take-le 87 b long) (omega arith)
 
-  pub transcript-cut : (n : ℕ) → transcriptOf s n (b ++ more) ≡ transcriptOf s n (take 87 b ++ more)
-  transcript-cut n = transcript-of-long b (take 87 b) none (no-lf-take 87 b none) long cut-long more s n
+  pub transcript-cut : (n : ℕ) → transcriptOf settable s n (b ++ more) ≡ transcriptOf settable s n (take 87 b ++ more)
+  transcript-cut n = transcript-of-long settable b (take 87 b) none (no-lf-take 87 b none) long cut-long more s n
 
-  pub after-cut : (n : ℕ) → afterInput s n (b ++ more) ≡ afterInput s n (take 87 b ++ more)
-  after-cut n = service-after-long b (take 87 b) none (no-lf-take 87 b none) long cut-long more s n
+  pub after-cut : (n : ℕ) → afterInput settable s n (b ++ more) ≡ afterInput settable s n (take 87 b ++ more)
+  after-cut n = service-after-long settable b (take 87 b) none (no-lf-take 87 b none) long cut-long more s n

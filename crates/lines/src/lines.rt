@@ -49,11 +49,17 @@ pub fn can_reply(room: usize, to: usize, number: u64) -> bool
 }
 
 // Plays the whole lines of the input, the first of them numbered so, and writes their reply lines from the start of
-// out on, as long as another line can be replied to. The service is taken apart once, and no line copies it, save a
-// first line that chooses the sizes.
-pub fn play_lines(service: Service, first: u64, input: &[u8], out: &mut [u8]) -> Progress
-    ensures { λ r. ⌜ r ≡ lineProgress service first (now (input .entry)) (now (out .entry)) ⌝ }
-    ensures { λ r. ⌜ now (out .exit) ≡ linesWritten service first (now (input .entry)) (now (out .entry)) ⌝ }
+// out on, as long as another line can be replied to. If the sizes are settable, line 1 may choose them. The service is
+// taken apart once, and no line copies it, save a first line that chooses the sizes.
+pub fn play_lines(
+    settable: bool,
+    service: Service,
+    first: u64,
+    input: &[u8],
+    out: &mut [u8],
+) -> Progress
+    ensures { λ r. ⌜ r ≡ lineProgress settable service first (now (input .entry)) (now (out .entry)) ⌝ }
+    ensures { λ r. ⌜ now (out .exit) ≡ linesWritten settable service first (now (input .entry)) (now (out .entry)) ⌝ }
     ensures { λ r. ⌜ r .written ≤ length (now (out .entry)) ⌝ }
 {
     let mut given = service.sizes;
@@ -80,7 +86,7 @@ pub fn play_lines(service: Service, first: u64, input: &[u8], out: &mut [u8]) ->
         used = next;
         number += 1;
         let Parsed::Is(step) = parsed else {
-            if line != 1 {
+            if !(settable & (line == 1)) {
                 to = write_reply(out, to, line, Reply::Refused(NO_STEP), [0; MAX_CLIENTS]);
                 continue;
             }

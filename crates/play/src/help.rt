@@ -10,15 +10,20 @@ pub fn print_version() {
 
 pub fn print_help() {
     print(
-        b"Usage: play [--help] [--version] [--] [FILE..]\n\
+        b"Usage: play [--help] [--version] [--read-image IMAGE] [--write-image IMAGE]\n\
+          \x20           [--] [FILE..]\n\
           \n\
           Plays step files. Each FILE is played on a fresh file service: every line gets a\n\
           reply, and a summary of the service's files comes last. With no FILE, or where\n\
           FILE is -, standard input is played.\n\
           \n\
-          \x20 --help       print this text, and play nothing\n\
-          \x20 --version    print the version, and play nothing\n\
-          \x20 --           end the options: what follows are names of files\n\
+          \x20 --help                 print this text, and play nothing\n\
+          \x20 --version              print the version, and play nothing\n\
+          \x20 --read-image IMAGE     begin with the server whose image this file has, in\n\
+          \x20                        recovery, and with no first line SET\n\
+          \x20 --write-image IMAGE    at the end, put the image of the server into this file\n\
+          \x20 --                     end the options: what follows are names of files\n\
+          With an image, at most one FILE is played.\n\
           \n\
           Steps, one to a line. C is a client, F a file, B a block, V a value:\n\
           \x20 OR C F      open for reading        OW C F      open for writing\n\

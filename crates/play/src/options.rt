@@ -1,6 +1,7 @@
-// What the arguments mean: each by its text, and what they ask for together.
+// What the arguments mean: each by its text and its place, and what they ask for together.
 ghost use mathlib.Core.Path.{_≡_};
-ghost use Rattle.play.specs.Options.{argumentOf, dashed, noRequest, withName, withArgument, actOf};
+ghost use Rattle.play.specs.Options.{argumentOf, imageNameOf, optionOf, once as whenFirst, dashed, noRequest};
+ghost use Rattle.play.specs.Options.{withName, withArgument, isGiven, isMissing, actOf};
 use check::same;
 
 // What an argument is.
@@ -13,20 +14,46 @@ pub enum Argument {
     Dashes,
     Help,
     Version,
+    // `--write-image` and `--read-image`: the name of the image's file follows.
+    WriteImage,
+    ReadImage,
+    ImageName,
+    // `-` in place of that name.
+    NoName,
+    // An option for an image that has come before.
+    Repeated,
     // An option that there is not.
     Unknown,
 }
 
-// What an argument with this text is; `dashes` says whether `--` stands before it.
-pub fn argument_of(text: &[u8], dashes: bool) -> Argument
-    ensures { λ r. ⌜ r ≡ argumentOf dashes (now (text .entry)) ⌝ }
+// What the argument with this text is, at this place, after those that the request has.
+pub fn argument_of(text: &[u8], place: usize, request: Request) -> Argument
+    ensures { λ r. ⌜ r ≡ argumentOf request place (now (text .entry)) ⌝ }
 {
+    if (place == request.written) | (place == request.read) {
+        return image_name_of(text);
+    }
     if same(text, b"-") {
         return Argument::Stdin;
     }
-    if dashes | !is_dashed(text) {
+    if request.dashes | !is_dashed(text) {
         return Argument::Name;
     }
+    option_of(text, request)
+}
+
+fn image_name_of(text: &[u8]) -> Argument
+    ensures { λ r. ⌜ r ≡ imageNameOf (now (text .entry)) ⌝ }
+{
+    if same(text, b"-") {
+        return Argument::NoName;
+    }
+    Argument::ImageName
+}
+
+fn option_of(text: &[u8], request: Request) -> Argument
+    ensures { λ r. ⌜ r ≡ optionOf request (now (text .entry)) ⌝ }
+{
     if same(text, b"--") {
         return Argument::Dashes;
     }
@@ -36,7 +63,23 @@ pub fn argument_of(text: &[u8], dashes: bool) -> Argument
     if same(text, b"--version") {
         return Argument::Version;
     }
+    if same(text, b"--write-image") {
+        return once(request.written, Argument::WriteImage);
+    }
+    if same(text, b"--read-image") {
+        return once(request.read, Argument::ReadImage);
+    }
     Argument::Unknown
+}
+
+// The option, if the place of its name is not known yet.
+fn once(place: usize, option: Argument) -> Argument
+    ensures { λ r. ⌜ r ≡ whenFirst place option ⌝ }
+{
+    if place == 0 {
+        return option;
+    }
+    Argument::Repeated
 }
 
 fn is_dashed(text: &[u8]) -> bool
@@ -55,18 +98,25 @@ pub struct Request {
     // Two or more are.
     several: bool,
     // `--` is among them.
-    pub dashes: bool,
+    dashes: bool,
     help: bool,
     version: bool,
     // One of them is not understood.
     refused: bool,
+    // The places of the arguments that name the image to write and the image to read; 0: there is none.
+    pub written: usize,
+    pub read: usize,
 }
 
 // What the program does.
 pub enum Act {
     Nothing,
+    // The name of the image to write is missing, or of the image to read.
+    RefuseName { writing: bool },
     PrintHelp,
     PrintVersion,
+    // Two or more inputs, and an image to write or to read.
+    RefuseInputs { writing: bool },
     PlayStdin,
     PlayNames { headed: bool },
 }
@@ -83,12 +133,14 @@ impl Request {
             help: false,
             version: false,
             refused: false,
+            written: 0,
+            read: 0,
         }
     }
 
-    // One argument more.
-    pub fn with(mut self, argument: Argument) -> Self
-        ensures { λ r. ⌜ r ≡ withArgument self argument ⌝ }
+    // One argument more; `next` is the place after it.
+    pub fn with(mut self, argument: Argument, next: usize) -> Self
+        ensures { λ r. ⌜ r ≡ withArgument self argument next ⌝ }
     {
         match argument {
             Argument::Name => self = self.with_name(),
@@ -96,6 +148,11 @@ impl Request {
             Argument::Dashes => self.dashes = true,
             Argument::Help => self.help = true,
             Argument::Version => self.version = true,
+            Argument::WriteImage => self.written = next,
+            Argument::ReadImage => self.read = next,
+            Argument::ImageName => {}
+            Argument::NoName => self.refused = true,
+            Argument::Repeated => self.refused = true,
             Argument::Unknown => self.refused = true,
         }
         self
@@ -109,17 +166,28 @@ impl Request {
         self
     }
 
-    pub fn act(self) -> Act
-        ensures { λ r. ⌜ r ≡ actOf self ⌝ }
+    // What all arguments ask for; there are so many, the program's own name among them.
+    pub fn act(self, count: usize) -> Act
+        ensures { λ r. ⌜ r ≡ actOf self count ⌝ }
     {
+        let lacks_written = is_missing(self.written, count);
+        let writing = is_given(self.written);
         if self.refused {
             return Act::Nothing;
+        }
+        if lacks_written | is_missing(self.read, count) {
+            return Act::RefuseName {
+                writing: lacks_written,
+            };
         }
         if self.help {
             return Act::PrintHelp;
         }
         if self.version {
             return Act::PrintVersion;
+        }
+        if self.several & (writing | is_given(self.read)) {
+            return Act::RefuseInputs { writing };
         }
         if self.named {
             return Act::PlayNames {
@@ -128,4 +196,17 @@ impl Request {
         }
         Act::PlayStdin
     }
+}
+
+// Whether an image is given, by the place of its name; and whether that place is past the last argument.
+fn is_given(place: usize) -> bool
+    ensures { λ r. ⌜ r ≡ isGiven place ⌝ }
+{
+    !(place == 0)
+}
+
+fn is_missing(place: usize, count: usize) -> bool
+    ensures { λ r. ⌜ r ≡ isMissing place count ⌝ }
+{
+    is_given(place) & (count <= place)
 }

@@ -3,34 +3,51 @@ ghost use Prim.Native.Nat.{_≤_};
 ghost use lib.ListN.{length};
 use crate::errors::fail;
 use crate::errors::fail_output;
+use input::read_after;
 use libc::STDOUT_FILENO;
 use player::Session;
 
-// Plays what the descriptor gives, and answers whether standard output took it. A read or a write that fails is told
-// of, and ends the play before the summary. The loop counts its turns down, since nothing says that an input ends.
-pub fn play(fd: i32, name: &[u8]) -> bool {
+// How a play ended.
+pub struct End {
+    // Standard output took all that was written.
+    pub writes: bool,
+    // The session then; it is done if the whole input is played and its summary written.
+    pub session: Session,
+}
+
+// Plays what the descriptor gives, from this session on. A read or a write that fails is told of, and ends the play
+// before the summary. The loop counts its turns down, since nothing says that an input ends.
+pub fn play(start: Session, fd: i32, name: &[u8]) -> End
+    requires { ⌜ start .rest ≤ 262144 ⌝ }
+{
     let mut buffer = input_buffer();
     let mut out = output_buffer();
-    let mut session = Session::new();
+    let mut session = start;
     let mut turns = u64::MAX;
     while (turns > 0) & !session.done {
         let wanted = !(session.paused | session.over);
         let got = read_if(wanted, fd, &mut buffer, session.rest);
         if got < 0 {
             fail(name);
-            return true;
+            break;
         }
         let count = io::count(got, &buffer);
         let turn = session.advance(count, &mut buffer, &mut out);
-        if !write(&out, turn.written) {
-            fail_output();
-            return false;
-        }
         let after = turn.session;
         session = after;
+        if !write(&out, turn.written) {
+            fail_output();
+            return End {
+                writes: false,
+                session,
+            };
+        }
         turns -= 1;
     }
-    true
+    End {
+        writes: true,
+        session,
+    }
 }
 
 // The buffers are large beside the service, which is copied a few times for each buffer that is played; and a reply line
@@ -50,7 +67,7 @@ fn read_if(wanted: bool, fd: i32, buffer: &mut [u8], rest: usize) -> isize
     if !wanted {
         return 0;
     }
-    libc::read(fd, &mut buffer[rest..])
+    read_after(fd, buffer, rest)
 }
 
 // Writes the first bytes of out, and answers whether all were written.

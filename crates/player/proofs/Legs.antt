@@ -2,7 +2,7 @@
 -- all that follows; the session and the buffer that it leaves are sound. Assumes nothing.
 use Prim.Native.Nat.{ℕ, _+_, _≤_, _<_}
 use mathlib.Core.Path.{_≡_, refl, sym, ap, subst, _∙_}
-use mathlib.Core.Bool.{Bool, true, false, not, _&&_, _||_}
+use mathlib.Core.Bool.{Bool, true, false, not}
 use mathlib.Core.List.{List, [], _∷_, _++_, append-assoc, append-nil}
 use native.Mathlib.Nat.{add-zero}
 use native.Mathlib.Omega.{arith}
@@ -12,7 +12,7 @@ use lib.Seq.{take-at}
 use borrow.Author.Tests.{le-leb, eqb-true}
 use Rattle.service.specs.declared.service.Service.{Service}
 use Rattle.records.proofs.Choosing.{when, unless, split, conflict, and-left, and-right}
-use Rattle.stepfile.specs.Played.{summaryOf, replyLine, serviceAfter}
+use Rattle.stepfile.specs.Played.{summaryOf, replyLines, afterLines}
 use Rattle.stepfile.specs.Transcript.{lines, transcript, after}
 use Rattle.stepfile.proofs.Splitting.{NoLF}
 use Rattle.writer.specs.Buffer.{summaryRoom}
@@ -20,68 +20,38 @@ use Rattle.lines.specs.Lines.{transcriptOf, afterInput, lineProgress}
 use Rattle.player.specs.declared.session.Session.{Session}
 use Rattle.player.specs.declared.session.Advance.{Advance}
 use Rattle.player.specs.Turn.{bufferAfter, completedBuffer, completedCount}
-use Rattle.player.specs.Session.{freshSession, wantsInput, isLastTurn, readsNothing, filled, turnBufferOf, turnBytes, afterTurn, sessionSummary, closed, outLeft}
+use Rattle.player.specs.Session.{startOf, wantsInput, isLastTurn, readsNothing, filled, turnBufferOf, turnBytes, afterTurn, sessionSummary, closed, outLeft}
 use Rattle.player.specs.Run.{Leg, turned, left, wrote, Takes}
+use Rattle.player.proofs.Flags.{or-right, or-either, not-true, wants, wants-not-paused, over-wants-none, paused-wants-none, still-paused, still-reads}
 use Rattle.player.proofs.Completing.{take-none, Terminated, terminated-none, terminated-drop, last-line, last-terminated}
 use Rattle.player.proofs.Turning.{take-least, kept-stands, kept-no-lf, kept-short, left-no-lf, paused-keeps, written-text, turn-transcript, turn-service}
 
--- the reply lines of an input and its summary, from a service on
-abbrev pub playedFrom : Service → ℕ → List ℕ → List ℕ
-playedFrom s n bytes = transcriptOf s n bytes ++ summaryOf (afterInput s n bytes)
+module _ (σ : Session) where
+  -- the service that a session comes to over bytes, and what it writes: their reply lines and the summary
+  abbrev pub endOn : List ℕ → Service
+  endOn bytes = afterInput (σ .settable) (σ .service) (σ .number) bytes
 
-played-none : (s : Service) (n : ℕ) → playedFrom s n [] ≡ summaryOf s
-unfolding lines transcript after
-played-none s n = refl
+  abbrev pub playedOn : List ℕ → List ℕ
+  playedOn bytes = transcriptOf (σ .settable) (σ .service) (σ .number) bytes ++ summaryOf (endOn bytes)
 
--- inputs with the same lines are played alike
-played-alike : (s : Service) (n : ℕ) (a b : List ℕ) → lines a ≡ lines b → playedFrom s n a ≡ playedFrom s n b
-played-alike s n a b e =
-    ap (λ (ls : List (List ℕ)). transcript replyLine serviceAfter s n ls ++ summaryOf (after serviceAfter s n ls)) e
+  pub end-none : endOn [] ≡ σ .service
+  unfolding lines after
+  end-none = refl
 
--- flags of a session
-pub or-left : (a b : Bool) → a ≡ true → (a || b) ≡ true
-or-left true b e = refl
-or-left false b e = conflict e refl
+  pub played-none : playedOn [] ≡ sessionSummary σ
+  unfolding lines transcript after
+  played-none = refl
 
-or-right : (a b : Bool) → b ≡ true → (a || b) ≡ true
-or-right true b e = refl
-or-right false b e = e
+  -- bytes with the same lines are played alike
+  pub end-alike : (a b : List ℕ) → lines a ≡ lines b → endOn a ≡ endOn b
+  end-alike a b e = ap (afterLines (σ .settable) (σ .service) (σ .number)) e
 
-or-either : (a b : Bool) → (a || b) ≡ true → a ≡ false → b ≡ true
-or-either true b e f = conflict refl f
-or-either false b e f = e
-
-not-true : (x : Bool) → not x ≡ true → x ≡ false
-not-true true e = conflict e refl
-not-true false e = refl
-
-wants : (paused over : Bool) → paused ≡ false → over ≡ false → not (paused || over) ≡ true
-wants paused over e f = rw (e, f)
-
-wants-not-paused : (paused over : Bool) → not (paused || over) ≡ true → paused ≡ false
-wants-not-paused true over e = conflict e refl
-wants-not-paused false over e = refl
-
-pub over-wants-none : (paused over : Bool) → over ≡ true → not (paused || over) ≡ false
-over-wants-none true over e = refl
-over-wants-none false over e = rw e
-
-paused-wants-none : (paused over : Bool) → paused ≡ true → not (paused || over) ≡ false
-paused-wants-none paused over e = rw e
-
--- where a session whose input is over has another turn than its last, it is paused; where it is not paused and not at
--- its last, it reads
-still-paused : (paused over : Bool) → (over && not paused) ≡ false → over ≡ true → paused ≡ true
-still-paused true over e f = refl
-still-paused false over e f = conflict (and-true over f) e
-  where
-    and-true : (a : Bool) → a ≡ true → (a && true) ≡ true
-    and-true true e = refl
-    and-true false e = e
-
-still-reads : (paused over : Bool) → (over && not paused) ≡ false → paused ≡ false → over ≡ false
-still-reads paused true e f = conflict (rw f) e
-still-reads paused false e f = refl
+  pub played-alike : (a b : List ℕ) → lines a ≡ lines b → playedOn a ≡ playedOn b
+  played-alike a b e =
+      ap
+      (λ (ls : List (List ℕ)).
+      replyLines (σ .settable) (σ .service) (σ .number) ls ++ summaryOf (afterLines (σ .settable) (σ .service) (σ .number) ls))
+      e
 
 -- What stands between two turns: a session that is to read has the start of one line, for which there is room; one
 -- whose input is over has whole lines, and nothing once they are played.
@@ -90,8 +60,8 @@ pub record Sound (σ : Session) (kept : List ℕ) : Type 0 where
   pub whole : σ .over ≡ true → Terminated kept
   pub empty : isLastTurn σ ≡ true → kept ≡ []
 
-pub fresh-sound : (buffer : List ℕ) → Sound freshSession (take 0 buffer)
-fresh-sound buffer =
+pub start-sound : (settable : Bool) (s : Service) (buffer : List ℕ) → Sound (startOf settable s) (take 0 buffer)
+start-sound settable s buffer =
     record { reading = λ e. (tt, omega arith); whole = λ e. conflict e refl; empty = λ e. conflict e refl }
 
 -- a turn of the program
@@ -144,13 +114,14 @@ module _ (σ : Session) (buffer : List ℕ) (g : Leg) (takes : Takes σ buffer g
         ∙ ap (take (length (sessionSummary σ))) (when _ _ last ∙ when _ _ room)
         ∙ take-at (sessionSummary σ) (drop (0 + length (sessionSummary σ)) (g .out)) (length (sessionSummary σ)) refl
 
-    pub last-played : (more : List ℕ) → more ≡ [] → playedFrom (σ .service) (σ .number) (kept ++ (g .piece ++ more)) ≡ sessionSummary σ
-    last-played more e =
-        ap (playedFrom (σ .service) (σ .number))
-        (ap (λ (l : List ℕ). l ++ (g .piece ++ more)) (sound .empty last)
+    pub same-service : turned σ g .session .service ≡ σ .service
+    same-service = ap (λ (x : Advance). x .session .service) closes
+
+    pub nothing-left : (more : List ℕ) → more ≡ [] → kept ++ (g .piece ++ more) ≡ []
+    nothing-left more e =
+        ap (λ (l : List ℕ). l ++ (g .piece ++ more)) (sound .empty last)
         ∙ ap (λ (l : List ℕ). l ++ more) (takes .reading (over-wants-none (σ .paused) (σ .over) is-over))
-        ∙ e)
-        ∙ played-none (σ .service) (σ .number)
+        ∙ e
 
   -- any other turn
   module _ (other : isLastTurn σ ≡ false) where
@@ -163,44 +134,50 @@ module _ (σ : Session) (buffer : List ℕ) (g : Leg) (takes : Takes σ buffer g
     plays : turned σ g ≡ afterTurn σ got bytes (g .out)
     plays = unless _ _ other
 
-    leaves : left σ g ≡ bufferAfter (σ .service) (σ .number) b₁ bytes (g .out)
+    leaves : left σ g ≡ bufferAfter (σ .settable) (σ .service) (σ .number) b₁ bytes (g .out)
     leaves = unless _ _ other
 
     abbrev turn : Session
     turn = afterTurn σ got bytes (g .out) .session
 
     abbrev turnKept : List ℕ
-    turnKept = take (turn .rest) (bufferAfter (σ .service) (σ .number) b₁ bytes (g .out))
+    turnKept = take (turn .rest) (bufferAfter (σ .settable) (σ .service) (σ .number) b₁ bytes (g .out))
 
     same-kept : kept′ ≡ turnKept
     same-kept = ap (λ (x : Advance). take (x .session .rest) (left σ g)) plays ∙ ap (take (turn .rest)) leaves
 
     -- what the turn writes, and what will be written of the rest, are all of it
     abbrev used : ℕ
-    used = lineProgress (σ .service) (σ .number) bytes (g .out) .used
+    used = lineProgress (σ .settable) (σ .service) (σ .number) bytes (g .out) .used
 
     abbrev Written : List ℕ
-    Written = transcriptOf (σ .service) (σ .number) (take used bytes)
+    Written = transcriptOf (σ .settable) (σ .service) (σ .number) (take used bytes)
 
     wrote-lines : wrote σ g ≡ Written
     wrote-lines =
         ap (λ (x : Advance). take (x .written) outAfter) plays
         ∙ ap (take (afterTurn σ got bytes (g .out) .written)) (unless _ _ other)
-        ∙ written-text (σ .service) (σ .number) b₁ count (g .out)
+        ∙ written-text (σ .settable) (σ .service) (σ .number) b₁ count (g .out)
 
-    pub wrote-first : (more : List ℕ)
-        → playedFrom (σ .service) (σ .number) (bytes ++ more) ≡ wrote σ g ++ playedFrom (next .service) (next .number) (kept′ ++ more)
+    pub wrote-first : (more : List ℕ) → playedOn σ (bytes ++ more) ≡ wrote σ g ++ playedOn next (kept′ ++ more)
     wrote-first more =
+        let may = σ .settable in
         let s = σ .service in
         let n = σ .number in
-        let later = transcriptOf (turn .service) (turn .number) (turnKept ++ more) in
-        ap (λ (x : Service). transcriptOf s n (bytes ++ more) ++ summaryOf x) (turn-service s n b₁ count (g .out) more)
-        ∙ ap (λ (l : List ℕ). l ++ summaryOf (afterInput (turn .service) (turn .number) (turnKept ++ more)))
-        (turn-transcript s n b₁ count (g .out) more)
-        ∙ append-assoc Written later (summaryOf (afterInput (turn .service) (turn .number) (turnKept ++ more)))
-        ∙ ap (λ (l : List ℕ). l ++ playedFrom (turn .service) (turn .number) (turnKept ++ more)) (sym wrote-lines)
-        ∙ ap (λ (l : List ℕ). wrote σ g ++ playedFrom (turn .service) (turn .number) (l ++ more)) (sym same-kept)
-        ∙ ap (λ (x : Advance). wrote σ g ++ playedFrom (x .session .service) (x .session .number) (kept′ ++ more)) (sym plays)
+        let later = transcriptOf may (turn .service) (turn .number) (turnKept ++ more) in
+        ap (λ (x : Service). transcriptOf may s n (bytes ++ more) ++ summaryOf x) (turn-service may s n b₁ count (g .out) more)
+        ∙ ap (λ (l : List ℕ). l ++ summaryOf (endOn turn (turnKept ++ more))) (turn-transcript may s n b₁ count (g .out) more)
+        ∙ append-assoc Written later (summaryOf (endOn turn (turnKept ++ more)))
+        ∙ ap (λ (l : List ℕ). l ++ playedOn turn (turnKept ++ more)) (sym wrote-lines)
+        ∙ ap (λ (l : List ℕ). wrote σ g ++ playedOn turn (l ++ more)) (sym same-kept)
+        ∙ ap (λ (x : Advance). wrote σ g ++ playedOn (x .session) (kept′ ++ more)) (sym plays)
+
+    -- and the service that it leaves comes to the same
+    pub same-end : (more : List ℕ) → endOn σ (bytes ++ more) ≡ endOn next (kept′ ++ more)
+    same-end more =
+        turn-service (σ .settable) (σ .service) (σ .number) b₁ count (g .out) more
+        ∙ ap (λ (l : List ℕ). endOn turn (l ++ more)) (sym same-kept)
+        ∙ ap (λ (x : Advance). endOn (x .session) (kept′ ++ more)) (sym plays)
 
     -- what is played: the rest; the rest and what was read; at the end of the input the rest and LF
     paused-bytes : σ .paused ≡ true → bytes ≡ kept
@@ -235,26 +212,26 @@ module _ (σ : Session) (buffer : List ℕ) (g : Leg) (takes : Takes σ buffer g
           ∙ sym (last-line (g .buffer) (σ .rest) has-room (rw (stands nothing-read) (one-line .0)))
           ∙ ap lines (sym (last-bytes e none))
 
-    pub same-played : (more : List ℕ) → (readsNothing (σ .paused) got ≡ true → more ≡ [])
-        → playedFrom (σ .service) (σ .number) (kept ++ (g .piece ++ more)) ≡ playedFrom (σ .service) (σ .number) (bytes ++ more)
-    same-played more ended =
-        let from = playedFrom (σ .service) (σ .number) in
+    -- so the bytes that are played, and what follows, have the lines of what was read
+    pub same-input : (more : List ℕ) → (readsNothing (σ .paused) got ≡ true → more ≡ [])
+        → lines (kept ++ (g .piece ++ more)) ≡ lines (bytes ++ more)
+    same-input more ended =
         split (σ .paused)
         (λ e.
         let empty = takes .reading (paused-wants-none (σ .paused) (σ .over) e) in
-        ap (λ (l : List ℕ). from (kept ++ (l ++ more))) empty ∙ ap (λ (l : List ℕ). from (l ++ more)) (sym (paused-bytes e)))
+        ap (λ (l : List ℕ). lines (kept ++ (l ++ more))) empty ∙ ap (λ (l : List ℕ). lines (l ++ more)) (sym (paused-bytes e)))
         (λ e.
         split (eqb got 0)
         (λ none.
         let nil = ended (rw (e, none)) in
-        ap (λ (l : List ℕ). from (kept ++ (l ++ more))) (nothing-read e none)
-        ∙ ap (λ (l : List ℕ). from (kept ++ l)) nil
-        ∙ ap from (append-nil kept)
-        ∙ played-alike (σ .service) (σ .number) kept bytes (same-lines e none)
-        ∙ ap from (sym (append-nil bytes))
-        ∙ ap (λ (l : List ℕ). from (bytes ++ l)) (sym nil))
+        ap (λ (l : List ℕ). lines (kept ++ (l ++ more))) (nothing-read e none)
+        ∙ ap (λ (l : List ℕ). lines (kept ++ l)) nil
+        ∙ ap lines (append-nil kept)
+        ∙ same-lines e none
+        ∙ ap lines (sym (append-nil bytes))
+        ∙ ap (λ (l : List ℕ). lines (bytes ++ l)) (sym nil))
         (λ some.
-        ap from (sym (append-assoc kept (g .piece) more)) ∙ ap (λ (l : List ℕ). from (l ++ more)) (sym (read-bytes e some))))
+        ap lines (sym (append-assoc kept (g .piece) more)) ∙ ap (λ (l : List ℕ). lines (l ++ more)) (sym (read-bytes e some))))
 
     -- once the input is over, what is played ends with LF
     ends-whole : turn .over ≡ true → Terminated bytes
@@ -269,8 +246,8 @@ module _ (σ : Session) (buffer : List ℕ) (g : Leg) (takes : Takes σ buffer g
 
     none-kept : turn .over ≡ true → turn .paused ≡ false → turnKept ≡ []
     none-kept ended going =
-        kept-stands (σ .service) (σ .number) b₁ count (g .out)
-        ∙ ap (take (turn .rest)) (ends-whole ended used (left-no-lf (σ .service) (σ .number) b₁ count (g .out) going))
+        kept-stands (σ .settable) (σ .service) (σ .number) b₁ count (g .out)
+        ∙ ap (take (turn .rest)) (ends-whole ended used (left-no-lf (σ .settable) (σ .service) (σ .number) b₁ count (g .out) going))
         ∙ take-none (turn .rest)
 
     turn-sound : Sound turn turnKept
@@ -278,11 +255,11 @@ module _ (σ : Session) (buffer : List ℕ) (g : Leg) (takes : Takes σ buffer g
         record {
           reading = λ e.
               let going = wants-not-paused (turn .paused) (turn .over) e in
-              (kept-no-lf (σ .service) (σ .number) b₁ count (g .out) going, kept-short (σ .service) (σ .number) b₁ count (g .out) going);
+              (kept-no-lf (σ .settable) (σ .service) (σ .number) b₁ count (g .out) going, kept-short (σ .settable) (σ .service) (σ .number) b₁ count (g .out) going);
           whole = λ ended.
               split (turn .paused)
               (λ e.
-              subst Terminated (sym (paused-keeps (σ .service) (σ .number) b₁ count (g .out) e)) (terminated-drop bytes used (ends-whole ended)))
+              subst Terminated (sym (paused-keeps (σ .settable) (σ .service) (σ .number) b₁ count (g .out) e)) (terminated-drop bytes used (ends-whole ended)))
               (λ e. subst Terminated (sym (none-kept ended e)) terminated-none);
           empty = λ last.
               none-kept (and-left (turn .over) (not (turn .paused)) last) (not-true (turn .paused) (and-right (turn .over) (not (turn .paused)) last));

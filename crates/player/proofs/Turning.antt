@@ -55,18 +55,18 @@ left-of m used l inside part =
     ∙ ap (drop used) (take-add used (m - used) l)
     ∙ drop-at (take used l) (take (m - used) (drop used l)) used (length-take-le used l (omega arith))
 
-module _ (s : Service) (n : ℕ) (buffer : List ℕ) (filled : ℕ) (out : List ℕ) where
+module _ (settable : Bool) (s : Service) (n : ℕ) (buffer : List ℕ) (filled : ℕ) (out : List ℕ) where
   abbrev bytes : List ℕ
   bytes = take filled buffer
 
   abbrev p : Progress
-  p = lineProgress s n bytes out
+  p = lineProgress settable s n bytes out
 
   abbrev t : Turn
-  t = turnOf s n bytes out
+  t = turnOf settable s n bytes out
 
   abbrev kept : List ℕ
-  kept = take (t .rest) (bufferAfter s n buffer bytes out)
+  kept = take (t .rest) (bufferAfter settable s n buffer bytes out)
 
   abbrev a : List ℕ
   a = take (p .used) bytes
@@ -74,8 +74,8 @@ module _ (s : Service) (n : ℕ) (buffer : List ℕ) (filled : ℕ) (out : List 
   abbrev b : List ℕ
   b = drop (p .used) bytes
 
-  stops : Stop s n bytes out p
-  stops = stop s n bytes out
+  stops : Stop settable s n bytes out p
+  stops = stop settable s n bytes out
 
   abbrev can : Bool
   can = canReply (length out) (p .written) (p .number)
@@ -87,8 +87,8 @@ module _ (s : Service) (n : ℕ) (buffer : List ℕ) (filled : ℕ) (out : List 
   bytes-most = rw (length-take-least filled buffer) (least-right filled (length buffer))
 
   -- what was written is the transcript of the bytes that were played
-  pub written-text : take (t .written) (linesWritten s n bytes out) ≡ transcriptOf s n a
-  written-text = take-at (transcriptOf s n a) (drop (0 + length (transcriptOf s n a)) out) (p .written) (sym (stops .at .size))
+  pub written-text : take (t .written) (linesWritten settable s n bytes out) ≡ transcriptOf settable s n a
+  written-text = take-at (transcriptOf settable s n a) (drop (0 + length (transcriptOf settable s n a)) out) (p .written) (sym (stops .at .size))
 
   -- all that is left is kept, or 87 bytes of one line
   by-rest :
@@ -125,7 +125,7 @@ module _ (s : Service) (n : ℕ) (buffer : List ℕ) (filled : ℕ) (out : List 
   -- the bytes that are kept, where they stand after the move
   pub kept-stands : kept ≡ take (t .rest) b
   kept-stands =
-      ap (λ (k : ℕ). take k (bufferAfter s n buffer bytes out)) (sym (zero-add (t .rest)))
+      ap (λ (k : ℕ). take k (bufferAfter settable s n buffer bytes out)) (sym (zero-add (t .rest)))
       ∙ take-paste buffer 0 (drop (p .used) buffer) (t .rest) (omega arith) source-long
       ∙ sym (ap (take (t .rest)) b-left ∙ take-take (t .rest) (length bytes - p .used) (drop (p .used) buffer) rest-most)
 
@@ -135,41 +135,41 @@ module _ (s : Service) (n : ℕ) (buffer : List ℕ) (filled : ℕ) (out : List 
   cut-kept : t .rest ≡ 87 → kept ≡ take 87 b
   cut-kept e = kept-stands ∙ ap (λ (k : ℕ). take k b) e
 
-  kept-transcript : (more : List ℕ) → transcriptOf (p .service) (p .number) (b ++ more) ≡ transcriptOf (p .service) (p .number) (kept ++ more)
+  kept-transcript : (more : List ℕ) → transcriptOf settable (p .service) (p .number) (b ++ more) ≡ transcriptOf settable (p .service) (p .number) (kept ++ more)
   kept-transcript more =
       by-rest _
-      (λ e. ap (λ (l : List ℕ). transcriptOf (p .service) (p .number) (l ++ more)) (sym (all-kept e)))
+      (λ e. ap (λ (l : List ℕ). transcriptOf settable (p .service) (p .number) (l ++ more)) (sym (all-kept e)))
       (λ c l e.
-      transcript-cut b (stops .none c) (omega (arith, b-long)) (p .service) more (p .number)
-      ∙ ap (λ (l : List ℕ). transcriptOf (p .service) (p .number) (l ++ more)) (sym (cut-kept e)))
+      transcript-cut settable b (stops .none c) (omega (arith, b-long)) (p .service) more (p .number)
+      ∙ ap (λ (l : List ℕ). transcriptOf settable (p .service) (p .number) (l ++ more)) (sym (cut-kept e)))
 
-  kept-after : (more : List ℕ) → afterInput (p .service) (p .number) (b ++ more) ≡ afterInput (p .service) (p .number) (kept ++ more)
+  kept-after : (more : List ℕ) → afterInput settable (p .service) (p .number) (b ++ more) ≡ afterInput settable (p .service) (p .number) (kept ++ more)
   kept-after more =
       by-rest _
-      (λ e. ap (λ (l : List ℕ). afterInput (p .service) (p .number) (l ++ more)) (sym (all-kept e)))
+      (λ e. ap (λ (l : List ℕ). afterInput settable (p .service) (p .number) (l ++ more)) (sym (all-kept e)))
       (λ c l e.
-      after-cut b (stops .none c) (omega (arith, b-long)) (p .service) more (p .number)
-      ∙ ap (λ (l : List ℕ). afterInput (p .service) (p .number) (l ++ more)) (sym (cut-kept e)))
+      after-cut settable b (stops .none c) (omega (arith, b-long)) (p .service) more (p .number)
+      ∙ ap (λ (l : List ℕ). afterInput settable (p .service) (p .number) (l ++ more)) (sym (cut-kept e)))
 
   whole : (more : List ℕ) → bytes ++ more ≡ a ++ (b ++ more)
   whole more = ap (λ (l : List ℕ). l ++ more) (sym (take-append-drop (p .used) bytes)) ∙ append-assoc a b more
 
   -- whatever follows
   pub turn-transcript : (more : List ℕ)
-      → transcriptOf s n (bytes ++ more) ≡ transcriptOf s n a ++ transcriptOf (t .service) (t .number) (kept ++ more)
+      → transcriptOf settable s n (bytes ++ more) ≡ transcriptOf settable s n a ++ transcriptOf settable (t .service) (t .number) (kept ++ more)
   turn-transcript more =
-      ap (transcriptOf s n) (whole more)
-      ∙ transcript-on replyLine serviceAfter s n a (b ++ more) (stops .at .breaks)
-      ∙ ap (λ (x : Service). transcriptOf s n a ++ transcriptOf x (n + length (lines a)) (b ++ more)) (sym (stops .at .service))
-      ∙ ap (λ (k : ℕ). transcriptOf s n a ++ transcriptOf (p .service) k (b ++ more)) (sym (stops .at .numbers))
-      ∙ ap (λ (l : List ℕ). transcriptOf s n a ++ l) (kept-transcript more)
+      ap (transcriptOf settable s n) (whole more)
+      ∙ transcript-on (replyLine settable) (serviceAfter settable) s n a (b ++ more) (stops .at .breaks)
+      ∙ ap (λ (x : Service). transcriptOf settable s n a ++ transcriptOf settable x (n + length (lines a)) (b ++ more)) (sym (stops .at .service))
+      ∙ ap (λ (k : ℕ). transcriptOf settable s n a ++ transcriptOf settable (p .service) k (b ++ more)) (sym (stops .at .numbers))
+      ∙ ap (λ (l : List ℕ). transcriptOf settable s n a ++ l) (kept-transcript more)
 
-  pub turn-service : (more : List ℕ) → afterInput s n (bytes ++ more) ≡ afterInput (t .service) (t .number) (kept ++ more)
+  pub turn-service : (more : List ℕ) → afterInput settable s n (bytes ++ more) ≡ afterInput settable (t .service) (t .number) (kept ++ more)
   turn-service more =
-      ap (afterInput s n) (whole more)
-      ∙ after-on serviceAfter s n a (b ++ more) (stops .at .breaks)
-      ∙ ap (λ (x : Service). afterInput x (n + length (lines a)) (b ++ more)) (sym (stops .at .service))
-      ∙ ap (λ (k : ℕ). afterInput (p .service) k (b ++ more)) (sym (stops .at .numbers))
+      ap (afterInput settable s n) (whole more)
+      ∙ after-on (serviceAfter settable) s n a (b ++ more) (stops .at .breaks)
+      ∙ ap (λ (x : Service). afterInput settable x (n + length (lines a)) (b ++ more)) (sym (stops .at .service))
+      ∙ ap (λ (k : ℕ). afterInput settable (p .service) k (b ++ more)) (sym (stops .at .numbers))
       ∙ kept-after more
 
   -- a turn that is not paused leaves the start of one line, and room for its LF
@@ -196,9 +196,9 @@ module _ (s : Service) (n : ℕ) (buffer : List ℕ) (filled : ℕ) (out : List 
   pub paused-keeps : t .paused ≡ true → kept ≡ b
   paused-keeps e = all-kept (unless _ _ (is-paused can e))
 
-  pub buffer-long : length (bufferAfter s n buffer bytes out) ≡ length buffer
+  pub buffer-long : length (bufferAfter settable s n buffer bytes out) ≡ length buffer
   buffer-long =
       length-paste buffer 0 (drop (p .used) buffer) (t .rest) (omega (arith, rest-most, bytes-most)) source-long
 
-  pub out-long : t .written ≤ length out → length (linesWritten s n bytes out) ≡ length out
-  out-long fits = length-written out 0 (transcriptOf s n a) (omega (arith, stops .at .size))
+  pub out-long : t .written ≤ length out → length (linesWritten settable s n bytes out) ≡ length out
+  out-long fits = length-written out 0 (transcriptOf settable s n a) (omega (arith, stops .at .size))

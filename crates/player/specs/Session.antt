@@ -1,7 +1,7 @@
 -- A session: one input from its first byte to the summary. The program reads, lets the session take a turn, and writes
 -- what the turn left in the output buffer; all else is decided here.
 use Prim.Native.Nat.{ℕ, _+_}
-use mathlib.Core.Bool.{Bool, false, cond, not, _&&_, _||_}
+use mathlib.Core.Bool.{Bool, true, false, cond, not, _&&_, _||_}
 use mathlib.Core.List.{List}
 use lib.Dec.{eqb, leb}
 use lib.ListN.{length, take}
@@ -16,9 +16,26 @@ use Rattle.player.specs.declared.turn.Turn.{Turn}
 use Rattle.lines.specs.Lines.{linesWritten}
 use Rattle.player.specs.Turn.{least, turnOf, bufferAfter, completedBuffer, completedCount}
 
--- the fresh service, and "line number from 1"
+-- a session that begins with this service, and "line number from 1"
+abbrev pub startOf : Bool → Service → Session
+startOf settable s =
+    record {
+      settable = settable;
+      service = s;
+      number = 1;
+      rest = 0;
+      paused = false;
+      over = false;
+      done = false;
+    }
+
+-- with the fresh service, whose sizes line 1 may choose
 abbrev pub freshSession : Session
-freshSession = record { service = fresh defaultSizes; number = 1; rest = 0; paused = false; over = false; done = false }
+freshSession = startOf true (fresh defaultSizes)
+
+-- with a service that has its sizes
+abbrev pub resumedSession : Service → Session
+resumedSession s = startOf false s
 
 -- whether the program is to read before the turn: whole lines may be left otherwise, or the input is over
 abbrev pub wantsInput : Session → Bool
@@ -53,6 +70,7 @@ withTurn σ got t =
     record {
       session =
           record {
+            settable = σ .settable;
             service = t .service;
             number = t .number;
             rest = t .rest;
@@ -64,7 +82,7 @@ withTurn σ got t =
     }
 
 abbrev pub afterTurn : Session → ℕ → List ℕ → List ℕ → Advance
-afterTurn σ got bytes out = withTurn σ got (turnOf (σ .service) (σ .number) bytes out)
+afterTurn σ got bytes out = withTurn σ got (turnOf (σ .settable) (σ .service) (σ .number) bytes out)
 
 abbrev pub sessionSummary : Session → List ℕ
 sessionSummary σ = summaryOf (σ .service)
@@ -75,6 +93,7 @@ closed σ out =
     record {
       session =
           record {
+            settable = σ .settable;
             service = σ .service;
             number = σ .number;
             rest = 0;
@@ -93,7 +112,7 @@ advanced σ got buffer out = cond (isLastTurn σ) (closed σ out) (afterTurn σ 
 abbrev pub bufferLeft : Session → ℕ → List ℕ → List ℕ → List ℕ
 bufferLeft σ got buffer out =
     cond (isLastTurn σ) buffer
-    (bufferAfter (σ .service) (σ .number) (turnBufferOf σ got buffer) (turnBytes σ got buffer) out)
+    (bufferAfter (σ .settable) (σ .service) (σ .number) (turnBufferOf σ got buffer) (turnBytes σ got buffer) out)
 
 abbrev pub lastOut : Session → List ℕ → List ℕ
 lastOut σ out = cond (leb summaryRoom (length out)) (written out 0 (sessionSummary σ)) out
@@ -101,4 +120,4 @@ lastOut σ out = cond (leb summaryRoom (length out)) (written out 0 (sessionSumm
 abbrev pub outLeft : Session → ℕ → List ℕ → List ℕ → List ℕ
 outLeft σ got buffer out =
     cond (isLastTurn σ) (lastOut σ out)
-    (linesWritten (σ .service) (σ .number) (turnBytes σ got buffer) out)
+    (linesWritten (σ .settable) (σ .service) (σ .number) (turnBytes σ got buffer) out)

@@ -1,4 +1,5 @@
--- A turn of the player: the bytes that fill a buffer are played, and what is left of them moves to its start.
+-- A turn of the player: the bytes that fill a buffer are played, and what is left of them moves to its start. The Bool
+-- `settable` says whether a first line may choose the sizes.
 use Prim.Native.Nat.{ℕ, _+_, _-_}
 use mathlib.Core.Bool.{Bool, cond, not, _&&_}
 use mathlib.Core.List.{List}
@@ -19,9 +20,9 @@ keptOf isOneLine left = cond isOneLine (least left 87) left
 
 -- A turn from service s on over these bytes into a buffer, the first line numbered n. It pauses exactly where no other
 -- line can be replied to; where one can, what is left has no whole line.
-abbrev pub turnOf : Service → ℕ → List ℕ → List ℕ → Turn
-turnOf s n bytes out =
-    let p = lineProgress s n bytes out in
+abbrev pub turnOf : Bool → Service → ℕ → List ℕ → List ℕ → Turn
+turnOf settable s n bytes out =
+    let p = lineProgress settable s n bytes out in
     let can = canReply (length out) (p .written) (p .number) in
     record {
       service = p .service;
@@ -32,9 +33,9 @@ turnOf s n bytes out =
     }
 
 -- the buffer after a turn over these bytes, the first of it: what is kept stands at its start
-abbrev pub bufferAfter : Service → ℕ → List ℕ → List ℕ → List ℕ → List ℕ
-bufferAfter s n buffer bytes out =
-    paste buffer 0 (drop (lineProgress s n bytes out .used) buffer) (turnOf s n bytes out .rest)
+abbrev pub bufferAfter : Bool → Service → ℕ → List ℕ → List ℕ → List ℕ → List ℕ
+bufferAfter settable s n buffer bytes out =
+    paste buffer 0 (drop (lineProgress settable s n bytes out .used) buffer) (turnOf settable s n bytes out .rest)
 
 -- the end of the input: LF after the rest, if there is one and room for it
 abbrev pub lacksLF : List ℕ → ℕ → Bool

@@ -1,10 +1,10 @@
-// A session: one input, played from a fresh service to the summary, turn by turn. The program only reads before a turn
-// and writes what the turn left in the output buffer.
+// A session: one input, played from a fresh service or a given one to the summary, turn by turn. The program only reads
+// before a turn and writes what the turn left in the output buffer.
 ghost use mathlib.Core.Path.{_≡_};
 ghost use Prim.Native.Nat.{_+_, _≤_};
 ghost use lib.ListN.{length};
 ghost use Rattle.player.specs.Turn.{least as smaller};
-ghost use Rattle.player.specs.Session.{freshSession, turnBuffer, filled, closed, lastOut};
+ghost use Rattle.player.specs.Session.{startOf, freshSession, resumedSession, turnBuffer, filled, closed, lastOut};
 ghost use Rattle.player.specs.Session.{advanced, bufferLeft, outLeft};
 use crate::turn::complete_line;
 use crate::turn::least;
@@ -16,6 +16,8 @@ use writer::write_summary;
 
 // What stands between two turns.
 pub struct Session {
+    // Line 1 may choose the sizes.
+    pub settable: bool,
     pub service: Service,
     // The number of the next line.
     pub number: u64,
@@ -40,14 +42,14 @@ impl Session {
     pub fn new() -> Self
         ensures { λ r. ⌜ r ≡ freshSession ⌝ }
     {
-        Session {
-            service: Service::new(Sizes::default()),
-            number: 1,
-            rest: 0,
-            paused: false,
-            over: false,
-            done: false,
-        }
+        start(true, Service::new(Sizes::default()))
+    }
+
+    // A service that has its sizes, before line 1.
+    pub fn resumed(service: Service) -> Self
+        ensures { λ r. ⌜ r ≡ resumedSession service ⌝ }
+    {
+        start(false, service)
     }
 
     // Takes a turn. A session that is neither paused nor over wants a read into the buffer after the rest, which gave
@@ -65,10 +67,11 @@ impl Session {
         let service = self.service;
         let over = self.over | (!self.paused & (got == 0));
         let filled = fill(self.paused, buffer, self.rest, got);
-        let turn = play_turn(service, self.number, buffer, filled, out);
+        let turn = play_turn(self.settable, service, self.number, buffer, filled, out);
         let after = turn.service;
         Advance {
             session: Session {
+                settable: self.settable,
                 service: after,
                 number: turn.number,
                 rest: turn.rest,
@@ -94,6 +97,7 @@ impl Session {
         let written = write_summary(out, 0, sizes.in_force(), table);
         Advance {
             session: Session {
+                settable: self.settable,
                 service,
                 number: self.number,
                 rest: 0,
@@ -103,6 +107,21 @@ impl Session {
             },
             written,
         }
+    }
+}
+
+// Before line 1.
+fn start(settable: bool, service: Service) -> Session
+    ensures { λ r. ⌜ r ≡ startOf settable service ⌝ }
+{
+    Session {
+        settable,
+        service,
+        number: 1,
+        rest: 0,
+        paused: false,
+        over: false,
+        done: false,
     }
 }
 

@@ -22,24 +22,26 @@ pub struct Turn {
     pub paused: bool,
 }
 
-// Plays the first bytes of the buffer, as many as are filled, and moves what is left of them to its start.
+// Plays the first bytes of the buffer, as many as are filled, and moves what is left of them to its start. If the sizes
+// are settable, line 1 may choose them.
 pub fn play_turn(
+    settable: bool,
     service: Service,
     number: u64,
     buffer: &mut [u8],
     filled: usize,
     out: &mut [u8],
 ) -> Turn
-    ensures { λ r. ⌜ r ≡ turnOf service number (take filled (now (buffer .entry))) (now (out .entry)) ⌝ }
+    ensures { λ r. ⌜ r ≡ turnOf settable service number (take filled (now (buffer .entry))) (now (out .entry)) ⌝ }
     ensures { λ r. ⌜ now (buffer .exit)
-        ≡ bufferAfter service number (now (buffer .entry)) (take filled (now (buffer .entry))) (now (out .entry)) ⌝ }
+        ≡ bufferAfter settable service number (now (buffer .entry)) (take filled (now (buffer .entry))) (now (out .entry)) ⌝ }
     ensures { λ r. ⌜ now (out .exit)
-        ≡ linesWritten service number (take filled (now (buffer .entry))) (now (out .entry)) ⌝ }
+        ≡ linesWritten settable service number (take filled (now (buffer .entry))) (now (out .entry)) ⌝ }
     ensures { λ r. ⌜ r .written ≤ length (now (out .entry)) ⌝ }
     ensures { λ r. ⌜ r .rest ≤ length (now (buffer .entry)) ⌝ }
 {
     let n = least(filled, buffer.len());
-    let progress = play_lines(service, number, &buffer[..n], out);
+    let progress = play_lines(settable, service, number, &buffer[..n], out);
     let can = can_reply(out.len(), progress.written, progress.number);
     let used = progress.used;
     let rest = kept_of(can, n - used);

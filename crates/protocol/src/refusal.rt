@@ -30,6 +30,12 @@ pub const NOT_DIRTY: u8 = 13;
 
 pub const VERSION_SPENT: u8 = 14;
 
+pub const OPEN_WAITS_AT_WRITING: u8 = 15;
+
+pub const BUFFER_TOO_SHORT: u8 = 16;
+
+pub const NO_IMAGE: u8 = 17;
+
 pub const LIST_TOO_LONG: u8 = 18;
 
 pub const OUT_OF_RANGE: u8 = 19;

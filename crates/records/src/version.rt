@@ -2,7 +2,8 @@
 // so that no count and no block value can stand for a version.
 ghost use mathlib.Core.Path.{_≡_};
 ghost use mathlib.Core.Bool.{cond};
-ghost use Rattle.records.specs.Version.{noVersion, firstVersion, numberOf, asRead, nextVersion, previousVersion};
+ghost use Rattle.records.specs.Version.{versionOf, noVersion, firstVersion, numberOf, asRead, nextVersion};
+ghost use Rattle.records.specs.Version.{previousVersion};
 ghost use Rattle.records.specs.Version.{isFirstVersion, isLastVersion, lagsAtMost, latestAt};
 use crate::record::Mode;
 
@@ -21,6 +22,13 @@ impl Version {
         ensures { λ r. ⌜ r ≡ firstVersion ⌝ }
     {
         Version(1)
+    }
+
+    // The version of a number that was kept outside the service.
+    pub fn numbered(number: u32) -> Self
+        ensures { λ r. ⌜ r ≡ versionOf number ⌝ }
+    {
+        Version(number)
     }
 
     // The number that is printed.

@@ -171,7 +171,7 @@ module _
   value-latest s m none i f b h p = WhileRunning.read-kept most promises h i f b p .0
   value-latest s m (since t) i f b h p = WhileRecovering.read-kept most promises h i f b p .0
 
-  read-latest : (s : Service) (m : Memory) (r : Recovery) (x : Step) → Holding s m r → ReadIsLatest s m x
+  pub read-latest : (s : Service) (m : Memory) (r : Recovery) (x : Step) → Holding s m r → ReadIsLatest s m x
   read-latest s m r x h i f b e =
       subst⁻¹ (λ x. refused s x ≡ false → stepOf s x .reply ≡ Value (m f b)) e
       (λ a.
@@ -188,7 +188,7 @@ module _
       let (_, table, none-waits) = WhileRecovering.end-kept most promises h p in
       (t, refl, table, none-waits)
 
-  end-restores : (s : Service) (m : Memory) (r : Recovery) (x : Step) → Holding s m r → EndRestores s r x
+  pub end-restores : (s : Service) (m : Memory) (r : Recovery) (x : Step) → Holding s m r → EndRestores s r x
   end-restores s m r x h e =
       subst⁻¹ (λ x. refused s x ≡ false → Restored r (after s x)) e
       (λ a.

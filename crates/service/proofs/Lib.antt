@@ -27,4 +27,5 @@ pub mod Consistent
 pub mod Owing
 pub mod NothingBehind
 pub mod Demand3
+pub mod Reached
 pub mod Arms

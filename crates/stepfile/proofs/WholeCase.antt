@@ -1,6 +1,7 @@
 -- The whole case of document 01, and an open with three calls, byte for byte, from the definitions by evaluation.
 -- Assumes nothing.
 use mathlib.Core.Path.{_≡_, refl}
+use mathlib.Core.Bool.{false}
 use Rattle.decision.specs.Lists.{count, stored}
 use Rattle.decision.specs.State.{stateOf}
 use Rattle.decision.specs.Callback.{orderedCalls}
@@ -16,7 +17,7 @@ use Rattle.stepfile.specs.Setting.{settingOf}
 use Rattle.stepfile.specs.Line.{callsText, lineText}
 use Rattle.stepfile.specs.Summary.{filesText, summaryText}
 use Rattle.stepfile.specs.Transcript.{lines, transcript, after}
-use Rattle.stepfile.specs.Played.{replyLine, serviceAfter, played}
+use Rattle.stepfile.specs.Played.{replyLine, serviceAfter, playedFrom, played}
 
 pub record WholeCase : Type 0 where
   pub empty : played (bytes "") ≡ bytes "files 0\n"
@@ -35,7 +36,11 @@ pub record WholeCase : Type 0 where
   pub outOfRange :
       played (bytes "SET 9 32 4\nOR 7 31\nOR 8 0\n")
       ≡ bytes "1 N 19\n2 G 1 0 1\n3 N 2\nfiles 1\n31 2 1 -\n"
+  -- a session that goes on from a service keeps its sizes: no line of it sets others
+  pub resumed :
+      playedFrom false (fresh (record { clients = 3; files = 3; blocks = 3 })) (bytes "SET 8 32 4\nOR 3 0\nOR 2 2\n")
+      ≡ bytes "1 N 1\n2 N 2\n3 G 1 0 1\nfiles 1\n2 2 1 -\n"
 
 pub wholeCase : WholeCase
 unfolding fresh stepOf fileStep blockStep tableStep stateOf orderedCalls permissionAtGrant count stored digitsOf decimal digitsOn numeral argument shapeOf shaped step parseLine settingOf valuesText callsText lineText filesText summaryText lines transcript after replyLine serviceAfter played
-wholeCase = record { empty = refl; case = refl; calls = refl; chosen = refl; outOfRange = refl }
+wholeCase = record { empty = refl; case = refl; calls = refl; chosen = refl; outOfRange = refl; resumed = refl }

@@ -1,6 +1,7 @@
--- The whole output for a whole input: the transcript of its lines from the fresh service, then the summary.
+-- The whole output for a whole input: the transcript of its lines from the fresh service, or from another, then the
+-- summary.
 use Prim.Native.Nat.{ℕ}
-use mathlib.Core.Bool.{cond}
+use mathlib.Core.Bool.{Bool, true, cond, _&&_}
 use mathlib.Core.List.{List, _++_}
 use lib.Dec.{eqb}
 use Rattle.protocol.specs.declared.reply.Reply.the-variants.{Refused, Done}
@@ -32,24 +33,37 @@ setOutcome s (Are z) = record { service = fresh z; reply = Done; calls = noCalls
 setOutcome s OutOfRange = refusedWith s 19
 setOutcome s Missing = refusedWith s 1
 
--- "A line that does not give a step is refused before any state is looked at": 1. "by a first line SET ..; on a later
--- line it is no step".
-abbrev pub outcomeOf : Service → ℕ → List ℕ → Parsed → Outcome
-outcomeOf s n l (Is x) = stepOf s x
-outcomeOf s n l NoStep = cond (eqb n 1) (setOutcome s (settingOf l)) (refusedWith s 1)
+-- "A line that does not give a step is refused before any state is looked at": 1. "chosen when the service starts, by a
+-- first line SET ..; on a later line it is no step". The Bool says whether a first line may choose the sizes. It may not
+-- where the session goes on from a service that has its sizes.
+abbrev pub outcomeOf : Bool → Service → ℕ → List ℕ → Parsed → Outcome
+outcomeOf settable s n l (Is x) = stepOf s x
+outcomeOf settable s n l NoStep = cond (settable && eqb n 1) (setOutcome s (settingOf l)) (refusedWith s 1)
 
 -- what is said of line l, numbered n, and the service after it
-unfoldable pub replyLine : Service → ℕ → List ℕ → List ℕ
-replyLine s n l = let o = outcomeOf s n l (parseLine l) in lineText n (o .reply) (o .calls)
+unfoldable pub replyLine : Bool → Service → ℕ → List ℕ → List ℕ
+replyLine settable s n l = let o = outcomeOf settable s n l (parseLine l) in lineText n (o .reply) (o .calls)
 
-unfoldable pub serviceAfter : Service → ℕ → List ℕ → Service
-serviceAfter s n l = outcomeOf s n l (parseLine l) .service
+unfoldable pub serviceAfter : Bool → Service → ℕ → List ℕ → Service
+serviceAfter settable s n l = outcomeOf settable s n l (parseLine l) .service
 
 abbrev pub summaryOf : Service → List ℕ
 summaryOf s = summaryText (sizesOf s) (tableIn s .files)
 
+-- the reply lines of lines from service s on, the first of them numbered n, and the service after them
+abbrev pub replyLines : Bool → Service → ℕ → List (List ℕ) → List ℕ
+replyLines settable s n ls = transcript (replyLine settable) (serviceAfter settable) s n ls
+
+abbrev pub afterLines : Bool → Service → ℕ → List (List ℕ) → Service
+afterLines settable s n ls = after (serviceAfter settable) s n ls
+
+-- the whole output for an input that is played from service s on, and the service at its end
+abbrev pub endOf : Bool → Service → List ℕ → Service
+endOf settable s input = afterLines settable s 1 (lines input)
+
+abbrev pub playedFrom : Bool → Service → List ℕ → List ℕ
+playedFrom settable s input = replyLines settable s 1 (lines input) ++ summaryOf (endOf settable s input)
+
+-- from a fresh service, whose sizes the first line may choose
 unfoldable pub played : List ℕ → List ℕ
-played input =
-    let ls = lines input in
-    let s = fresh defaultSizes in
-    transcript replyLine serviceAfter s 1 ls ++ summaryOf (after serviceAfter s 1 ls)
+played input = playedFrom true (fresh defaultSizes) input

@@ -3,6 +3,7 @@ mod decimal;
 mod reply;
 mod summary;
 
+pub use decimal::put_byte;
 pub use reply::LINE_ROOM;
 pub use reply::write_reply;
 pub use summary::SUMMARY_ROOM;

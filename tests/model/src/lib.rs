@@ -4,6 +4,8 @@
 
 pub mod check;
 pub mod generate;
+pub mod images;
+pub mod process;
 
 mod callbacks;
 mod client;
@@ -11,6 +13,7 @@ mod client_set;
 mod door;
 mod entry;
 mod fields;
+mod image;
 mod input;
 mod outcome;
 mod player;
@@ -30,8 +33,9 @@ pub use client_set::ClientSet;
 pub use door::Admission;
 pub use entry::{Entry, WaitingOpen};
 pub use fields::{ClientField, VersionField, WaitField};
+pub use image::{COUNT_BYTES, ENTRY_BYTES, LONGEST_IMAGE};
 pub use outcome::{Grant, Outcome, Refusal};
-pub use player::{play, replay, replay_from};
+pub use player::{play, play_on, replay, replay_from};
 pub use reader::{LONGEST_STEP, read_line, read_settings};
 pub use record::Record;
 pub use rules::{Document01, Rules};

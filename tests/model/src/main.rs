@@ -1,16 +1,77 @@
-//! Plays a step file from standard input to standard output by document 01's rules.
+//! Plays a step file from standard input to standard output by the documents' rules: `model [--read-image FILE]
+//! [--write-image FILE]`. With an image to read, the session goes on from that reading; with one to write, the image of
+//! the server is written when the input has ended.
 
-use std::io::{stdin, stdout};
+use std::env::args;
+use std::fs;
+use std::io::{Error, stdin, stdout};
 use std::process::ExitCode;
 
-use model::{Document01, play};
+use model::images::written;
+use model::{Document01, Refusal, Service, play_on};
+
+#[derive(Default)]
+struct Options {
+    read_image: Option<String>,
+    write_image: Option<String>,
+}
 
 fn main() -> ExitCode {
-    match play::<Document01>(stdin().lock(), stdout().lock()) {
+    let Some(options) = options(args().skip(1)) else {
+        eprintln!("usage: model [--read-image FILE] [--write-image FILE]");
+        return ExitCode::from(2);
+    };
+    match session(&options) {
         Ok(()) => ExitCode::SUCCESS,
-        Err(error) => {
-            eprintln!("model: {error}");
+        Err(problem) => {
+            eprintln!("model: {problem}");
             ExitCode::FAILURE
         }
     }
+}
+
+/// Each option at most once, with its file.
+fn options(mut words: impl Iterator<Item = String>) -> Option<Options> {
+    let mut options = Options::default();
+    while let Some(word) = words.next() {
+        let place = match word.as_str() {
+            "--read-image" => &mut options.read_image,
+            "--write-image" => &mut options.write_image,
+            _ => return None,
+        };
+        if place.replace(words.next()?).is_some() {
+            return None;
+        }
+    }
+    Some(options)
+}
+
+fn session(options: &Options) -> Result<(), String> {
+    let service = match &options.read_image {
+        Some(path) => resumed(path)?,
+        None => Service::fresh(),
+    };
+    let resumed = options.read_image.is_some();
+    let played = play_on::<Document01>(service, resumed, stdin().lock(), stdout().lock());
+    let service = played.map_err(|error| error.to_string())?;
+    options.write_image.as_ref().map_or(Ok(()), |path| write_image(&service, path))
+}
+
+fn resumed(path: &str) -> Result<Service, String> {
+    let image = fs::read(path).map_err(|error| failed(path, error))?;
+    Service::resumed(&image).map_err(|refusal| refused(path, refusal))
+}
+
+/// A refused image leaves the file as it is.
+fn write_image(service: &Service, path: &str) -> Result<(), String> {
+    let image = written(service).map_err(|refusal| refused(path, refusal))?;
+    fs::write(path, image).map_err(|error| failed(path, error))
+}
+
+fn failed(path: &str, error: Error) -> String {
+    format!("{path}: {error}")
+}
+
+fn refused(path: &str, refusal: Refusal) -> String {
+    format!("{path}: refused with {}", refusal.number())
 }

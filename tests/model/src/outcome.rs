@@ -47,10 +47,14 @@ pub enum Refusal {
     CountAtLimit = 12,
     NotDirty = 13,
     VersionAtLimit = 14,
+    OpenWaitsAtWriting = 15,
+    BufferTooShort = 16,
+    NoImage = 17,
     SettingOutOfRange = 19,
 }
 
 impl Refusal {
+    /// Those that a line of a step file can get.
     pub const NUMBERS: [usize; 15] = [1, 2, 3, 4, 5, 6, 7, 8, 9, 10, 11, 12, 13, 14, 19];
     pub const LAST_NUMBER: usize = 19;
 

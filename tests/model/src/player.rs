@@ -11,22 +11,28 @@ use crate::{Outcome, Refusal, Rules, Service, Settings, Sizes, Step, read_line, 
 
 /// Plays a stream in constant memory. What is said of a buffer of input is out before the next one is read.
 pub fn play<R: Rules>(input: impl Read, output: impl Write) -> Result<()> {
+    play_on::<R>(Service::fresh(), false, input, output).map(|_| ())
+}
+
+/// The same from any service. A resumed session takes no line SET, on its first line either. Gives what the last step
+/// leaves.
+pub fn play_on<R: Rules>(service: Service, resumed: bool, input: impl Read, output: impl Write) -> Result<Service> {
     let mut input = Input::new(input);
-    let (service, printer) = (Service::fresh(), Printer::new(output));
-    let mut player = Player::<R, _> { service, printer, begun: false, rules: PhantomData };
+    let mut player = Player::<R, _> { service, printer: Printer::new(output), begun: resumed, rules: PhantomData };
     while input.advance()? {
         player.lines(input.whole_lines())?;
         player.printer.flush()?;
     }
     player.lines(input.last_line())?;
     player.printer.summary(&player.service, R::files_in_summary(player.service.sizes()))?;
-    player.printer.flush()
+    player.printer.flush()?;
+    Ok(player.service)
 }
 
 struct Player<R, W> {
     service: Service,
     printer: Printer<W>,
-    /// Whether the first line has come.
+    /// Whether the line has passed that may be a line SET.
     begun: bool,
     rules: PhantomData<R>,
 }

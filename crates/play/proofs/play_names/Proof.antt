@@ -5,10 +5,10 @@ use Rattle.play.proofs.play_names.Statement.{statement}
 use Rattle.play.proofs.play_names.Tie as tie
 
 abbrev Inv-loop : tie.InvT-loop
-Inv-loop count headed standing₀ i₀ standing i = Unit {0}
+Inv-loop count headed images standing₀ i₀ standing i = Unit {0}
 
 abbrev μ-loop : tie.MeasureT-loop
-μ-loop count headed standing₀ i₀ standing i = count - i
+μ-loop count headed images standing₀ i₀ standing i = count - i
 
 pub play-names-spec : {M : Type 1} → statement M
 play-names-spec =
@@ -16,6 +16,7 @@ play-names-spec =
     (tie.spec
     Inv-loop
     μ-loop
+    (search needs)
     (search needs)
     (search needs)
     (search needs)

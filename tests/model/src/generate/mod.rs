@@ -1,6 +1,7 @@
 //! Step files, each made from a kind, a seed and a number of lines, and the same for the same three.
 
 mod aim;
+mod closing;
 mod guided;
 mod malformed;
 mod rng;
@@ -18,8 +19,9 @@ use malformed::Malformed;
 use session::Session;
 use settings::{SettingsLines, WithSettings};
 
-use crate::Settings;
+use crate::{Service, Settings};
 
+pub use closing::closing_time;
 pub use rng::Rng;
 
 #[derive(Clone, Copy, PartialEq, Eq, Debug)]
@@ -96,5 +98,12 @@ fn write_lines(author: &mut dyn Author, lines: usize, output: &mut impl Write) -
 pub fn step_file(kind: FileKind, seed: u64, lines: usize) -> Vec<u8> {
     let mut bytes = Vec::new();
     generate(kind, seed, lines, &mut bytes).expect("a vector takes every byte");
+    bytes
+}
+
+/// A session in memory that goes on from this service.
+pub fn session_from(service: Service, seed: u64, lines: usize) -> Vec<u8> {
+    let mut bytes = Vec::new();
+    write_lines(&mut Session::from(service, seed), lines, &mut bytes).expect("a vector takes every byte");
     bytes
 }

@@ -7,7 +7,7 @@ use super::Author;
 use super::rng::Rng;
 use super::stage::{Scope, Stage};
 use super::text::write_step;
-use crate::{CLIENTS, Mode, Outcome, Settings, Step};
+use crate::{CLIENTS, Mode, Outcome, Service, Settings, Step};
 
 /// So many files, or all if there are fewer, are for every desk to work on.
 const SHARED_FILES: usize = 8;
@@ -38,6 +38,13 @@ impl Session {
         let shared_files = sizes.files.min(SHARED_FILES);
         let own_files = (sizes.files - shared_files) / sizes.clients;
         Session { stage, shared_files, own_files, desks: [None; CLIENTS], due: VecDeque::new() }
+    }
+
+    /// A session that goes on from this service, in which every client has closed.
+    pub fn from(service: Service, seed: u64) -> Self {
+        let mut session = Session::new(seed, service.settings);
+        session.stage.service = service;
+        session
     }
 
     fn choose(&mut self) -> Step {

@@ -27,6 +27,7 @@ use Rattle.lines.proofs.lines.play_lines.Proof.Points.{
   Inv-loop,
   μ-loop,
   stands,
+  settable₀,
   service₀,
   first₀,
   input₀,
@@ -56,23 +57,23 @@ chosen : (c : tie.After-read-setting Inv-loop2 μ-loop2 Inv-loop μ-loop) (x : S
     → (let line = c .before .before .before .before .before in
     LineAt (input₀ (before-line line)) (before-line line .loop .used) l (next line)
     → c .read-setting .result ≡ x
-    → setOutcome (stands (before-line line)) x ≡ outcomeOf (stands (before-line line)) (before-line line .loop .number) l (gives line))
+    → setOutcome (stands (before-line line)) x ≡ outcomeOf (settable₀ (before-line line)) (stands (before-line line)) (before-line line .loop .number) l (gives line))
 chosen c x l at is =
     let at-line = before-line (c .before .before .before .before .before) in
-    set-line (stands at-line) (at-line .loop .number) l _ x (c .before .before .before .enum-told2 .given .1) (c .before .before .if2 .left)
+    set-line (settable₀ at-line) (stands at-line) (at-line .loop .number) l _ x (c .before .before .before .enum-told2 .given .1) (c .before .before .if2 .left)
     (sym is ∙ c .read-setting .ensures ∙ ap settingOf (line-bytes (input₀ at-line) (at-line .loop .used) (next (c .before .before .before .before .before)) l at))
 
 loop-holds : tie.Need-loop-holds Inv-loop2 μ-loop2 Inv-loop μ-loop
 loop-holds c =
     let a = c .before .before .before .before .before .before .before .before .before .before .before .before .before .args in
-    (none-yet (a .service) (a .first) (now (a .input)) (now (a .out)), c .before .before .before .before .before .before .before .before .before .in-force .ensures .0)
+    (none-yet (a .settable) (a .service) (a .first) (now (a .input)) (now (a .out)), c .before .before .before .before .before .before .before .before .before .in-force .ensures .0)
 
 loop-again : tie.Need-loop-again Inv-loop2 μ-loop2 Inv-loop μ-loop
 loop-again c =
     let line = c .before .before .before .before .before .before .before in
     let l = before-line line .loop in (
       replies line (refusedWith (stands (before-line line)) 1) _ _
-          (λ text at. late-line (stands (before-line line)) (l .number) text _ (c .before .before .before .before .before .enum-told2 .given .1) (c .before .before .before .before .if2 .taken))
+          (λ text at. late-line (settable₀ (before-line line)) (stands (before-line line)) (l .number) text _ (c .before .before .before .before .before .enum-told2 .given .1) (c .before .before .before .before .if2 .taken))
           (c .before .before .write-reply .ensures .0)
           (c .before .before .write-reply .ensures .1),
       l .inv .1,
@@ -159,14 +160,14 @@ returns : tie.Need-returns Inv-loop2 μ-loop2 Inv-loop μ-loop
 returns c =
     let at = c .before .before in
     let l = at .loop in
-    stops-full (service₀ at) (first₀ at) (input₀ at) (out₀ at) (stands at) (l .number) (l .used) (l .to) (l .out) (reached at)
+    stops-full (settable₀ at) (service₀ at) (first₀ at) (input₀ at) (out₀ at) (stands at) (l .number) (l .used) (l .to) (l .out) (reached at)
     (sym (c .before .can-reply .ensures) ∙ c .if1 .left)
 
 returns-2 : tie.Need-returns-2 Inv-loop2 μ-loop2 Inv-loop μ-loop
 returns-2 c =
     let at = c .before .before .before .before .before in
     let l = at .loop in
-    stops-whole (service₀ at) (first₀ at) (input₀ at) (out₀ at) (stands at) (l .number) (l .used) (l .to) (l .out) (reached at)
+    stops-whole (settable₀ at) (service₀ at) (first₀ at) (input₀ at) (out₀ at) (stands at) (l .number) (l .used) (l .to) (l .out) (reached at)
     (sym (c .before .before .read-at .ensures) ∙ c .enum-told .given .1)
 
 pub play-lines-spec : {M : Type 1} → statement M

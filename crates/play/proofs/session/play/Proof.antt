@@ -1,7 +1,7 @@
 -- `play` is safe and ends: the measure is the number of turns that are left. The buffers keep their length, and the rest stays within its
 -- buffer. Assumes nothing.
-use Prim.Native.Nat.{ℕ, _≤_, _<_}
-use mathlib.Core.Path.{_≡_, ap}
+use Prim.Native.Nat.{_≤_, _<_}
+use mathlib.Core.Path.{_≡_}
 use mathlib.Core.Bool.{not}
 use native.Mathlib.Omega.{arith}
 use lib.Dec.{ltb}
@@ -9,7 +9,6 @@ use lib.ListN.{length}
 use borrow.Author.Needs.{needs}
 use borrow.Author.Tests.{ltb-true}
 use Rattle.records.proofs.Choosing.{and-left}
-use Rattle.player.specs.declared.session.Session.{Session}
 use Rattle.play.proofs.session.play.Statement.{statement}
 use Rattle.play.proofs.session.play.Tie as tie
 
@@ -26,13 +25,8 @@ input-buffer-requires c κs = search needs
 output-buffer-requires : tie.Need-output-buffer-requires Inv-loop μ-loop
 output-buffer-requires c κs = search needs
 
-new-requires : tie.Need-new-requires Inv-loop μ-loop
-new-requires c κs = search needs
-
 loop-holds : tie.Need-loop-holds Inv-loop μ-loop
-loop-holds c =
-    let fresh : c .new .result .rest ≤ 262144 = omega (arith, ap (λ (σ : Session). σ .rest) (c .new .ensures)) in
-    (search needs, search needs, fresh)
+loop-holds c = (search needs, search needs, search needs)
 
 slice-aggregate-read-if : tie.Need-slice-aggregate-read-if Inv-loop μ-loop
 slice-aggregate-read-if c = search needs
@@ -42,9 +36,6 @@ read-if-requires c κs = search needs
 
 fail-requires : tie.Need-fail-requires Inv-loop μ-loop
 fail-requires c κs = search needs
-
-returns : tie.Need-returns Inv-loop μ-loop
-returns c = search needs
 
 slice-aggregate-count : tie.Need-slice-aggregate-count Inv-loop μ-loop
 slice-aggregate-count c = search needs
@@ -70,11 +61,11 @@ write-requires c κs = search needs
 fail-output-requires : tie.Need-fail-output-requires Inv-loop μ-loop
 fail-output-requires c κs = search needs
 
-returns-2 : tie.Need-returns-2 Inv-loop μ-loop
-returns-2 c = search needs
+returns : tie.Need-returns Inv-loop μ-loop
+returns c = search needs
 
 -- a turn is left
-some : (c : tie.After-after Inv-loop μ-loop) → 0 < c .before .before .before .before .before .before .before .before .before .before .before .before .before .before .before .before .before .before .loop .turns
+some : (c : tie.Else3 Inv-loop μ-loop) → 0 < c .before .before .before .before .before .before .before .before .before .before .before .before .before .before .before .before .before .before .loop .turns
 some c =
     let l = c .before .before .before .before .before .before .before .before .before .before .before .before .before .before .before .before .before .before .loop in
     ltb-true 0 (l .turns) (and-left (ltb 0 (l .turns)) (not (l .session .done)) (c .before .before .before .before .before .before .before .before .before .before .before .before .before .before .before .before .if1 .taken))
@@ -88,6 +79,9 @@ loop-less c = omega (arith, some c)
 loop-again : tie.Need-loop-again Inv-loop μ-loop
 loop-again c = search needs
 
+returns-2 : tie.Need-returns-2 Inv-loop μ-loop
+returns-2 c = search needs
+
 returns-3 : tie.Need-returns-3 Inv-loop μ-loop
 returns-3 c = search needs
 
@@ -99,12 +93,10 @@ play-spec =
     μ-loop
     input-buffer-requires
     output-buffer-requires
-    new-requires
     loop-holds
     slice-aggregate-read-if
     read-if-requires
     fail-requires
-    returns
     slice-aggregate-count
     count-requires
     slice-aggregate-advance
@@ -113,8 +105,9 @@ play-spec =
     slice-aggregate-write
     write-requires
     fail-output-requires
-    returns-2
+    returns
     sub-turns
     loop-less
     loop-again
+    returns-2
     returns-3)

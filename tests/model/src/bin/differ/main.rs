@@ -1,13 +1,12 @@
 //! Plays seeded step files of every kind on the model and on a given player, and compares the outputs byte for byte.
 
 mod options;
-mod process;
 
-use std::process::ExitCode;
+use std::process::{Command, ExitCode};
 
 use model::check::{Breach, Cuts, Demand3, Difference, Tally, shown};
 use model::generate::{FileKind, step_file};
-use model::{Document01, replay};
+use model::{Document01, process, replay};
 use options::Options;
 
 fn main() -> ExitCode {
@@ -70,7 +69,8 @@ fn compare(options: &Options, kind: FileKind, seed: u64, compared: &mut Compared
 }
 
 fn compare_with_player(options: &Options, name: &str, seed: u64, input: &[u8], expected: &[u8]) -> Result<(), String> {
-    let actual = process::run(&options.player, input, seed).map_err(|problem| format!("{name}: {problem}"))?;
+    let mut player = Command::new(&options.player);
+    let actual = process::run(&mut player, input, seed).map_err(|problem| format!("{name}: {problem}"))?;
     match Difference::between(expected, &actual) {
         None => Ok(()),
         Some(difference) => Err(format!("difference: {name}, {}", located(&difference, input))),

@@ -53,23 +53,23 @@ serviceOf given files recovering reported blocks clients copies held dirty =
 
 -- a report's turn through the entries: those before the file are stored
 abbrev pub Inv-loop2 : tie.InvT-loop2
-Inv-loop2 first input out given sizes files₀ recovering blocks clients copies held dirty number used to next line at done client f₀ files f =
+Inv-loop2 settable first input out given sizes files₀ recovering blocks clients copies held dirty number used to next line at done client f₀ files f =
     Stored (sizes .files) (λ k. k) (λ k. reportedEntry (entryOf files₀ k) client (sideOf (sidesIn clients k) client)) files₀
     files
     f
 
 abbrev pub μ-loop2 : tie.MeasureT-loop2
-μ-loop2 first input out given sizes files₀ recovering blocks clients copies held dirty number used to next line at done client f₀ files f = sizes .files - f
+μ-loop2 settable first input out given sizes files₀ recovering blocks clients copies held dirty number used to next line at done client f₀ files f = sizes .files - f
 
 -- the lines before this one are replied to, and the sizes are those in force
 abbrev pub Inv-loop : tie.InvT-loop
-Inv-loop first input out₀ given₀ sizes₀ files₀ recovering₀ reported₀ blocks₀ clients₀ copies₀ held₀ dirty₀ number₀ used₀ to₀ out given sizes files recovering reported blocks clients copies held dirty number used to =
-    Reached (serviceOf given₀ files₀ recovering₀ reported₀ blocks₀ clients₀ copies₀ held₀ dirty₀) first input out₀
+Inv-loop settable first input out₀ given₀ sizes₀ files₀ recovering₀ reported₀ blocks₀ clients₀ copies₀ held₀ dirty₀ number₀ used₀ to₀ out given sizes files recovering reported blocks clients copies held dirty number used to =
+    Reached settable (serviceOf given₀ files₀ recovering₀ reported₀ blocks₀ clients₀ copies₀ held₀ dirty₀) first input out₀
     (serviceOf given files recovering reported blocks clients copies held dirty) number used to out
     × (sizes ≡ inForce given)
 
 abbrev pub μ-loop : tie.MeasureT-loop
-μ-loop first input out₀ given₀ sizes₀ files₀ recovering₀ reported₀ blocks₀ clients₀ copies₀ held₀ dirty₀ number₀ used₀ to₀ out given sizes files recovering reported blocks clients copies held dirty number used to = length input - used
+μ-loop settable first input out₀ given₀ sizes₀ files₀ recovering₀ reported₀ blocks₀ clients₀ copies₀ held₀ dirty₀ number₀ used₀ to₀ out given sizes files recovering reported blocks clients copies held dirty number used to = length input - used
 
 -- Before a line, or the end.
 abbrev pub AtLoop : Type 0
@@ -89,17 +89,20 @@ module _ (c : AtLoop) where
   abbrev pub first₀ : ℕ
   first₀ = c .before .before .before .before .before .before .before .before .before .before .before .before .before .before .args .first
 
+  abbrev pub settable₀ : Bool
+  settable₀ = c .before .before .before .before .before .before .before .before .before .before .before .before .before .before .args .settable
+
   abbrev pub input₀ : List ℕ
   input₀ = now (c .before .before .before .before .before .before .before .before .before .before .before .before .before .before .args .input)
 
   abbrev pub out₀ : List ℕ
   out₀ = now (c .before .before .before .before .before .before .before .before .before .before .before .before .before .before .args .out)
 
-  pub reached : Reached service₀ first₀ input₀ out₀ stands (c .loop .number) (c .loop .used) (c .loop .to) (c .loop .out)
+  pub reached : Reached settable₀ service₀ first₀ input₀ out₀ stands (c .loop .number) (c .loop .used) (c .loop .to) (c .loop .out)
   reached = c .loop .inv .0
 
   pub kept-length : length (c .loop .out) ≡ length out₀
-  kept-length = same-length service₀ first₀ input₀ out₀ stands (c .loop .number) (c .loop .used) (c .loop .to) (c .loop .out) reached
+  kept-length = same-length settable₀ service₀ first₀ input₀ out₀ stands (c .loop .number) (c .loop .used) (c .loop .to) (c .loop .out) reached
 
   pub in-force : c .loop .sizes ≡ sizesOf stands
   in-force = c .loop .inv .1
@@ -132,15 +135,15 @@ module _ (c : LineRead) where
   pub replies :
       (o : Outcome) (to : ℕ) (out : List ℕ)
       → ((l : List ℕ) → LineAt (input₀ before-line) (before-line .loop .used) l next
-      → o ≡ outcomeOf (stands before-line) (before-line .loop .number) l gives)
+      → o ≡ outcomeOf (settable₀ before-line) (stands before-line) (before-line .loop .number) l gives)
       → WroteIfRoom lineRoom (before-line .loop .out) (before-line .loop .to) (lineText (before-line .loop .number) (o .reply) (o .calls))
       out to
       → to ≤ before-line .loop .to + lineRoom
-      → Reached (service₀ before-line) (first₀ before-line) (input₀ before-line) (out₀ before-line)
+      → Reached (settable₀ before-line) (service₀ before-line) (first₀ before-line) (input₀ before-line) (out₀ before-line)
       (o .service) (before-line .loop .number + 1) next to out
   replies o to out is placed most =
       let l = before-line .loop in
-      one-more (service₀ before-line) (first₀ before-line) (input₀ before-line) (out₀ before-line) (stands before-line)
+      one-more (settable₀ before-line) (service₀ before-line) (first₀ before-line) (input₀ before-line) (out₀ before-line) (stands before-line)
       (l .number) (l .used) (l .to) (l .out) gives next o to out (reached before-line) is-read
       (sym (c .before .before .before .before .before .can-reply .ensures) ∙ c .before .before .before .before .if1 .taken)
       is placed most
@@ -163,8 +166,8 @@ module _ (c : StepRead) where
   abbrev pub step-of : Step
   step-of = c .before .before .parsed2 .given .0 .0
 
-  pub step-is : (l : List ℕ) → stepOf (stands at-line) step-of ≡ outcomeOf (stands at-line) (at-line .loop .number) l (gives line-of)
-  step-is l = sym (ap (outcomeOf (stands at-line) (at-line .loop .number) l) (c .before .before .parsed2 .given .1))
+  pub step-is : (l : List ℕ) → stepOf (stands at-line) step-of ≡ outcomeOf (settable₀ at-line) (stands at-line) (at-line .loop .number) l (gives line-of)
+  step-is l = sym (ap (outcomeOf (settable₀ at-line) (stands at-line) (at-line .loop .number) l) (c .before .before .parsed2 .given .1))
 
   pub class-is : classOf step-of ≡ c .class .result
   class-is = sym (c .class .ensures)

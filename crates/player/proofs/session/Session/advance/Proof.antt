@@ -48,21 +48,21 @@ module _ (σ : Session) (got : ℕ) (buffer out : List ℕ) where
         (λ e. ap length (unless _ _ e))
 
     other-turn : isLastTurn σ ≡ false
-        → t ≡ turnOf (σ .service) (σ .number) (take n b₁) out
-        → buffer′ ≡ bufferAfter (σ .service) (σ .number) b₁ (take n b₁) out
-        → out′ ≡ linesWritten (σ .service) (σ .number) (take n b₁) out
+        → t ≡ turnOf (σ .settable) (σ .service) (σ .number) (take n b₁) out
+        → buffer′ ≡ bufferAfter (σ .settable) (σ .service) (σ .number) b₁ (take n b₁) out
+        → out′ ≡ linesWritten (σ .settable) (σ .service) (σ .number) (take n b₁) out
         → t .written ≤ length out
         → t .rest ≤ length b₁
         → Promised (withTurn σ got t) buffer′ out′
     other-turn more e f g fits short =
         let inside : t .rest ≤ length buffer = omega (arith, short, still-long) in (
-          ap (withTurn σ got) (e ∙ ap (λ (l : List ℕ). turnOf (σ .service) (σ .number) l out) same-bytes) ∙ sym (unless _ _ more),
+          ap (withTurn σ got) (e ∙ ap (λ (l : List ℕ). turnOf (σ .settable) (σ .service) (σ .number) l out) same-bytes) ∙ sym (unless _ _ more),
           (
             f
-                ∙ ap (λ (l : List ℕ). bufferAfter (σ .service) (σ .number) b₁ l out) same-bytes
-                ∙ ap (λ (l : List ℕ). bufferAfter (σ .service) (σ .number) l (turnBytes σ got buffer) out) filling
+                ∙ ap (λ (l : List ℕ). bufferAfter (σ .settable) (σ .service) (σ .number) b₁ l out) same-bytes
+                ∙ ap (λ (l : List ℕ). bufferAfter (σ .settable) (σ .service) (σ .number) l (turnBytes σ got buffer) out) filling
                 ∙ sym (unless _ _ more),
-            (g ∙ ap (λ (l : List ℕ). linesWritten (σ .service) (σ .number) l out) same-bytes ∙ sym (unless _ _ more), (fits, inside)),
+            (g ∙ ap (λ (l : List ℕ). linesWritten (σ .settable) (σ .service) (σ .number) l out) same-bytes ∙ sym (unless _ _ more), (fits, inside)),
           ),
         )
 

@@ -47,6 +47,7 @@ returns c =
           record {
             session =
                 record {
+                  settable = a .self .settable;
                   service = a .self .service;
                   number = a .self .number;
                   rest = 0;

@@ -1,0 +1,101 @@
+-- Images and their writing, from the definitions by evaluation: the whole case of document 01, a hand-made server, and
+-- each refusal. Assumes nothing.
+use Prim.Native.Nat.{ℕ}
+use mathlib.Core.Path.{_≡_, refl}
+use mathlib.Core.Bool.{true, false}
+use mathlib.Core.List.{List, [], _∷_, _++_}
+use lib.ListN.{replicate, set}
+use Rattle.records.specs.declared.record.Mode.the-variants.{Read}
+use Rattle.records.specs.Record.{notOpen}
+use Rattle.decision.specs.Lists.{count, stored}
+use Rattle.decision.specs.Permission.{permissionAtGrant}
+use Rattle.decision.specs.Sizes.{nobody, place}
+use Rattle.decision.specs.State.{stateOf}
+use Rattle.file.specs.FileStep.{fileStep}
+use Rattle.access.specs.BlockStep.{blockStep}
+use Rattle.table.specs.TableStep.{tableStep}
+use Rattle.service.specs.declared.service.Service.{Service}
+use Rattle.service.specs.Contents.{withStores}
+use Rattle.service.specs.Fresh.{fresh}
+use Rattle.service.specs.Step.{stepOf}
+use Rattle.service.proofs.Run.{freshDefault, OR, OW, CW, RD, WR, AN, XX, after}
+use Rattle.service.proofs.Making.{opens, writing, entry, kinds, waiting, withEntry}
+use Rattle.image.specs.declared.writing.ImageWritten.the-variants.{Length, Refused}
+use Rattle.image.specs.Bytes.{low, below, flat}
+use Rattle.image.specs.Image.{imageBytes, imageOf}
+use Rattle.image.specs.Writing.{imageWritten, bufferAfter}
+
+-- the whole case of document 01 up to its line 6, and up to its line 4, where an open waits
+abbrev pub wholeCase : Service
+wholeCase = after freshDefault (OW 0 3 ∷ WR 0 3 0 77 ∷ CW 0 3 ∷ OR 1 3 ∷ RD 1 3 0 ∷ AN 0 3 ∷ [])
+
+abbrev whileWaiting : Service
+whileWaiting = after freshDefault (OW 0 3 ∷ WR 0 3 0 77 ∷ CW 0 3 ∷ OR 1 3 ∷ [])
+
+abbrev pub wholeImage : List ℕ
+wholeImage =
+    8
+    ∷ 32
+    ∷ 4
+    ∷ (1 ∷ 0 ∷ 3 ∷ 2 ∷ 0 ∷ 0 ∷ 0 ∷ 255 ∷ [])
+    ++ (1 ∷ 0 ∷ 1 ∷ 3 ∷ 1 ∷ 0 ∷ 1 ∷ [])
+    ++ (1 ∷ 0 ∷ 3 ∷ 0 ∷ 77 ∷ 0 ∷ 0 ∷ 0 ∷ 0 ∷ 0 ∷ 0 ∷ 0 ∷ [])
+
+-- A hand-made server. File 0 is at version 0 with last writer 8, and so as at version 1 without one; client 0 may cache
+-- it and has not opened it. File 1 is at version 1 with last writer 5, and client 1 has it open. File 31 is at the last
+-- version. File 32, and block 4 of file 0, are past the sizes.
+abbrev handMade : Service
+handMade =
+    let s =
+    withEntry 0 (entry 0 (opens 0 0 true) notOpen 8)
+    (withEntry 1 (entry 1 notOpen (opens 255 2 false) 5)
+    (withEntry 31 (entry 4294967295 notOpen notOpen nobody) (withEntry 32 (entry 7 writing notOpen 0) freshDefault))) in
+    withStores s
+    (record {
+      blocks = set (set (s .server .blocks) (place 0 4) 9) (place 31 3) 18446744073709551615;
+      copies = s .copies;
+      held = s .held;
+      dirty = s .dirty;
+    })
+
+pub record Examples : Type 0 where
+  pub freshImage : imageOf freshDefault ≡ 8 ∷ 32 ∷ 4 ∷ 0 ∷ 0 ∷ 0 ∷ 0 ∷ 0 ∷ 0 ∷ []
+  pub whole : imageOf wholeCase ≡ wholeImage
+  pub hand :
+      imageOf handMade
+      ≡ 8
+      ∷ 32
+      ∷ 4
+      ∷ (2 ∷ 0 ∷ 1 ∷ 1 ∷ 0 ∷ 0 ∷ 0 ∷ 5 ∷ 31 ∷ 255 ∷ 255 ∷ 255 ∷ 255 ∷ 255 ∷ [])
+      ++ (1 ∷ 0 ∷ 1 ∷ 1 ∷ 255 ∷ 2 ∷ 0 ∷ [])
+      ++ (1 ∷ 0 ∷ 31 ∷ 3 ∷ 255 ∷ 255 ∷ 255 ∷ 255 ∷ 255 ∷ 255 ∷ 255 ∷ 255 ∷ [])
+  -- the length is told, and the byte past the image stays
+  pub told : imageWritten wholeCase 31 ≡ Length 30
+  pub past : bufferAfter wholeCase (replicate 31 9) ≡ wholeImage ++ (9 ∷ [])
+  -- a buffer that is one byte too short stays as it came; so does one at 15 and at 5, which come first
+  pub short : imageWritten wholeCase 29 ≡ Refused 16
+  pub shortStays : bufferAfter wholeCase (replicate 29 9) ≡ replicate 29 9
+  pub waits : imageWritten whileWaiting 0 ≡ Refused 15
+  pub waitsStays : bufferAfter whileWaiting (replicate 64 9) ≡ replicate 64 9
+  pub recovering : imageWritten (after whileWaiting (XX ∷ [])) 0 ≡ Refused 5
+  -- an open of a file that is past the sizes does not wait
+  pub pastSizes :
+      imageWritten (withEntry 32 (waiting (entry 1 writing notOpen nobody) 1 Read (kinds 3 0)) freshDefault) 9
+      ≡ Length 9
+
+pub examples : Examples
+unfolding fresh stepOf fileStep blockStep tableStep stateOf permissionAtGrant count stored low below flat imageBytes imageWritten bufferAfter
+examples =
+    record {
+      freshImage = refl;
+      whole = refl;
+      hand = refl;
+      told = refl;
+      past = refl;
+      short = refl;
+      shortStays = refl;
+      waits = refl;
+      waitsStays = refl;
+      recovering = refl;
+      pastSizes = refl;
+    }

@@ -1,0 +1,4 @@
+-- The image of the server, in reading order.
+pub mod Bytes
+pub mod Image
+pub mod Writing

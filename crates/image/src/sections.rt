@@ -1,0 +1,175 @@
+// The three sections, and the whole image. A section's entries are written first, and then their count before them.
+ghost use Prim.Native.Nat.{_+_, _≤_, _<_};
+ghost use lib.ListN.{length};
+ghost use Rattle.decision.specs.Sizes.{maxClients, maxFiles, maxBlocks, Permitted};
+ghost use Rattle.writer.specs.Buffer.{Wrote};
+ghost use Rattle.image.specs.Bytes.{flat, section};
+ghost use Rattle.image.specs.Image.{sizeBytes, fileEntries, fileOpens, openEntries, fileBlocks, blockEntries};
+ghost use Rattle.image.specs.Image.{imageBytes, imageRoom};
+use crate::entries::put_block;
+use crate::entries::put_file;
+use crate::entries::put_open;
+use crate::numbers::put_count;
+use decision::MAX_BLOCKS;
+use decision::MAX_FILES;
+use decision::MAX_PLACES;
+use decision::Sizes;
+use protocol::Entry;
+use writer::put_byte;
+
+// The longest image.
+pub const IMAGE_ROOM: usize = 8073;
+
+fn put_files(out: &mut [u8], at: usize, sizes: Sizes, files: [Entry; MAX_FILES]) -> usize
+    requires { ⌜ Permitted sizes ⌝ }
+    requires { ⌜ at + 384 ≤ length (now out) ⌝ }
+    ensures { λ r. ⌜ Wrote (now (out .entry)) at (flat (fileEntries sizes files)) (now (out .exit)) r ⌝ }
+    ensures { λ r. ⌜ r ≤ at + 384 ⌝ }
+{
+    let mut next = at;
+    let mut file: usize = 0;
+    while file < sizes.files {
+        let entry = files[file];
+        next = put_file(out, next, file, entry, sizes.clients);
+        file += 1;
+    }
+    next
+}
+
+// The opens of one file.
+fn put_file_opens(out: &mut [u8], at: usize, file: usize, entry: Entry, clients: usize) -> usize
+    requires { ⌜ clients ≤ maxClients ⌝ }
+    requires { ⌜ file < 256 ⌝ }
+    requires { ⌜ at + 40 ≤ length (now out) ⌝ }
+    ensures { λ r. ⌜ Wrote (now (out .entry)) at (flat (fileOpens clients file entry)) (now (out .exit)) r ⌝ }
+    ensures { λ r. ⌜ r ≤ at + 40 ⌝ }
+{
+    let mut next = at;
+    let mut client: usize = 0;
+    while client < clients {
+        let opens = entry.records[client];
+        next = put_open(out, next, client, file, opens);
+        client += 1;
+    }
+    next
+}
+
+fn put_opens(out: &mut [u8], at: usize, sizes: Sizes, files: [Entry; MAX_FILES]) -> usize
+    requires { ⌜ Permitted sizes ⌝ }
+    requires { ⌜ at + 2560 ≤ length (now out) ⌝ }
+    ensures { λ r. ⌜ Wrote (now (out .entry)) at (flat (openEntries sizes files)) (now (out .exit)) r ⌝ }
+    ensures { λ r. ⌜ r ≤ at + 2560 ⌝ }
+{
+    let mut next = at;
+    let mut file: usize = 0;
+    while file < sizes.files {
+        let entry = files[file];
+        next = put_file_opens(out, next, file, entry, sizes.clients);
+        file += 1;
+    }
+    next
+}
+
+// The blocks of one file.
+fn put_file_blocks(
+    out: &mut [u8],
+    at: usize,
+    file: usize,
+    blocks: &[u64; MAX_PLACES],
+    each: usize,
+) -> usize
+    requires { ⌜ each ≤ maxBlocks ⌝ }
+    requires { ⌜ file < maxFiles ⌝ }
+    requires { ⌜ at + 80 ≤ length (now out) ⌝ }
+    ensures { λ r. ⌜ Wrote (now (out .entry)) at
+        (flat (fileBlocks each file (now (blocks .entry)))) (now (out .exit)) r ⌝ }
+    ensures { λ r. ⌜ r ≤ at + 80 ⌝ }
+{
+    let mut next = at;
+    let mut block: usize = 0;
+    while block < each {
+        next = put_block(out, next, file, block, blocks[file * MAX_BLOCKS + block]);
+        block += 1;
+    }
+    next
+}
+
+fn put_blocks(out: &mut [u8], at: usize, sizes: Sizes, blocks: &[u64; MAX_PLACES]) -> usize
+    requires { ⌜ Permitted sizes ⌝ }
+    requires { ⌜ at + 5120 ≤ length (now out) ⌝ }
+    ensures { λ r. ⌜ Wrote (now (out .entry)) at
+        (flat (blockEntries sizes (now (blocks .entry)))) (now (out .exit)) r ⌝ }
+    ensures { λ r. ⌜ r ≤ at + 5120 ⌝ }
+{
+    let mut next = at;
+    let mut file: usize = 0;
+    while file < sizes.files {
+        next = put_file_blocks(out, next, file, blocks, sizes.blocks);
+        file += 1;
+    }
+    next
+}
+
+fn put_file_section(out: &mut [u8], at: usize, sizes: Sizes, files: [Entry; MAX_FILES]) -> usize
+    requires { ⌜ Permitted sizes ⌝ }
+    requires { ⌜ at + 386 ≤ length (now out) ⌝ }
+    ensures { λ r. ⌜ Wrote (now (out .entry)) at (section (fileEntries sizes files)) (now (out .exit)) r ⌝ }
+    ensures { λ r. ⌜ r ≤ at + 386 ⌝ }
+{
+    let past = put_files(out, at + 2, sizes, files);
+    put_count(out, at, (past - (at + 2)) / 6);
+    past
+}
+
+fn put_open_section(out: &mut [u8], at: usize, sizes: Sizes, files: [Entry; MAX_FILES]) -> usize
+    requires { ⌜ Permitted sizes ⌝ }
+    requires { ⌜ at + 2562 ≤ length (now out) ⌝ }
+    ensures { λ r. ⌜ Wrote (now (out .entry)) at (section (openEntries sizes files)) (now (out .exit)) r ⌝ }
+    ensures { λ r. ⌜ r ≤ at + 2562 ⌝ }
+{
+    let past = put_opens(out, at + 2, sizes, files);
+    put_count(out, at, (past - (at + 2)) / 5);
+    past
+}
+
+fn put_block_section(out: &mut [u8], at: usize, sizes: Sizes, blocks: &[u64; MAX_PLACES]) -> usize
+    requires { ⌜ Permitted sizes ⌝ }
+    requires { ⌜ at + 5122 ≤ length (now out) ⌝ }
+    ensures { λ r. ⌜ Wrote (now (out .entry)) at
+        (section (blockEntries sizes (now (blocks .entry)))) (now (out .exit)) r ⌝ }
+    ensures { λ r. ⌜ r ≤ at + 5122 ⌝ }
+{
+    let past = put_blocks(out, at + 2, sizes, blocks);
+    put_count(out, at, (past - (at + 2)) / 10);
+    past
+}
+
+// The three sizes, at the start of the buffer.
+fn put_sizes(out: &mut [u8], sizes: Sizes) -> usize
+    requires { ⌜ Permitted sizes ⌝ }
+    requires { ⌜ 3 ≤ length (now out) ⌝ }
+    ensures { λ r. ⌜ Wrote (now (out .entry)) 0 (sizeBytes sizes) (now (out .exit)) r ⌝ }
+    ensures { λ r. ⌜ r ≤ 3 ⌝ }
+{
+    let second = put_byte(out, 0, sizes.clients as u8);
+    let third = put_byte(out, second, sizes.files as u8);
+    put_byte(out, third, sizes.blocks as u8)
+}
+
+// The image, from the start of the buffer; the offset past it.
+pub fn put_image(
+    out: &mut [u8],
+    sizes: Sizes,
+    files: [Entry; MAX_FILES],
+    blocks: &[u64; MAX_PLACES],
+) -> usize
+    requires { ⌜ Permitted sizes ⌝ }
+    requires { ⌜ imageRoom ≤ length (now out) ⌝ }
+    ensures { λ r. ⌜ Wrote (now (out .entry)) 0 (imageBytes sizes files (now (blocks .entry))) (now (out .exit)) r ⌝ }
+    ensures { λ r. ⌜ r ≤ imageRoom ⌝ }
+{
+    let first = put_sizes(out, sizes);
+    let second = put_file_section(out, first, sizes, files);
+    let third = put_open_section(out, second, sizes, files);
+    put_block_section(out, third, sizes, blocks)
+}

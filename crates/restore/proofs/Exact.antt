@@ -1,0 +1,190 @@
+-- Reading accepts exactly the bytes that writing gives for some service, and a program can start from them. Assumes
+-- nothing.
+use Prim.Native.Nat.{ℕ, zero, suc, _≤_, _<_}
+use mathlib.Core.Path.{_≡_, refl, sym, ap, _∙_}
+use mathlib.Core.Bool.{Bool, true, false, cond}
+use mathlib.Core.List.{List}
+use native.Mathlib.Omega.{arith}
+use lib.Dec.{ltb}
+use lib.ListN.{length, getD, replicate}
+use borrow.Author.Tests.{le-ltb, le-leb}
+use Rattle.records.specs.Version.{versionOf, numberOf}
+use Rattle.records.proofs.Choosing.{split, conflict, when, unless}
+use Rattle.decision.specs.declared.sizes.Sizes.{Sizes}
+use Rattle.decision.specs.Sizes.{maxClients, maxFiles, maxBlocks, nobody, isPermitted, inForce, Permitted, place}
+use Rattle.decision.specs.Lists.{count}
+use Rattle.decision.proofs.InForce.{in-force-permitted, file-fits, block-fits}
+use Rattle.protocol.specs.declared.reply.Reply.the-variants.{Refused, Done}
+use Rattle.protocol.specs.Entry.{waits}
+use Rattle.protocol.specs.Reply.{isRefused}
+use Rattle.table.specs.TableStep.{entryOf}
+use Rattle.service.specs.declared.service.Service.{Service}
+use Rattle.service.specs.declared.outcome.Outcome.{Outcome}
+use Rattle.service.specs.Contents.{sizesOf, tableIn, entryAt, blockAt}
+use Rattle.service.specs.Fresh.{fresh}
+use Rattle.image.specs.Image.{versionRead, imageBytes, imageOf}
+use Rattle.image.specs.Writing.{openWaiting}
+use Rattle.restore.specs.Decoded.{decodedFiles, decodedBlocks}
+use Rattle.restore.specs.Reading.{sameBytes, isImage, restored, readingOf, sizesIn}
+use Rattle.restore.specs.Exact.{Fits, AreBytes, Written, Exact, Starts}
+use Rattle.restore.proofs.SameBytes.{same-true, same-self}
+use Rattle.restore.proofs.GivenBack.{version-given, block-given, same-again}
+use Rattle.restore.proofs.Bounds.{GoodFiles, GoodBlocks, decoded-files-good, decoded-blocks-good}
+
+-- ---- what is written is accepted
+
+module _ (t : Service) (fits : Fits t) where
+  abbrev z : Sizes
+  z = sizesOf t
+
+  most : Permitted z
+  most = in-force-permitted (t .sizes)
+
+  versions : (f : ℕ) → f < z .files → numberOf (entryAt t f .version) < 4294967296
+  versions f hf = fits .version f (file-fits most hf)
+
+  values : (f b : ℕ) → f < z .files → b < z .blocks → blockAt t f b < 18446744073709551616
+  values f b hf hb = fits .block f b (file-fits most hf) (block-fits most hb)
+
+  pub image-accepted : isImage z (imageOf t) ≡ true
+  unfolding isImage
+  image-accepted =
+      ap (sameBytes (imageOf t)) (same-again most (tableIn t .files) (t .server .blocks) versions values)
+      ∙ same-self (imageOf t)
+
+  -- what the image gives back
+  pub version-back :
+      (f : ℕ) → f < z .files → entryOf (decodedFiles (imageOf t)) f .version ≡ versionOf (versionRead (entryAt t f))
+  version-back f hf = version-given most (tableIn t .files) (t .server .blocks) versions values f hf
+
+  pub block-back :
+      (f b : ℕ) → f < z .files → b < z .blocks → getD (decodedBlocks (imageOf t)) (place f b) 0 ≡ blockAt t f b
+  block-back f b hf hb = block-given most (tableIn t .files) (t .server .blocks) versions values f b hf hb
+
+-- ---- what is accepted was written for some service
+
+-- the service that the bytes hold, of the sizes of s
+abbrev decodedService : Service → List ℕ → Service
+decodedService s bytes =
+    record {
+      sizes = s .sizes;
+      server =
+          record {
+            table = record { files = decodedFiles bytes; recovering = false; reported = replicate maxClients false };
+            blocks = decodedBlocks bytes;
+          };
+      clients = fresh (s .sizes) .clients;
+      copies = fresh (s .sizes) .copies;
+      held = fresh (s .sizes) .held;
+      dirty = fresh (s .sizes) .dirty;
+    }
+
+count-none : (n : ℕ) (p : ℕ → Bool) → ((k : ℕ) → k < n → p k ≡ false) → count n p ≡ 0
+unfolding count
+count-none zero p none = refl
+count-none (suc n) p none = rw (count-none n p (λ k h. none k (omega arith)), none n (omega arith))
+
+module _ (s : Service) (bytes : List ℕ) (are-bytes : AreBytes bytes) where
+  abbrev t : Service
+  t = decodedService s bytes
+
+  files-good : GoodFiles (decodedFiles bytes)
+  files-good = decoded-files-good bytes are-bytes
+
+  blocks-good : GoodBlocks (decodedBlocks bytes)
+  blocks-good = decoded-blocks-good bytes are-bytes
+
+  decoded-fits : Fits t
+  decoded-fits =
+      record {
+        entries = files-good .entries;
+        places = blocks-good .places;
+        records = λ f hf. files-good .each f hf .records;
+        version = λ f hf. files-good .each f hf .version;
+        last = λ f hf. files-good .each f hf .last;
+        readers = λ f i hf hi. files-good .each f hf .readers i;
+        writers = λ f i hf hi. files-good .each f hf .writers i;
+        block = λ f b hf hb. blocks-good .each (place f b);
+      }
+
+  none-waits : openWaiting t ≡ 0
+  none-waits =
+      let most = in-force-permitted (s .sizes) in
+      count-none (sizesOf s .files) (λ f. waits (sizesOf s .clients) (entryOf (decodedFiles bytes) f))
+      (λ f hf.
+      let few = most .clients in
+      ap (λ w. ltb w (sizesOf s .clients)) (files-good .each f (file-fits most hf) .waiter)
+      ∙ le-ltb nobody (sizesOf s .clients) (omega arith))
+
+  written-for : isImage (sizesOf s) bytes ≡ true → Written (sizesOf s) bytes
+  unfolding isImage
+  written-for accepted =
+      let image : imageOf t ≡ bytes = sym (same-true bytes (imageOf t) accepted) in
+      let room : ltb (length bytes) (length (imageOf t)) ≡ false =
+      le-ltb (length bytes) (length (imageOf t)) (rw image (omega arith)) in
+      record {
+        service = t;
+        fits = decoded-fits;
+        sizes = refl;
+        accepted = rw (none-waits, room);
+        image = image;
+      }
+
+-- ---- both together
+
+-- a reading is refused exactly where the bytes are no image
+module _ (s : Service) (bytes : List ℕ) where
+  reply-is : readingOf s bytes .reply ≡ cond (isImage (sizesOf s) bytes) Done (Refused 17)
+  unfolding readingOf
+  reply-is = split (isImage (sizesOf s) bytes) (λ e. rw e) (λ e. rw e)
+
+  pub not-refused : isImage (sizesOf s) bytes ≡ true → isRefused (readingOf s bytes .reply) ≡ false
+  not-refused e = ap isRefused (reply-is ∙ when _ _ e)
+
+  pub is-image : isRefused (readingOf s bytes .reply) ≡ false → isImage (sizesOf s) bytes ≡ true
+  is-image e =
+      split (isImage (sizesOf s) bytes) (λ t. t)
+      (λ t. conflict (ap isRefused (reply-is ∙ unless _ _ t)) e)
+
+  -- what is handed back
+  pub taken : isImage (sizesOf s) bytes ≡ true → readingOf s bytes ≡ restored s (decodedFiles bytes) (decodedBlocks bytes)
+  unfolding readingOf
+  taken e = when _ _ e
+
+  pub untouched : isImage (sizesOf s) bytes ≡ false → readingOf s bytes .service ≡ s
+  unfolding readingOf
+  untouched e = ap (λ (o : Outcome). o .service) (unless _ _ e)
+
+-- the bytes of a service of the same sizes
+pub accepts :
+    (s t : Service) (bytes : List ℕ)
+    → Fits t
+    → sizesOf t ≡ sizesOf s
+    → imageOf t ≡ bytes
+    → isImage (sizesOf s) bytes ≡ true
+accepts s t bytes fits sizes image = (λ k. isImage (sym sizes k) (sym image k)) ∙ image-accepted t fits
+
+pub exact : Exact
+exact s bytes are-bytes = (
+  λ e. written-for s bytes are-bytes (is-image s bytes e),
+  λ w. not-refused s bytes (accepts s (w .service) bytes (w .fits) (w .sizes) (w .image)),
+)
+
+-- sizes in force are permitted, and so in force themselves
+permitted-is : (most size : ℕ) → 0 < size → size ≤ most → isPermitted most size ≡ true
+permitted-is most size some fits = rw (le-leb 1 size some, le-leb size most fits)
+
+in-force-again : (z : Sizes) → inForce (inForce z) ≡ inForce z
+in-force-again z =
+    let w = inForce z in
+    let most = in-force-permitted z in
+    let clients = when (w .clients) 8 (permitted-is maxClients (w .clients) (most .someClient) (most .clients)) in
+    let files = when (w .files) 32 (permitted-is maxFiles (w .files) (most .someFile) (most .files)) in
+    let blocks = when (w .blocks) 4 (permitted-is maxBlocks (w .blocks) (most .someBlock) (most .blocks)) in
+    λ k. record { clients = clients k; files = files k; blocks = blocks k }
+
+pub starts : Starts
+unfolding fresh imageBytes
+starts t fits =
+    not-refused (fresh (sizesIn (imageOf t))) (imageOf t)
+    (accepts (fresh (sizesIn (imageOf t))) t (imageOf t) fits (sym (in-force-again (t .sizes))) refl)

@@ -1,0 +1,154 @@
+-- The reading of images and of bytes that are none, one for each reason, from the definitions by evaluation. Assumes
+-- nothing.
+use Prim.Native.Nat.{ℕ}
+use mathlib.Core.Path.{_≡_, refl}
+use mathlib.Core.Bool.{Bool, true, false}
+use mathlib.Core.List.{List, [], _∷_, _++_}
+use Rattle.records.specs.Record.{notOpen}
+use Rattle.records.specs.Version.{versionOf}
+use Rattle.decision.specs.Lists.{count, stored}
+use Rattle.decision.specs.Permission.{permissionAtGrant}
+use Rattle.decision.specs.Sizes.{defaultSizes}
+use Rattle.decision.specs.State.{stateOf}
+use Rattle.protocol.specs.declared.reply.Reply.the-variants.{Refused, Done}
+use Rattle.protocol.specs.Entry.{recordAt}
+use Rattle.file.specs.FileStep.{fileStep}
+use Rattle.access.specs.BlockStep.{blockStep}
+use Rattle.table.specs.TableStep.{tableStep}
+use Rattle.service.specs.declared.service.Service.{Service}
+use Rattle.service.specs.declared.outcome.Outcome.{Outcome}
+use Rattle.service.specs.Contents.{tableIn, entryAt, blockAt}
+use Rattle.service.specs.Fresh.{fresh}
+use Rattle.service.specs.Step.{stepOf}
+use Rattle.service.proofs.Run.{freshDefault, OW, after}
+use Rattle.image.specs.Bytes.{low, below, flat}
+use Rattle.image.specs.Image.{imageBytes}
+use Rattle.image.proofs.Examples.{wholeImage}
+use Rattle.restore.specs.Decoded.{numberAt, entriesIn, placed, decodedFiles, decodedBlocks}
+use Rattle.restore.specs.Reading.{sameBytes, isImage, withBlocks, readingOf}
+
+-- bytes of sizes 8, 32 and 4, with these three sections; a section of no entries
+abbrev image : List ℕ → List ℕ → List ℕ → Bool
+image files opens blocks = isImage defaultSizes (8 ∷ 32 ∷ 4 ∷ (files ++ (opens ++ blocks)))
+
+abbrev none : List ℕ
+none = 0 ∷ 0 ∷ []
+
+-- an entry of the section of files, of opens and of blocks
+abbrev file : ℕ → ℕ → ℕ → List ℕ
+file f version last = f ∷ version ∷ 0 ∷ 0 ∷ 0 ∷ last ∷ []
+
+abbrev open′ : ℕ → ℕ → ℕ → ℕ → ℕ → List ℕ
+open′ i f readers writers permission = i ∷ f ∷ readers ∷ writers ∷ permission ∷ []
+
+abbrev block : ℕ → ℕ → ℕ → List ℕ
+block f b v = f ∷ b ∷ v ∷ 0 ∷ 0 ∷ 0 ∷ 0 ∷ 0 ∷ 0 ∷ 0 ∷ []
+
+-- sections of one entry and of two
+abbrev one : List ℕ → List ℕ
+one e = 1 ∷ 0 ∷ e
+
+abbrev two : List ℕ → List ℕ → List ℕ
+two e d = 2 ∷ 0 ∷ (e ++ d)
+
+pub record NoImage : Type 0 where
+  pub version0 : image (one (file 3 0 5)) none none ≡ false
+  pub version1WithoutLast : image (one (file 3 1 255)) none none ≡ false
+  pub noLastWriter : image (one (file 3 2 8)) none none ≡ false
+  pub fileTwice : image (two (file 3 2 255) (file 3 2 255)) none none ≡ false
+  pub fileDescends : image (two (file 4 2 255) (file 3 2 255)) none none ≡ false
+  pub noFile : image (one (file 32 2 255)) none none ≡ false
+  pub countsZero : image none (one (open′ 1 3 0 0 1)) none ≡ false
+  pub permission2 : image none (one (open′ 1 3 1 0 2)) none ≡ false
+  pub noClient : image none (one (open′ 8 3 1 0 1)) none ≡ false
+  pub noOpenFile : image none (one (open′ 1 32 1 0 1)) none ≡ false
+  pub openTwice : image none (two (open′ 1 3 1 0 1) (open′ 1 3 1 0 1)) none ≡ false
+  pub openDescends : image none (two (open′ 2 3 1 0 1) (open′ 1 3 1 0 1)) none ≡ false
+  pub byFileFirst : image none (two (open′ 0 4 1 0 1) (open′ 1 3 1 0 1)) none ≡ false
+  pub zeroBlock : image none none (one (block 3 0 0)) ≡ false
+  pub noBlock : image none none (one (block 3 4 77)) ≡ false
+  pub noBlockFile : image none none (one (block 32 0 77)) ≡ false
+  pub blockDescends : image none none (two (block 3 1 77) (block 3 0 77)) ≡ false
+  pub countTooHigh : image (2 ∷ 0 ∷ file 3 2 255) none none ≡ false
+  pub countTooLow : image (0 ∷ 0 ∷ file 3 2 255) none none ≡ false
+  pub leftOver : image none none (none ++ (0 ∷ [])) ≡ false
+  pub missing : image none none (0 ∷ []) ≡ false
+  pub empty : isImage defaultSizes [] ≡ false
+  pub otherSizes : isImage defaultSizes (8 ∷ 32 ∷ 5 ∷ (none ++ (none ++ none))) ≡ false
+
+-- Images: at version 1 with a last writer, as stands in hand-made servers alone; opens and last writers that do not
+-- agree; the image of the whole case.
+pub record IsImage : Type 0 where
+  pub empty : image none none none ≡ true
+  pub version1 : image (one (file 3 1 5)) none none ≡ true
+  pub disagree : image (one (file 3 2 5)) (two (open′ 0 3 0 9 1) (open′ 1 3 0 9 1)) (one (block 31 3 255)) ≡ true
+  pub whole : isImage defaultSizes wholeImage ≡ true
+
+-- The image of the whole case, read by a server that client 2 has file 3 open at: version and block are taken, and all
+-- else is a crash. Bytes that are no image leave the service as it came.
+abbrev before : Service
+before = after freshDefault (OW 2 3 ∷ OW 2 4 ∷ [])
+
+abbrev read : Outcome
+read = readingOf before wholeImage
+
+pub record Reads : Type 0 where
+  pub reply : read .reply ≡ Done
+  pub version : entryAt (read .service) 3 .version ≡ versionOf 2
+  pub otherVersion : entryAt (read .service) 4 .version ≡ versionOf 1
+  pub block : blockAt (read .service) 3 0 ≡ 77
+  pub opens : recordAt (entryAt (read .service) 3) 1 ≡ notOpen
+  pub openBefore : recordAt (entryAt (read .service) 3) 2 ≡ notOpen
+  pub recovering : tableIn (read .service) .recovering ≡ true
+  pub clients : read .service .clients ≡ before .clients
+  pub refused : readingOf before [] .reply ≡ Refused 17
+  pub stays : readingOf before [] .service ≡ before
+
+pub noImages : NoImage
+unfolding isImage sameBytes imageBytes low below flat decodedFiles decodedBlocks numberAt entriesIn placed count stored
+noImages =
+    record {
+      version0 = refl;
+      version1WithoutLast = refl;
+      noLastWriter = refl;
+      fileTwice = refl;
+      fileDescends = refl;
+      noFile = refl;
+      countsZero = refl;
+      permission2 = refl;
+      noClient = refl;
+      noOpenFile = refl;
+      openTwice = refl;
+      openDescends = refl;
+      byFileFirst = refl;
+      zeroBlock = refl;
+      noBlock = refl;
+      noBlockFile = refl;
+      blockDescends = refl;
+      countTooHigh = refl;
+      countTooLow = refl;
+      leftOver = refl;
+      missing = refl;
+      empty = refl;
+      otherSizes = refl;
+    }
+
+pub images : IsImage
+unfolding isImage sameBytes imageBytes low below flat decodedFiles decodedBlocks numberAt entriesIn placed count stored
+images = record { empty = refl; version1 = refl; disagree = refl; whole = refl }
+
+pub reads : Reads
+unfolding fresh stepOf fileStep blockStep tableStep stateOf permissionAtGrant count stored isImage sameBytes imageBytes low below flat decodedFiles decodedBlocks numberAt entriesIn placed withBlocks readingOf
+reads =
+    record {
+      reply = refl;
+      version = refl;
+      otherVersion = refl;
+      block = refl;
+      opens = refl;
+      openBefore = refl;
+      recovering = refl;
+      clients = refl;
+      refused = refl;
+      stays = refl;
+    }

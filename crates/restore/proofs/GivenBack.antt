@@ -1,0 +1,155 @@
+-- What the image of a server holds, once it is read, and that its own image is the same again. Assumes nothing.
+use Prim.Native.Nat.{ℕ, _+_, _<_}
+use mathlib.Core.Path.{_≡_, sym, ap, _∙_}
+use mathlib.Core.List.{List, [], _++_, append-nil}
+use native.Mathlib.Omega.{arith}
+use lib.ListN.{length, getD, replicate, length-replicate}
+use borrow.Author.Tests.{lt-ltb}
+use Rattle.records.specs.Version.{versionOf, numberOf, asRead}
+use Rattle.records.specs.Record.{notOpen}
+use Rattle.records.proofs.Choosing.{when}
+use Rattle.decision.specs.declared.sizes.Sizes.{Sizes}
+use Rattle.decision.specs.Sizes.{maxClients, maxFiles, maxPlaces, place, Permitted}
+use Rattle.decision.specs.Lists.{stored}
+use Rattle.decision.proofs.Beyond.{getD-alike}
+use Rattle.decision.proofs.Storing.{length-stored, getD-stored}
+use Rattle.protocol.specs.declared.entry.Entry.{Entry}
+use Rattle.protocol.specs.Entry.{recordAt, freshEntry}
+use Rattle.table.specs.TableStep.{noEntry, entryOf}
+use Rattle.image.specs.Bytes.{below, section}
+use Rattle.image.specs.Image.{versionRead, lastRead, fileEntries}
+use Rattle.image.specs.Image.{openEntries, blockEntries, imageBytes}
+use Rattle.image.proofs.SectionLaws.{wide-files, wide-opens, wide-blocks}
+use Rattle.restore.specs.Decoded.{sectionIn, pastSection, placed, putFile, putOpen, putBlock, filesPart}
+use Rattle.restore.specs.Decoded.{opensPart, blocksPart, decodedFiles, decodedBlocks}
+use Rattle.restore.specs.Reading.{withBlocks}
+use Rattle.restore.proofs.Parsing.{few-files, few-opens, few-blocks, section-read, past-read}
+use Rattle.restore.proofs.GivenBlocks.{taken-block, given-blocks}
+use Rattle.restore.proofs.GivenFiles.{listedEntry, freshFiles, given-files}
+use Rattle.restore.proofs.GivenOpens.{openRead, withOpens, given-opens}
+use Rattle.restore.proofs.SameAgain.{read-again, image-again}
+
+module _
+    {z : Sizes}
+    (most : Permitted z)
+    (entries : List Entry)
+    (blocks : List ℕ)
+    (versions : (f : ℕ) → f < z .files → numberOf (entryOf entries f .version) < 4294967296)
+    (values : (f b : ℕ) → f < z .files → b < z .blocks → getD blocks (place f b) 0 < 18446744073709551616) where
+  abbrev image : List ℕ
+  image = imageBytes z entries blocks
+
+  -- ---- the three sections
+
+  opens-part : opensPart image ≡ section (openEntries z entries) ++ section (blockEntries z blocks)
+  unfolding imageBytes
+  opens-part =
+      past-read 6 (fileEntries z entries) (section (openEntries z entries) ++ section (blockEntries z blocks))
+      (wide-files z entries) (few-files most entries)
+
+  blocks-part : blocksPart image ≡ section (blockEntries z blocks)
+  blocks-part =
+      ap (pastSection 5) opens-part
+      ∙ past-read 5 (openEntries z entries) (section (blockEntries z blocks)) (wide-opens z entries)
+      (few-opens most entries)
+
+  files-told : sectionIn 6 (filesPart image) ≡ fileEntries z entries
+  unfolding imageBytes
+  files-told =
+      section-read 6 (fileEntries z entries) (section (openEntries z entries) ++ section (blockEntries z blocks))
+      (wide-files z entries) (few-files most entries)
+
+  opens-told : sectionIn 5 (opensPart image) ≡ openEntries z entries
+  opens-told =
+      ap (sectionIn 5) opens-part
+      ∙ section-read 5 (openEntries z entries) (section (blockEntries z blocks)) (wide-opens z entries)
+      (few-opens most entries)
+
+  blocks-told : sectionIn 10 (blocksPart image) ≡ blockEntries z blocks
+  blocks-told =
+      ap (sectionIn 10) (blocks-part ∙ sym (append-nil (section (blockEntries z blocks))))
+      ∙ section-read 10 (blockEntries z blocks) [] (wide-blocks z blocks) (few-blocks most blocks)
+
+  -- ---- what they give
+
+  abbrev listedFiles : List Entry
+  listedFiles = stored (z .files) (λ f. f) (λ f. listedEntry (z .clients) (entryOf entries f)) freshFiles
+
+  abbrev given : ℕ → Entry
+  given f = withOpens (z .clients) (entryOf entries f) (entryOf listedFiles f)
+
+  listed-long : length listedFiles ≡ maxFiles
+  listed-long =
+      length-stored (z .files) (λ f. f) (λ f. listedEntry (z .clients) (entryOf entries f)) freshFiles
+      ∙ length-replicate maxFiles (freshEntry maxClients)
+
+  listed-at : (f : ℕ) → f < z .files → entryOf listedFiles f ≡ listedEntry (z .clients) (entryOf entries f)
+  listed-at f hf =
+      getD-stored (z .files) (λ f. f) (λ f. listedEntry (z .clients) (entryOf entries f)) freshFiles noEntry f hf
+      (rw (length-replicate maxFiles (freshEntry maxClients)) (let few = most .files in omega arith))
+      (λ k less below. omega arith)
+
+  files-given : decodedFiles image ≡ stored (z .files) (λ f. f) given listedFiles
+  unfolding decodedFiles
+  files-given =
+      ap (λ es. placed putOpen es (placed putFile (sectionIn 6 (filesPart image)) freshFiles)) opens-told
+      ∙ ap (λ es. placed putOpen (openEntries z entries) (placed putFile es freshFiles)) files-told
+      ∙ ap (placed putOpen (openEntries z entries)) (given-files most entries versions)
+      ∙ given-opens most entries listedFiles listed-long
+      (λ f i hf hi.
+      ap (λ x. recordAt x i) (listed-at f hf) ∙ getD-alike maxClients notOpen i)
+
+  entry-given : (f : ℕ) → f < z .files → entryOf (decodedFiles image) f ≡ given f
+  entry-given f hf =
+      ap (λ l. entryOf l f) files-given
+      ∙ getD-stored (z .files) (λ f. f) given listedFiles noEntry f hf
+      (rw listed-long (let few = most .files in omega arith)) (λ k less below. omega arith)
+
+  entry-told :
+      (f : ℕ)
+      → f < z .files
+      → entryOf (decodedFiles image) f
+      ≡ withOpens (z .clients) (entryOf entries f) (listedEntry (z .clients) (entryOf entries f))
+  entry-told f hf = entry-given f hf ∙ ap (withOpens (z .clients) (entryOf entries f)) (listed-at f hf)
+
+  pub version-given :
+      (f : ℕ) → f < z .files → entryOf (decodedFiles image) f .version ≡ versionOf (versionRead (entryOf entries f))
+  version-given f hf = ap (λ (x : Entry). x .version) (entry-told f hf)
+
+  last-given :
+      (f : ℕ) → f < z .files → entryOf (decodedFiles image) f .last ≡ lastRead (z .clients) (entryOf entries f)
+  last-given f hf = ap (λ (x : Entry). x .last) (entry-told f hf)
+
+  record-given :
+      (f i : ℕ)
+      → f < z .files
+      → i < z .clients
+      → recordAt (entryOf (decodedFiles image) f) i ≡ openRead (recordAt (entryOf entries f) i)
+  record-given f i hf hi =
+      let e = entryOf entries f in
+      ap (λ x. recordAt x i) (entry-told f hf)
+      ∙ getD-stored (z .clients) (λ i. i) (λ i. openRead (recordAt e i)) (replicate maxClients notOpen) notOpen i hi
+      (rw (length-replicate maxClients notOpen) (let few = most .clients in omega arith)) (λ k less below. omega arith)
+
+  blocks-given : decodedBlocks image ≡ withBlocks (z .files) (z .blocks) blocks (replicate maxPlaces 0)
+  unfolding decodedBlocks
+  blocks-given =
+      ap (λ es. placed putBlock es (replicate maxPlaces 0)) blocks-told ∙ given-blocks most blocks values
+
+  pub block-given :
+      (f b : ℕ) → f < z .files → b < z .blocks → getD (decodedBlocks image) (place f b) 0 ≡ getD blocks (place f b) 0
+  block-given f b hf hb =
+      ap (λ l. getD l (place f b) 0) blocks-given
+      ∙ taken-block (z .blocks) (most .blocks) blocks (replicate maxPlaces 0) (length-replicate {A = ℕ} maxPlaces 0)
+      (z .files) (most .files) f b hb
+      ∙ when _ _ (lt-ltb f (z .files) hf)
+
+  -- ---- the image of what they give is the same again
+
+  pub same-again : imageBytes z (decodedFiles image) (decodedBlocks image) ≡ image
+  same-again =
+      image-again most (decodedFiles image) entries (decodedBlocks image) blocks
+      (λ f hf. ap (λ v. numberOf (asRead v)) (version-given f hf) ∙ read-again (entryOf entries f))
+      last-given
+      record-given
+      block-given

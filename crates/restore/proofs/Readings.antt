@@ -1,0 +1,48 @@
+-- What reading answers and hands back, from the test that was made. Assumes nothing.
+use Prim.Native.Nat.{ℕ}
+use mathlib.Core.Path.{_≡_, sym, _∙_}
+use mathlib.Core.Bool.{Bool, true, false}
+use mathlib.Core.List.{List}
+use lib.ListN.{replicate}
+use Rattle.records.proofs.Choosing.{when, unless}
+use Rattle.decision.specs.declared.sizes.Sizes.{Sizes}
+use Rattle.protocol.specs.declared.entry.Entry.{Entry}
+use Rattle.protocol.specs.declared.reply.Reply.the-variants.{Refused, Done}
+use Rattle.protocol.specs.declared.step.Step.the-variants.{Crash}
+use Rattle.service.specs.declared.service.Service.{Service}
+use Rattle.service.specs.Contents.{sizesOf}
+use Rattle.service.specs.Demand3.{after}
+use Rattle.image.specs.Image.{imageBytes}
+use Rattle.restore.specs.Decoded.{decodedFiles, decodedBlocks}
+use Rattle.restore.specs.Reading.{sameBytes, isImage, withContents, readingOf}
+
+module _
+    (s : Service)
+    (bytes : List ℕ)
+    (z : Sizes)
+    (force : z ≡ sizesOf s)
+    (files : List Entry)
+    (files-are : files ≡ decodedFiles bytes)
+    (blocks : List ℕ)
+    (blocks-are : blocks ≡ decodedBlocks bytes)
+    (t : Bool)
+    (test : t ≡ sameBytes bytes (imageBytes z files blocks)) where
+  test-is : t ≡ isImage (sizesOf s) bytes
+  unfolding isImage
+  test-is = test ∙ (λ k. sameBytes bytes (imageBytes (force k) (files-are k) (blocks-are k)))
+
+  pub refused : t ≡ false → record { service = s; reply = Refused 17; calls = replicate 8 0 } ≡ readingOf s bytes
+  unfolding readingOf
+  refused e = sym (unless _ _ (sym test-is ∙ e))
+
+  pub accepted :
+      t ≡ true
+      → (crashed s′ : Service)
+      → crashed ≡ after s Crash
+      → s′ ≡ withContents crashed files blocks
+      → record { service = s′; reply = Done; calls = replicate 8 0 } ≡ readingOf s bytes
+  unfolding readingOf
+  accepted e crashed s′ crash is =
+      let service = is ∙ (λ k. withContents (crash k) (files-are k) (blocks-are k)) in
+      (λ k. record { service = service k; reply = Done; calls = replicate 8 0 })
+      ∙ sym (when _ _ (sym test-is ∙ e))

@@ -1,0 +1,41 @@
+-- `with_contents` meets its contract: the versions and blocks change, and all else stays. Assumes nothing.
+use mathlib.Core.Path.{_∙_, ap}
+use denote.Ref.{now}
+use Rattle.restore.specs.Reading.{withVersions, withBlocks}
+use borrow.Author.Needs.{needs}
+use Rattle.restore.proofs.reading.with_contents.Statement.{statement}
+use Rattle.restore.proofs.reading.with_contents.Tie as tie
+
+returns : tie.Need-returns
+returns c =
+    let versions = c .before in
+    let force = versions .before .before .before .before .before .before .before .before .before .before in
+    let a = force .before .before .args in
+    let s = a .service in
+    let files =
+    versions .with-versions .ensures
+    ∙ ap (λ z. withVersions (z .files) (a .files) (s .server .table .files)) (force .in-force .ensures .0) in
+    let blocks =
+    c .with-blocks .ensures
+    ∙ ap (λ z. withBlocks (z .files) (z .blocks) (now (a .blocks)) (s .server .blocks)) (force .in-force .ensures .0) in
+    λ k.
+    record {
+      sizes = s .sizes;
+      server =
+          record {
+            table =
+                record {
+                  files = files k;
+                  recovering = s .server .table .recovering;
+                  reported = s .server .table .reported;
+                };
+            blocks = blocks k;
+          };
+      clients = s .clients;
+      copies = s .copies;
+      held = s .held;
+      dirty = s .dirty;
+    }
+
+pub with-contents-spec : {M : Type 1} → statement M
+with-contents-spec = tie.close (tie.spec (search needs) (search needs) (search needs) returns)

@@ -1,0 +1,7 @@
+// An image, read: what bytes hold, whether they are an image, and the service that takes one.
+mod decoding;
+mod numbers;
+mod reading;
+
+pub use reading::image_sizes;
+pub use reading::read_image;

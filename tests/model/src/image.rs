@@ -1,0 +1,209 @@
+//! The image of the server (document 02, Wish 2), written into a lent buffer and read again. It begins with the sizes
+//! in force, one byte each (Wish 7); then come three sections, each after its count.
+
+use crate::{BLOCKS, CLIENTS, FILES, Record, Refusal, Service, Settings, Sizes};
+
+/// Bytes of a count: "two bytes, low byte first".
+pub const COUNT_BYTES: usize = 2;
+/// Bytes of an entry of each section: files, opens, blocks.
+pub const ENTRY_BYTES: [usize; 3] = [6, 5, 10];
+/// With the largest sizes and every entry listed.
+pub const LONGEST_IMAGE: usize =
+    3 + 3 * COUNT_BYTES + FILES * ENTRY_BYTES[0] + FILES * CLIENTS * ENTRY_BYTES[1] + FILES * BLOCKS * ENTRY_BYTES[2];
+
+/// "Last writer or 255."
+const NO_LAST_WRITER: u8 = 255;
+
+impl Service {
+    /// "Writing tests 5, 15, 16." Gives the length; bytes past it stay, and on a refusal the whole buffer does.
+    pub fn write_image(&self, buffer: &mut [u8]) -> Result<usize, Refusal> {
+        let sizes = self.sizes();
+        if self.server.recovering {
+            return Err(Refusal::Recovering);
+        }
+        if self.server.entries[..sizes.files].iter().any(|entry| entry.waiting.read(sizes).is_some()) {
+            return Err(Refusal::OpenWaitsAtWriting);
+        }
+        let image = self.image();
+        let room = buffer.get_mut(..image.len()).ok_or(Refusal::BufferTooShort)?;
+        room.copy_from_slice(&image);
+        Ok(image.len())
+    }
+
+    /// "Reading tests 17 only." Takes versions and blocks and is otherwise a crash.
+    pub fn read_image(&mut self, bytes: &[u8]) -> Result<(), Refusal> {
+        let sizes = self.sizes();
+        let contents = Contents::read(sizes, bytes).ok_or(Refusal::NoImage)?;
+        self.server.crash(sizes);
+        for (file, entry) in self.server.entries[..sizes.files].iter_mut().enumerate() {
+            entry.version.0 = contents.versions[file];
+            entry.blocks[..sizes.blocks].copy_from_slice(&contents.blocks[file][..sizes.blocks]);
+        }
+        Ok(())
+    }
+
+    /// The service on the standby machine: of the image's sizes, its clients fresh, the image just read.
+    pub fn resumed(image: &[u8]) -> Result<Self, Refusal> {
+        let Some(&[clients, files, blocks]) = image.first_chunk() else { return Err(Refusal::NoImage) };
+        let settings = Settings { clients: clients.into(), files: files.into(), blocks: blocks.into() };
+        let mut service = Service::fresh_of(settings);
+        service.read_image(image)?;
+        Ok(service)
+    }
+
+    fn image(&self) -> Vec<u8> {
+        let sizes = self.sizes();
+        let mut image = [sizes.clients, sizes.files, sizes.blocks].map(|size| size as u8).to_vec();
+        for section in [self.listed_files(sizes), self.listed_opens(sizes), self.listed_blocks(sizes)] {
+            image.extend((section.len() as u16).to_le_bytes());
+            image.extend(section.concat());
+        }
+        image
+    }
+
+    /// "Files: number, version in four bytes low first, last writer or 255, for each file not at version 1 without last
+    /// writer."
+    fn listed_files(&self, sizes: Sizes) -> Vec<Vec<u8>> {
+        let mut listed = Vec::new();
+        for (file, entry) in self.server.entries[..sizes.files].iter().enumerate() {
+            let (version, last_writer) = (entry.version.read(), entry.last_writer.read(sizes));
+            if version != 1 || last_writer.is_some() {
+                let last_writer = last_writer.map_or(NO_LAST_WRITER, |client| client as u8);
+                listed.push([&[file as u8][..], &version.to_le_bytes(), &[last_writer]].concat());
+            }
+        }
+        listed
+    }
+
+    /// "Opens, for each open station: station, file, readers, writers, permission, by file and then station."
+    fn listed_opens(&self, sizes: Sizes) -> Vec<Vec<u8>> {
+        let mut listed = Vec::new();
+        for (file, entry) in self.server.entries[..sizes.files].iter().enumerate() {
+            for (client, record) in entry.records[..sizes.clients].iter().enumerate() {
+                if record.is_open() {
+                    let Record { readers, writers, may_cache } = *record;
+                    listed.push(vec![client as u8, file as u8, readers, writers, may_cache.into()]);
+                }
+            }
+        }
+        listed
+    }
+
+    /// "Non-zero blocks: file, block, value in eight bytes low first."
+    fn listed_blocks(&self, sizes: Sizes) -> Vec<Vec<u8>> {
+        let mut listed = Vec::new();
+        for (file, entry) in self.server.entries[..sizes.files].iter().enumerate() {
+            for (block, value) in entry.blocks[..sizes.blocks].iter().enumerate() {
+                if *value != 0 {
+                    listed.push([&[file as u8, block as u8][..], &value.to_le_bytes()].concat());
+                }
+            }
+        }
+        listed
+    }
+}
+
+/// What a reading takes from an image.
+struct Contents {
+    versions: [u32; FILES],
+    blocks: [[u64; BLOCKS]; FILES],
+}
+
+impl Contents {
+    /// None if no service of these sizes is written as these bytes.
+    fn read(sizes: Sizes, bytes: &[u8]) -> Option<Self> {
+        let mut contents = Contents { versions: [1; FILES], blocks: [[0; BLOCKS]; FILES] };
+        let mut rest = Rest(bytes);
+        for size in [sizes.clients, sizes.files, sizes.blocks] {
+            holds(usize::from(rest.byte()?) == size)?;
+        }
+        contents.read_files(sizes, &mut rest)?;
+        read_opens(sizes, &mut rest)?;
+        contents.read_blocks(sizes, &mut rest)?;
+        holds(rest.0.is_empty())?;
+        Some(contents)
+    }
+
+    fn read_files(&mut self, sizes: Sizes, rest: &mut Rest) -> Option<()> {
+        let mut ascent = Ascent::default();
+        for _ in 0..rest.count()? {
+            let file = rest.below(sizes.files)?;
+            ascent.goes_on((file, 0))?;
+            let version = rest.number::<4>()? as u32;
+            let last_writer = rest.byte()?;
+            let is_client = usize::from(last_writer) < sizes.clients;
+            holds(is_client || last_writer == NO_LAST_WRITER)?;
+            holds(version > 1 || version == 1 && is_client)?;
+            self.versions[file] = version;
+        }
+        Some(())
+    }
+
+    fn read_blocks(&mut self, sizes: Sizes, rest: &mut Rest) -> Option<()> {
+        let mut ascent = Ascent::default();
+        for _ in 0..rest.count()? {
+            let (file, block) = (rest.below(sizes.files)?, rest.below(sizes.blocks)?);
+            ascent.goes_on((file, block))?;
+            let value = rest.number::<8>()?;
+            holds(value != 0)?;
+            self.blocks[file][block] = value;
+        }
+        Some(())
+    }
+}
+
+/// Opens are judged, and nothing is taken from them.
+fn read_opens(sizes: Sizes, rest: &mut Rest) -> Option<()> {
+    let mut ascent = Ascent::default();
+    for _ in 0..rest.count()? {
+        let (client, file) = (rest.below(sizes.clients)?, rest.below(sizes.files)?);
+        ascent.goes_on((file, client))?;
+        let (readers, writers) = (rest.byte()?, rest.byte()?);
+        holds(readers > 0 || writers > 0)?;
+        rest.below(2)?;
+    }
+    Some(())
+}
+
+fn holds(condition: bool) -> Option<()> {
+    condition.then_some(())
+}
+
+/// The places that a section has named so far: each must lie above the one before.
+#[derive(Default)]
+struct Ascent(Option<(usize, usize)>);
+
+impl Ascent {
+    fn goes_on(&mut self, place: (usize, usize)) -> Option<()> {
+        holds(self.0.is_none_or(|before| before < place))?;
+        self.0 = Some(place);
+        Some(())
+    }
+}
+
+/// The bytes still to be read.
+struct Rest<'a>(&'a [u8]);
+
+impl Rest<'_> {
+    fn byte(&mut self) -> Option<u8> {
+        let (first, rest) = self.0.split_first()?;
+        self.0 = rest;
+        Some(*first)
+    }
+
+    fn below(&mut self, limit: usize) -> Option<usize> {
+        let number = usize::from(self.byte()?);
+        (number < limit).then_some(number)
+    }
+
+    /// A number of so many bytes, low first.
+    fn number<const BYTES: usize>(&mut self) -> Option<u64> {
+        let (bytes, rest) = self.0.split_first_chunk::<BYTES>()?;
+        self.0 = rest;
+        Some(bytes.iter().rev().fold(0, |number, &byte| number << 8 | u64::from(byte)))
+    }
+
+    fn count(&mut self) -> Option<u64> {
+        self.number::<COUNT_BYTES>()
+    }
+}

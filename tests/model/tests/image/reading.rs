@@ -1,0 +1,172 @@
+//! "It takes versions and blocks and is otherwise a crash; the reports bring back opens and marks."
+
+use model::check::Witness;
+use model::generate::{FileKind, step_file};
+use model::images::written;
+use model::{ClientField, Document01, Outcome, Refusal, Service, Settings, Step, VersionField, replay, replay_from};
+
+use crate::made::{Entries, after, whole_case};
+
+/// A service of the small image's sizes in which everything goes on, with something past the sizes.
+fn busy() -> Service {
+    let mut service = after(&[
+        "SET 3 4 2",
+        "OW 0 1",
+        "WR 0 1 0 7",
+        "FL 0 1 0",
+        "WR 0 1 1 8",
+        "OW 2 2",
+        "WR 2 2 0 9",
+        "CW 2 2",
+        "OR 1 1",
+    ]);
+    for entry in [4, 63].into_iter().chain(0..4) {
+        service.server.entries[entry].blocks[7] = 70;
+        service.server.entries[entry].records[5].readers = 5;
+    }
+    service.server.entries[63].version = VersionField(9);
+    service.server.entries[63].last_writer = ClientField(1);
+    service
+}
+
+fn crashed(mut service: Service) -> Service {
+    service.take::<Document01>(&Step::Crash);
+    service
+}
+
+/// A crash, but with the versions and blocks of the small image.
+fn as_read(service: Service) -> Service {
+    let mut service = crashed(service);
+    let entries = &mut service.server.entries;
+    for (entry, (version, [first, second])) in
+        entries.iter_mut().zip([(1, [0, 5]), (2, [1 << 63, 0]), (1, [0, 0]), (1, [0, u64::MAX])])
+    {
+        entry.version = VersionField(version);
+        entry.blocks[..2].copy_from_slice(&[first, second]);
+    }
+    service
+}
+
+/// Files that are not listed are at version 1, blocks that are not are 0; past the sizes, and at the clients, nothing
+/// changes.
+#[test]
+fn versions_and_blocks_are_taken_and_all_else_is_a_crash() {
+    let mut service = busy();
+    assert_eq!(service.read_image(&Entries::small().bytes()), Ok(()));
+    assert_eq!(service, as_read(busy()));
+    assert!(service.server.recovering && service.clients[0].files[1].copies.dirty[1]);
+}
+
+/// A version of 0 reads as 1, and is 1 after a reading that does not list the file.
+#[test]
+fn a_stored_version_of_0_is_read_over() {
+    let mut service = Service::fresh();
+    service.server.entries[5].version = VersionField(0);
+    assert_eq!(service.read_image(&[8, 32, 4, 0, 0, 0, 0, 0, 0]), Ok(()));
+    assert_eq!(service, crashed(Service::fresh()));
+}
+
+/// "Reading tests 17 only": neither a recovery nor a wait stands in its way, and it is one more crash.
+#[test]
+fn reading_in_recovery_takes_the_reports_back() {
+    let mut service = crashed(busy());
+    for client in [0, 2] {
+        service.take::<Document01>(&Step::Report { client });
+    }
+    assert_eq!(service.read_image(&Entries::small().bytes()), Ok(()));
+    assert_eq!(service, as_read(busy()));
+}
+
+/// "A refusal gives only its number; server, stations .. stay as they came."
+#[test]
+fn a_refused_reading_changes_nothing() {
+    let bytes = Entries::small().bytes();
+    for before in [busy(), crashed(busy())] {
+        for length in 0..bytes.len() {
+            let mut service = before.clone();
+            assert_eq!(service.read_image(&bytes[..length]), Err(Refusal::NoImage));
+            assert_eq!(service, before);
+        }
+    }
+}
+
+/// Sizes out of range that read as those of the image.
+#[test]
+fn the_sizes_are_those_in_force() {
+    let image = written(&whole_case()).expect("it is written");
+    let mut service = Service::fresh_of(Settings { clients: 9, files: 0, blocks: u64::MAX });
+    assert_eq!(service.read_image(&image), Ok(()));
+    assert_eq!(written(&service), Err(Refusal::Recovering));
+    assert_eq!((service.server.entries[3].version, service.server.entries[3].blocks[0]), (VersionField(2), 77));
+}
+
+/// The standby machine: sizes by the image, fresh clients.
+#[test]
+fn a_session_is_resumed_from_an_image() {
+    let service = Service::resumed(&Entries::small().bytes()).expect("it is an image");
+    let fresh = Service::fresh_of(Settings { clients: 3, files: 4, blocks: 2 });
+    assert_eq!(service, as_read(fresh));
+    for bytes in [&[][..], &[8], &[8, 32], &[8, 32, 4], &[0, 32, 4, 0, 0, 0, 0, 0, 0], &[8, 65, 4, 0, 0, 0, 0, 0, 0]] {
+        assert_eq!(Service::resumed(bytes), Err(Refusal::NoImage));
+    }
+}
+
+/// The whole case goes on: client 1's report brings its open back.
+#[test]
+fn the_reports_bring_back_opens_and_flags() {
+    let mut service = whole_case();
+    let image = written(&service).expect("it is written");
+    assert_eq!(service.read_image(&image), Ok(()));
+    let said = replay_from::<Document01>(
+        &mut service,
+        b"RP 0\nRP 1\nRP 2\nRP 3\nRP 4\nRP 5\nRP 6\nRP 7\nEN\nRD 1 3 0\nOW 2 3\n",
+        &mut (),
+    );
+    let expected = "1 K\n2 K\n3 K\n4 K\n5 K\n6 K\n7 K\n8 K\n9 K\n10 V 77\n11 W 1:2\nfiles 1\n3 2 2 -\n";
+    assert_eq!(String::from_utf8_lossy(&said), expected);
+}
+
+/// What survives a crash.
+fn lasting(service: &Service) -> Vec<(VersionField, [u64; 8])> {
+    service.server.entries.iter().map(|entry| (entry.version, entry.blocks)).collect()
+}
+
+/// The latest image of a run, what the server had then, and how often it was read.
+#[derive(Default)]
+struct Readings {
+    image: Vec<u8>,
+    then: Vec<(VersionField, [u64; 8])>,
+    readings: usize,
+    /// Those at which no image could be written.
+    later: usize,
+}
+
+impl Witness for Readings {
+    fn after(&mut self, service: &Service, _step: &Step, _outcome: &Outcome) {
+        let now = written(service);
+        self.later += usize::from(now.is_err() && self.then == lasting(service));
+        if let Ok(image) = now {
+            (self.image, self.then) = (image, lasting(service));
+        }
+        if self.then == lasting(service) {
+            let mut read = service.clone();
+            assert_eq!(read.read_image(&self.image), Ok(()));
+            assert_eq!(read, crashed(service.clone()));
+            self.readings += 1;
+        }
+    }
+}
+
+/// "On the premise that the server's blocks and versions hadn't changed since the image, demand 3 holds with the
+/// reading as a crash": on that premise the reading leaves the very service that a crash leaves.
+#[test]
+fn on_the_premise_a_reading_is_a_crash() {
+    let mut met = Readings::default();
+    for seed in 0..40 {
+        for kind in [FileKind::Hot, FileKind::Wide, FileKind::Session] {
+            met.then.clear();
+            replay::<Document01>(&step_file(kind, seed, 400), &mut met);
+        }
+    }
+    assert!(met.readings > 10_000 && met.later > 2_000, "{} {}", met.readings, met.later);
+}
