@@ -1,8 +1,7 @@
 -- Demand 3 with batches: a batch is its opens, which leave the reference memory and the recovery as they are. Assumes
 -- nothing.
 use Prim.Native.Nat.{ℕ}
-use mathlib.Core.Path.{_≡_, sym, ap, subst, _∙_}
-use mathlib.Core.Bool.{Bool, true, false}
+use mathlib.Core.Path.{ap, subst}
 use mathlib.Core.List.{List, [], _∷_, _++_}
 use Rattle.protocol.specs.declared.step.Step.{Step}
 use Rattle.service.specs.declared.service.Service.{Service}

@@ -1,6 +1,6 @@
 -- Batches by evaluation of the definitions: a closing run with openings that are granted, wait and are refused, and the
 -- edges of the list. Assumes nothing.
-use Prim.Native.Nat.{ℕ, zero, suc}
+use Prim.Native.Nat.{ℕ}
 use mathlib.Core.Path.{_≡_, refl}
 use mathlib.Core.Bool.{Bool, true, false}
 use mathlib.Core.List.{List, [], _∷_, _++_}

@@ -8,7 +8,7 @@ use borrow.Author.Tests.{ltb-false}
 use Rattle.service.specs.declared.service.Service.{Service}
 use Rattle.service.proofs.Tests.{split}
 use Rattle.batch.specs.declared.batch.BatchOutcome.{BatchOutcome}
-use Rattle.batch.specs.Batch.{Opening, opensOf, maxOpenings, listTooLong, batchOf}
+use Rattle.batch.specs.Batch.{Opening, maxOpenings, listTooLong, batchOf}
 use Rattle.batch.specs.Demand3.{GoesOn}
 use Rattle.batch.proofs.Trying.{too-long, not-too-long}
 use Rattle.batch.proofs.Demand3.{goes-on}

@@ -16,8 +16,8 @@ pub data Event : Type 0 where
   batch : ℕ → List Opening → Event
 
 -- Both hold at each single step, as in `Holds` of crates/service/specs/Demand3.antt. A batch hands its service to the
--- next event. It has no read, write, crash or end, so the reference memory and the recovery stay: "Every other step, and
--- every refused one, leaves the book as it is."
+-- next event. It has no read, write, crash or end, so the reference memory and the recovery stay: "Every other step,
+-- and every refused one, leaves the book as it is."
 abbrev pub HoldsWithBatches : Service → Memory → Recovery → List Event → Type 0
 HoldsWithBatches s m r [] = Unit {0}
 HoldsWithBatches s m r (single x ∷ events) =

@@ -40,7 +40,8 @@ dirtyBlocks n i f a = count n (λ b. dirtyIn a i f b)
 abbrev pub anyDirty : ℕ → ℕ → ℕ → Stores → Bool
 anyDirty n i f a = ltb 0 (dirtyBlocks n i f a)
 
--- Client i's copy of file f, of n blocks, is dropped unless it is kept: "A dropped block is not held, not dirty and zero".
+-- Client i's copy of file f, of n blocks, is dropped unless it is kept: "A dropped block is not held, not dirty and
+-- zero".
 abbrev pub droppedUnless : ℕ → Bool → ℕ → ℕ → Stores → Stores
 droppedUnless n keep i f a =
     record {
@@ -61,8 +62,8 @@ answeredStores n kind i f a =
       dirty = kept n false false (firstCell i f) (a .dirty);
     }
 
--- "Writing back now tells how many blocks it sent" (document 02, Wish 5): "For kinds 1 and 3 it equals the dirty blocks of
--- that file there just before the reply; an invalidation alone gives 0."
+-- "Writing back now tells how many blocks it sent" (document 02, Wish 5): "For kinds 1 and 3 it equals the dirty
+-- blocks of that file there just before the reply; an invalidation alone gives 0."
 abbrev pub sentBlocks : ℕ → ℕ → ℕ → ℕ → Stores → ℕ
 sentBlocks n kind i f a = cond (writesBack kind) (dirtyBlocks n i f a) 0
 

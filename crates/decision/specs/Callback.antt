@@ -11,7 +11,8 @@ use Rattle.records.specs.declared.record.Mode.{Mode}
 use Rattle.records.specs.declared.record.Mode.the-variants.{Read, Write}
 use Rattle.records.specs.declared.record.ClientRecord.{ClientRecord}
 use Rattle.decision.specs.declared.state.FileState.{FileState}
-use Rattle.decision.specs.declared.state.FileState.the-variants.{Closed, ClosedDirty, OneReader, OneReaderDirty, MultReaders, OneWriter, WriteShared}
+use Rattle.decision.specs.declared.state.FileState.the-variants.{Closed, ClosedDirty, OneReader, OneReaderDirty}
+use Rattle.decision.specs.declared.state.FileState.the-variants.{MultReaders, OneWriter, WriteShared}
 use Rattle.decision.specs.Lists.{count, stored}
 use Rattle.records.specs.Record.{isOpen, keepsPermission}
 use Rattle.decision.specs.State.{stateOf}
@@ -65,8 +66,8 @@ unfoldable pub orderedCalls : ℕ → List ℕ → List (ℕ × ℕ)
 orderedCalls zero kinds = []
 orderedCalls (suc n) kinds = orderedCalls n kinds ++ callIf n (getD kinds n 0)
 
--- What is promised of the list, for any number of clients and any kinds (`in-order`, proofs/CallOrder.antt): each client
--- is below all that follow, and the list holds exactly the clients that are called, each with its kind.
+-- What is promised of the list, for any number of clients and any kinds (`in-order`, proofs/CallOrder.antt): each
+-- client is below all that follow, and the list holds exactly the clients that are called, each with its kind.
 abbrev pub Ascending : List (ℕ × ℕ) → Type 0
 Ascending [] = Unit {0}
 Ascending (c ∷ cs) = ((later : ℕ × ℕ) → Member later cs → c .0 < later .0) × Ascending cs

@@ -7,7 +7,8 @@ use lib.Dec.{eqb, ltb, leb}
 use lib.ListN.{getD}
 use Rattle.records.specs.declared.record.ClientRecord.{ClientRecord}
 use Rattle.decision.specs.declared.state.FileState.{FileState}
-use Rattle.decision.specs.declared.state.FileState.the-variants.{Closed, ClosedDirty, OneReader, OneReaderDirty, MultReaders, OneWriter, WriteShared}
+use Rattle.decision.specs.declared.state.FileState.the-variants.{Closed, ClosedDirty, OneReader, OneReaderDirty}
+use Rattle.decision.specs.declared.state.FileState.the-variants.{MultReaders, OneWriter, WriteShared}
 use Rattle.decision.specs.declared.state.Property.{Property}
 use Rattle.decision.specs.declared.state.Property.the-variants.{Open, Uncached, Writing}
 use Rattle.decision.specs.Lists.{count}

@@ -1,4 +1,5 @@
-// The sizes of a service: how many clients, files, and blocks in each file there are. The arrays have the largest sizes.
+// The sizes of a service: how many clients, files, and blocks in each file there are. The arrays have the largest
+// sizes.
 ghost use mathlib.Core.Path.{_≡_};
 ghost use mathlib.Core.Bool.{cond};
 ghost use Rattle.decision.specs.Sizes.{defaultSizes, isPermitted, arePermitted, inForce, Permitted};

@@ -1,6 +1,6 @@
 -- An answer, the last or not, as the step's definition has it. Assumes nothing.
 use Prim.Native.Nat.{ℕ, _<_}
-use mathlib.Core.Path.{_≡_, refl, sym, ap, ap₂, _∙_}
+use mathlib.Core.Path.{_≡_, refl, sym, ap, _∙_}
 use mathlib.Core.Bool.{Bool, true≢false}
 use native.Mathlib.Omega.{arith}
 use lib.Dec.{eqb}

@@ -1,20 +1,19 @@
 -- An open, granted or waiting, as the step's definition has it. Assumes nothing.
 use Prim.Native.Nat.{ℕ, _≤_}
-use mathlib.Core.Path.{_≡_, refl, sym, ap, _∙_, subst⁻¹}
+use mathlib.Core.Path.{_≡_, refl, sym, ap, _∙_}
 use mathlib.Core.Bool.{Bool, not}
 use mathlib.Core.List.{List}
 use lib.Dec.{eqb}
-use lib.ListN.{getD, replicate, length-replicate}
+use lib.ListN.{getD, length-replicate}
 use borrow.Author.Tests.{eq-eqb, ne-eqb}
 use Rattle.records.specs.declared.record.Mode.{Mode}
 use Rattle.records.proofs.Choosing.{when, unless}
 use Rattle.decision.specs.declared.sizes.Sizes.{Sizes}
 use Rattle.decision.specs.Sizes.{maxClients}
 use Rattle.decision.specs.Lists.{firstOf}
-use Rattle.decision.specs.Callback.{asksNothing, callbackDue}
+use Rattle.decision.specs.Callback.{asksNothing}
 use Rattle.decision.proofs.Counting.{count-agree}
 use Rattle.decision.proofs.CallOrder.{kind-due}
-use Rattle.protocol.specs.declared.entry.Entry.{Entry}
 use Rattle.protocol.specs.declared.reply.Grant.{Grant}
 use Rattle.protocol.specs.declared.reply.Reply.the-variants.{Granted, Refused}
 use Rattle.protocol.specs.declared.step.Step.the-variants.{Open}

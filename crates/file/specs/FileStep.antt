@@ -16,9 +16,11 @@ use Rattle.protocol.specs.declared.step.Step.{Step}
 use Rattle.protocol.specs.declared.step.Step.the-variants.{Open, Close, Read, Write, Flush, Answer, Crash, Report, End}
 use Rattle.protocol.specs.Entry.{callTo, callsOut, callsFor, callsDue, waitingEntry, grantOf, grantedEntry}
 use Rattle.protocol.specs.Entry.{closedEntry, flushedEntry, answeredEntry}
-use Rattle.protocol.specs.Client.{sideOf, withSide, grantedClient, keepsBlocks, closedClient, flushedClient, answeredClient}
+use Rattle.protocol.specs.Client.{sideOf, withSide, grantedClient, keepsBlocks, closedClient, flushedClient}
+use Rattle.protocol.specs.Client.{answeredClient}
 use Rattle.protocol.specs.Refusal.{Test, tested, openTests, closeTests, flushTests, answerTests}
-use Rattle.blocks.specs.Stores.{Stores, lent, dirtyIn, anyDirty, sentBlocks, droppedUnless, answeredStores, flushedStores}
+use Rattle.blocks.specs.Stores.{Stores, lent, dirtyIn, anyDirty, sentBlocks, droppedUnless, answeredStores}
+use Rattle.blocks.specs.Stores.{flushedStores}
 use Rattle.file.specs.declared.file.SharedFile.{SharedFile}
 use Rattle.file.specs.declared.file.FileOutcome.{FileOutcome}
 
@@ -73,8 +75,8 @@ afterOpen z x a mode i f =
 
 -- ---- closing and flushing
 
--- "sets mark and last writer if a block is dirty, else clears both" (document 02, Wish 4): whether a block of the file is
--- dirty there, both sides are told
+-- "sets mark and last writer if a block is dirty, else clears both" (document 02, Wish 4): whether a block of the
+-- file is dirty there, both sides are told
 abbrev pub closedFile : SharedFile → Mode → ℕ → Bool → SharedFile
 closedFile x mode i dirty =
     record {

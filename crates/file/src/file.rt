@@ -223,7 +223,8 @@ impl SharedFile {
     ) -> FileOutcome
         requires { ⌜ Permitted sizes ⌝ }
         ensures { λ r. ⌜ ((blocks copies : List ℕ) (held : List Bool) → Leaves
-            (fileStep sizes recovering self (lent blocks copies held (now (dirty .entry))) (Step.Close mode client file))
+            (fileStep sizes recovering self (lent blocks copies held (now (dirty .entry)))
+            (Step.Close mode client file))
             r blocks copies held (now (dirty .entry))) ⌝ }
     {
         let entry = self.entry;

@@ -1,5 +1,5 @@
-// Judges byte strings as images, for the program `images` of tests/model, which holds the verdicts to its own. What is read
-// and what is written, byte by byte, is told at the head of tests/model/src/bin/images/main.rs.
+// Judges byte strings as images, for the program `images` of tests/model, which holds the verdicts to its own. What
+// is read and what is written, byte by byte, is told at the head of tests/model/src/bin/images/main.rs.
 ghost use Prim.Native.Nat.{_+_, _≤_, _<_};
 ghost use lib.ListN.{length};
 

@@ -13,7 +13,7 @@ use Rattle.stepfile.specs.Grammar.{Reading, found, nothing}
 use Rattle.stepfile.specs.Input.{firstLine, wholeLines}
 use Rattle.stepfile.specs.Played.{replyLine, serviceAfter}
 use Rattle.stepfile.specs.Transcript.{lines, transcript, after, BreaksLine}
-use Rattle.stepfile.proofs.FirstLines.{FirstLine, first-line, whole-first, whole-none}
+use Rattle.stepfile.proofs.FirstLines.{first-line, whole-first, whole-none}
 use Rattle.stepfile.proofs.Splitting.{NoLF, breaks-none, breaks-line, count-more}
 use Rattle.stepfile.proofs.Transcripts.{after-more, transcript-more}
 use Rattle.lines.specs.declared.lines.Progress.{Progress}

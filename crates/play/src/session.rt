@@ -50,8 +50,8 @@ pub fn play(start: Session, fd: i32, name: &[u8]) -> End
     }
 }
 
-// The buffers are large beside the service, which is copied a few times for each buffer that is played; and a reply line
-// may be longer than its line.
+// The buffers are large beside the service, which is copied a few times for each buffer that is played; and a reply
+// line may be longer than its line.
 fn input_buffer() -> [u8; 262144] {
     [0; 262144]
 }

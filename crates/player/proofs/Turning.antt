@@ -1,14 +1,14 @@
 -- What a turn leaves: whatever follows its bytes in the input, the transcript of all of it is what the turn wrote, and
 -- then the transcript of the bytes that it kept and what follows; so with the service. Assumes nothing.
-use Prim.Native.Nat.{ℕ, _+_, _-_, _≤_, _<_}
+use Prim.Native.Nat.{ℕ, _+_, _-_, _≤_}
 use mathlib.Core.Path.{_≡_, refl, sym, ap, _∙_}
 use mathlib.Core.Bool.{Bool, true, false, not, true≢false}
 use mathlib.Core.List.{List, _++_, append-assoc}
 use native.Mathlib.Nat.{zero-add}
 use native.Mathlib.Omega.{arith}
 use lib.Dec.{ltb}
-use lib.ListN.{length, take, drop, length-take, length-drop, take-append-drop}
-use lib.Seq.{length-take-le, take-all, take-at, drop-at, take-take, take-add, paste, take-paste, length-paste}
+use lib.ListN.{length, take, drop, length-drop, take-append-drop}
+use lib.Seq.{length-take-le, take-all, take-at, drop-at, take-take, take-add, take-paste, length-paste}
 use borrow.Author.Tests.{ltb-true, ltb-false}
 use Rattle.service.specs.declared.service.Service.{Service}
 use Rattle.stepfile.specs.Played.{replyLine, serviceAfter}
@@ -21,8 +21,8 @@ use Rattle.writer.proofs.Buffers.{length-written}
 use Rattle.lines.specs.declared.lines.Progress.{Progress}
 use Rattle.player.specs.declared.turn.Turn.{Turn}
 use Rattle.lines.specs.Lines.{transcriptOf, afterInput, canReply, lineProgress, linesWritten}
-use Rattle.player.specs.Turn.{least, keptOf, turnOf, bufferAfter}
-use Rattle.lines.proofs.Reaching.{At, Stop, stop}
+use Rattle.player.specs.Turn.{least, turnOf, bufferAfter}
+use Rattle.lines.proofs.Reaching.{Stop, stop}
 use Rattle.lines.proofs.Resting.{no-lf-take, transcript-cut, after-cut}
 
 -- at most both

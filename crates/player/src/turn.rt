@@ -34,7 +34,8 @@ pub fn play_turn(
 ) -> Turn
     ensures { λ r. ⌜ r ≡ turnOf settable service number (take filled (now (buffer .entry))) (now (out .entry)) ⌝ }
     ensures { λ r. ⌜ now (buffer .exit)
-        ≡ bufferAfter settable service number (now (buffer .entry)) (take filled (now (buffer .entry))) (now (out .entry)) ⌝ }
+        ≡ bufferAfter settable service number (now (buffer .entry)) (take filled (now (buffer .entry)))
+        (now (out .entry)) ⌝ }
     ensures { λ r. ⌜ now (out .exit)
         ≡ linesWritten settable service number (take filled (now (buffer .entry))) (now (out .entry)) ⌝ }
     ensures { λ r. ⌜ r .written ≤ length (now (out .entry)) ⌝ }

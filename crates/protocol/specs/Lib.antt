@@ -1,5 +1,5 @@
--- The protocol of one file, in reading order; crate records has versions and client records, crate decision the sizes and
--- what is decided from the records.
+-- The protocol of one file, in reading order; crate records has versions and client records, crate decision the sizes
+-- and what is decided from the records.
 pub mod Copy
 pub mod Reply
 pub mod Step

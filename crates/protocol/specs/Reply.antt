@@ -4,7 +4,8 @@ use mathlib.Core.Bool.{Bool, true, false, cond}
 use mathlib.Core.List.{List, [], _∷_}
 use Rattle.protocol.specs.declared.reply.Grant.{Grant}
 use Rattle.protocol.specs.declared.reply.Reply.{Reply}
-use Rattle.protocol.specs.declared.reply.Reply.the-variants.{Granted, Waiting, Value, Refused, Answered, AnsweredGrant, Done}
+use Rattle.protocol.specs.declared.reply.Reply.the-variants.{Granted, Waiting, Value, Refused, Answered}
+use Rattle.protocol.specs.declared.reply.Reply.the-variants.{AnsweredGrant, Done}
 use Rattle.records.specs.Version.{numberOf}
 
 -- "G latest previous permission (0 or 1)"
@@ -21,8 +22,8 @@ letterOf (Answered n) = 65
 letterOf (AnsweredGrant n i g) = 65
 letterOf Done = 75
 
--- the numbers that follow the letter; those of Waiting are its calls, which stand beside the reply. How many blocks came
--- back is printed "directly after A, before any grant" (document 02, Wish 5).
+-- the numbers that follow the letter; those of Waiting are its calls, which stand beside the reply. How many blocks
+-- came back is printed "directly after A, before any grant" (document 02, Wish 5).
 abbrev pub valuesOf : Reply → List ℕ
 valuesOf (Granted g) = grantValues g
 valuesOf Waiting = []

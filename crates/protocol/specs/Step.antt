@@ -1,9 +1,9 @@
 -- What a step touches.
-use Prim.Native.Nat.{ℕ}
 use Rattle.protocol.specs.declared.step.Class.{Class}
 use Rattle.protocol.specs.declared.step.Class.the-variants.{OnFile, OnBlock, OnTable}
 use Rattle.protocol.specs.declared.step.Step.{Step}
-use Rattle.protocol.specs.declared.step.Step.the-variants.{Open, Close, Read, Write, Flush, Answer, Crash, Report, End}
+use Rattle.protocol.specs.declared.step.Step.the-variants.{Open, Close, Read, Write, Flush, Answer, Crash}
+use Rattle.protocol.specs.declared.step.Step.the-variants.{Report, End}
 
 -- opens, closes, flushes and answers touch one file at both sides, reads and writes one block, the others the table
 abbrev pub classOf : Step → Class

@@ -1,13 +1,13 @@
 -- A line is a step if the step takes all of it. Assumes nothing.
-use Prim.Native.Nat.{ℕ, _+_, _≤_, _<_}
-use mathlib.Core.Path.{_≡_, refl, sym, _∙_, ap}
-use mathlib.Core.List.{List, [], _∷_}
-use lib.ListN.{length, getD, drop, drop-of-length-le}
+use Prim.Native.Nat.{ℕ, _≤_, _<_}
+use mathlib.Core.Path.{_≡_, sym, _∙_, ap}
+use mathlib.Core.List.{List}
+use lib.ListN.{length, drop-of-length-le}
 use Rattle.protocol.specs.declared.step.Step.{Step}
 use Rattle.stepfile.specs.declared.parsed.Parsed.the-variants.{Is, NoStep}
 use Rattle.reader.specs.declared.step.Begun.{Begun}
 use Rattle.reader.specs.declared.step.Begun.the-variants.{Is as Begins, Missing}
-use Rattle.stepfile.specs.Grammar.{Reading, found, step, alone, parseLine}
+use Rattle.stepfile.specs.Grammar.{found, step, alone, parseLine}
 use Rattle.reader.specs.Offsets.{begunIn}
 use Rattle.stepfile.proofs.Digits.{at-offset}
 

@@ -212,7 +212,8 @@ pub enum Pair {
 }
 
 fn pair_at(s: &[u8], at: usize) -> Pair
-    ensures { λ r. ⌜ ((f : ℕ → ℕ → Shape) → shaped (taking (λ a. taking (f a))) (drop at (now (s .entry))) ≡ pairIn (now (s .entry)) f r) ⌝ }
+    ensures { λ r. ⌜ ((f : ℕ → ℕ → Shape)
+        → shaped (taking (λ a. taking (f a))) (drop at (now (s .entry))) ≡ pairIn (now (s .entry)) f r) ⌝ }
 {
     let Number::Is {
         value: client,
@@ -247,7 +248,9 @@ pub enum Triple {
 }
 
 fn triple_at(s: &[u8], at: usize) -> Triple
-    ensures { λ r. ⌜ ((f : ℕ → ℕ → ℕ → Shape) → shaped (taking (λ a. taking (λ b. taking (f a b)))) (drop at (now (s .entry))) ≡ tripleIn (now (s .entry)) f r) ⌝ }
+    ensures { λ r. ⌜ ((f : ℕ → ℕ → ℕ → Shape)
+        → shaped (taking (λ a. taking (λ b. taking (f a b)))) (drop at (now (s .entry)))
+        ≡ tripleIn (now (s .entry)) f r) ⌝ }
 {
     let Pair::Are { client, file, next } = pair_at(s, at) else {
         return Triple::Missing;

@@ -2,7 +2,8 @@
 ghost use mathlib.Core.Path.{_≡_};
 ghost use mathlib.Core.Bool.{cond};
 ghost use Prim.Native.Nat.{_-_};
-ghost use Rattle.records.specs.Record.{notOpen, isWrite, allowedLag, isOpen, countOf, keepsPermission, endsWriting};
+ghost use Rattle.records.specs.Record.{notOpen, isWrite, allowedLag, isOpen, countOf, keepsPermission};
+ghost use Rattle.records.specs.Record.{endsWriting};
 ghost use Rattle.records.specs.Record.{raised as raisedCount, opened as openedRecord, closed as closedRecord};
 ghost use Rattle.records.specs.Record.{settled as settledRecord, uncached as uncachedRecord};
 

@@ -1,5 +1,5 @@
--- Nothing is left behind (document 02, Wish 4), over whole lists of steps: "a station is last writer only while it has a
--- dirty block of that file and no writers".
+-- Nothing is left behind (document 02, Wish 4), over whole lists of steps: "a station is last writer only while it
+-- has a dirty block of that file and no writers".
 use Prim.Native.Nat.{ℕ, _<_}
 use mathlib.Core.Path.{_≡_}
 use mathlib.Core.Bool.{true}

@@ -1,4 +1,5 @@
--- The outcome of a step, from any service: what the step on a file, on a block or on the table leaves, put in its place.
+-- The outcome of a step, from any service: what the step on a file, on a block or on the table leaves, put in its
+-- place.
 use Prim.Native.Nat.{ℕ}
 use Rattle.protocol.specs.declared.step.Class.{Class}
 use Rattle.protocol.specs.declared.step.Class.the-variants.{OnFile, OnBlock, OnTable}
@@ -10,7 +11,8 @@ use Rattle.table.specs.declared.table.TableOutcome.{TableOutcome}
 use Rattle.table.specs.TableStep.{tableStep}
 use Rattle.service.specs.declared.service.Service.{Service}
 use Rattle.service.specs.declared.outcome.Outcome.{Outcome}
-use Rattle.service.specs.Contents.{sizesOf, tableIn, reportedAt, clientAt, fileAt, storesOf, withFile, withStores, withTable}
+use Rattle.service.specs.Contents.{sizesOf, tableIn, reportedAt, clientAt, fileAt, storesOf, withFile}
+use Rattle.service.specs.Contents.{withStores, withTable}
 
 abbrev pub fileOutcome : Service → ℕ → FileAfter → Outcome
 fileOutcome s f o = record { service = withFile s f (o .file) (o .stores); reply = o .reply; calls = o .calls }

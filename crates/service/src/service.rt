@@ -33,8 +33,8 @@ pub struct Service {
 }
 
 impl Service {
-    // The fresh service of these sizes. From it every list of steps is consistent, which is Demand 3, and leaves nothing
-    // behind.
+    // The fresh service of these sizes. From it every list of steps is consistent, which is Demand 3, and leaves
+    // nothing behind.
     pub fn new(sizes: Sizes) -> Self
         ensures { λ r. ⌜ r ≡ fresh sizes ⌝ }
         ensures { λ r. ⌜ Consistent r ⌝ }

@@ -1,17 +1,15 @@
 -- Whatever reads as a step is how the step is written. Assumes nothing.
 use Prim.Native.Nat.{ℕ, _+_, _-_, _*_, _/_, _%_, _^_, _≤_, _<_}
 use mathlib.Core.Path.{_≡_, refl, sym, _∙_, ap}
-use mathlib.Core.Bool.{Bool, true, false, _&&_, false≢true}
+use mathlib.Core.Bool.{true, false, false≢true}
 use mathlib.Core.List.{List, [], _∷_, _++_, append-assoc, append-nil}
 use native.Mathlib.Omega.{arith}
 use lib.Dec.{eqb, leb, ltb}
 use borrow.Author.Tests.{ltb-true, leb-true, eqb-true, eqb-false}
-use Rattle.records.specs.declared.record.Mode.the-variants.{Read as ForRead, Write as ForWrite}
 use Rattle.protocol.specs.declared.step.Step.{Step}
-use Rattle.protocol.specs.declared.step.Step.the-variants.{Open, Close, Read, Write, Flush, Answer, Crash, Report, End}
-use Rattle.stepfile.specs.declared.parsed.Parsed.the-variants.{Is, NoStep}
-use Rattle.stepfile.specs.Text.{bytes, decimal, argumentText, valuesText}
-use Rattle.stepfile.specs.Grammar.{Reading, found, nothing, onward, isDigit, digitsOn, numeral, argument, Shape, whole, taking, noWord, one, two, three, four, words, same, shapeIn, shapeOf, shaped, step, alone, parseLine}
+use Rattle.stepfile.specs.declared.parsed.Parsed.the-variants.{Is}
+use Rattle.stepfile.specs.Text.{decimal, argumentText, valuesText}
+use Rattle.stepfile.specs.Grammar.{Reading, found, nothing, onward, isDigit, digitsOn, numeral, argument, Shape, whole, taking, noWord, two, three, four, words, same, shapeIn, shapeOf, shaped, step, alone, parseLine}
 use Rattle.stepfile.specs.StepText.{wordOf, numbersOf, stepText, EachFits}
 use Rattle.records.proofs.Choosing.{when, unless, and-left, and-right, split}
 use Rattle.stepfile.proofs.ReadsBack.{filled}

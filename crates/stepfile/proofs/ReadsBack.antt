@@ -1,18 +1,18 @@
 -- Every step whose numbers are below 2 to the 64th, written, reads back as itself. Assumes nothing.
 use Prim.Native.Nat.{ℕ, zero, suc, _+_, _-_, _*_, _/_, _%_, _^_, _≤_, _<_}
 use mathlib.Core.Path.{_≡_, refl, sym, _∙_, ap}
-use mathlib.Core.Bool.{Bool, true, false}
+use mathlib.Core.Bool.{false}
 use mathlib.Core.List.{List, [], _∷_, _++_, append-assoc, append-nil}
 use native.Mathlib.Omega.{arith}
 use lib.Dec.{eqb, ltb}
-use borrow.Author.Tests.{ltb-true, ltb-false, eq-eqb, ne-eqb}
+use borrow.Author.Tests.{ltb-true, ltb-false, ne-eqb}
 use Rattle.records.specs.declared.record.Mode.the-variants.{Read as ForRead, Write as ForWrite}
 use Rattle.protocol.specs.declared.step.Step.{Step}
 use Rattle.protocol.specs.declared.step.Step.the-variants.{Open, Close, Read, Write, Flush, Answer, Crash, Report, End}
 use Rattle.stepfile.specs.declared.parsed.Parsed.the-variants.{Is}
 use Rattle.stepfile.specs.Text.{decimal, argumentText, valuesText}
 use Rattle.stepfile.specs.Grammar.{Reading, found, nothing, onward, isDigit, digitsOn, numeral, argument, Shape, whole, taking, noWord, shapeOf, shaped, step, alone, parseLine}
-use Rattle.stepfile.specs.StepText.{wordOf, numbersOf, stepText, EachFits}
+use Rattle.stepfile.specs.StepText.{numbersOf, stepText, EachFits}
 use Rattle.records.proofs.Choosing.{when, unless, split}
 use Rattle.stepfile.proofs.Digits.{digit, other, more}
 use Rattle.stepfile.proofs.Decimals.{decimal-small, decimal-large}

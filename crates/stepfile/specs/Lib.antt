@@ -1,6 +1,6 @@
--- The step file and what is said of it, in reading order: texts, the grammar of a line, the settings line, how a step is written, the
--- reply lines, the summary, the lines of an input and what is said of them, the whole output for a whole input, and
--- the line at an offset.
+-- The step file and what is said of it, in reading order: texts, the grammar of a line, the settings line, how a step
+-- is written, the reply lines, the summary, the lines of an input and what is said of them, the whole output for a
+-- whole input, and the line at an offset.
 pub mod Text
 pub mod Grammar
 pub mod Setting

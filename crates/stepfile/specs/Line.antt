@@ -1,7 +1,7 @@
 -- The line that a reply is told in: "line number from 1, then G latest previous permission (0 or 1); or W and each
 -- call as station:kind; or V value; or N refusal; or A, followed, if an open was granted, by its station and its G
--- fields; else K". "Writing back now tells how many blocks it sent, .. and a reply line prints it directly after A, before
--- any grant" (document 02, Wish 5).
+-- fields; else K". "Writing back now tells how many blocks it sent, .. and a reply line prints it directly after A,
+-- before any grant" (document 02, Wish 5).
 use Prim.Native.Nat.{ℕ}
 use mathlib.Core.Bool.{cond}
 use mathlib.Core.List.{List, [], _∷_, _++_}

@@ -26,16 +26,16 @@ use Rattle.stepfile.specs.Transcript.{lines, transcript, after}
 abbrev pub refusedWith : Service → ℕ → Outcome
 refusedWith s k = record { service = s; reply = Refused k; calls = noCalls }
 
--- "A SET line is answered K; refused, it leaves 8, 32 and 4": the service is a fresh one of these sizes, or stays. "19 when
--- a setting lies outside its range, directly after 1."
+-- "A SET line is answered K; refused, it leaves 8, 32 and 4": the service is a fresh one of these sizes, or stays.
+-- "19 when a setting lies outside its range, directly after 1."
 abbrev pub setOutcome : Service → Setting → Outcome
 setOutcome s (Are z) = record { service = fresh z; reply = Done; calls = noCalls }
 setOutcome s OutOfRange = refusedWith s 19
 setOutcome s Missing = refusedWith s 1
 
--- "A line that does not give a step is refused before any state is looked at": 1. "chosen when the service starts, by a
--- first line SET ..; on a later line it is no step". The Bool says whether a first line may choose the sizes. It may not
--- where the session goes on from a service that has its sizes.
+-- "A line that does not give a step is refused before any state is looked at": 1. "chosen when the service starts, by
+-- a first line SET ..; on a later line it is no step". The Bool says whether a first line may choose the sizes. It
+-- may not where the session goes on from a service that has its sizes.
 abbrev pub outcomeOf : Bool → Service → ℕ → List ℕ → Parsed → Outcome
 outcomeOf settable s n l (Is x) = stepOf s x
 outcomeOf settable s n l NoStep = cond (settable && eqb n 1) (setOutcome s (settingOf l)) (refusedWith s 1)

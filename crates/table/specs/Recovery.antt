@@ -1,7 +1,7 @@
--- A step on the whole table, as the program takes it: what becomes of the state of the recovery, and what the entries in
--- force do. Read to follow the proof of the service's step, whose contract does not mention them.
+-- A step on the whole table, as the program takes it: what becomes of the state of the recovery, and what the entries
+-- in force do. Read to follow the proof of the service's step, whose contract does not mention them.
 use Prim.Native.Nat.{ℕ, _<_}
-use mathlib.Core.Bool.{Bool, true, false}
+use mathlib.Core.Bool.{true, false}
 use mathlib.Core.List.{List}
 use lib.ListN.{set}
 use Rattle.decision.specs.declared.sizes.Sizes.{Sizes}

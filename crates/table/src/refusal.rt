@@ -1,5 +1,5 @@
-// The refusals of a report and of the end of a recovery: each function tests exactly its own numbers, lowest first; 0 is
-// none.
+// The refusals of a report and of the end of a recovery: each function tests exactly its own numbers, lowest first; 0
+// is none.
 ghost use mathlib.Core.Path.{_≡_};
 ghost use Prim.Native.Nat.{_≤_};
 ghost use Rattle.decision.specs.Sizes.{maxClients, Permitted};

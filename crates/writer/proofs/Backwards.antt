@@ -1,10 +1,10 @@
 -- A number written into a buffer from its last digit to its first. Assumes nothing.
-use Prim.Native.Nat.{ℕ, zero, suc, _+_, _-_, _/_, _%_, _≤_, _<_}
+use Prim.Native.Nat.{ℕ, suc, _+_, _-_, _/_, _%_, _≤_, _<_}
 use mathlib.Core.Path.{_≡_, refl, sym, _∙_, ap}
 use mathlib.Core.List.{List, [], _∷_, _++_, append-assoc, append-nil}
 use native.Mathlib.Numerals.{add-one}
 use native.Mathlib.Omega.{arith}
-use lib.ListN.{length, set, length-append, length-set}
+use lib.ListN.{length, set, length-append}
 use Rattle.stepfile.specs.Text.{decimal}
 use Rattle.writer.specs.Buffer.{written, Wrote}
 use Rattle.stepfile.proofs.Decimals.{decimal-small, decimal-large, decimal-some, length-large}

@@ -22,7 +22,8 @@ pub const SUMMARY_ROOM: usize = 8192;
 // on, writes nothing and answers the offset.
 pub fn write_summary(out: &mut [u8], at: usize, sizes: Sizes, table: Table) -> usize
     requires { ⌜ Permitted sizes ⌝ }
-    ensures { λ r. ⌜ WroteIfRoom summaryRoom (now (out .entry)) at (summaryText sizes (table .files)) (now (out .exit)) r ⌝ }
+    ensures { λ r. ⌜ WroteIfRoom summaryRoom (now (out .entry)) at (summaryText sizes (table .files))
+        (now (out .exit)) r ⌝ }
     ensures { λ r. ⌜ r ≤ at + summaryRoom ⌝ }
 {
     if out.len() < SUMMARY_ROOM {
@@ -106,7 +107,8 @@ fn version_in(entry: Entry) -> u32
 fn put_files(out: &mut [u8], at: usize, sizes: Sizes, table: Table) -> usize
     requires { ⌜ Permitted sizes ⌝ }
     requires { ⌜ at + 5376 ≤ length (now out) ⌝ }
-    ensures { λ r. ⌜ Wrote (now (out .entry)) at (filesText (sizes .clients) (sizes .files) (table .files)) (now (out .exit)) r ⌝ }
+    ensures { λ r. ⌜ Wrote (now (out .entry)) at (filesText (sizes .clients) (sizes .files) (table .files))
+        (now (out .exit)) r ⌝ }
     ensures { λ r. ⌜ r ≤ at + 5376 ⌝ }
 {
     let mut next = at;

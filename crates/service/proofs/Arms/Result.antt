@@ -8,7 +8,6 @@ use Rattle.decision.specs.declared.sizes.Sizes.{Sizes}
 use Rattle.decision.specs.Sizes.{maxClients, maxFiles}
 use Rattle.protocol.specs.declared.entry.Entry.{Entry}
 use Rattle.protocol.specs.declared.reply.Reply.{Reply}
-use Rattle.protocol.specs.declared.step.Class.{Class}
 use Rattle.protocol.specs.declared.step.Class.the-variants.{OnFile, OnBlock, OnTable}
 use Rattle.protocol.specs.declared.step.Step.{Step}
 use Rattle.protocol.specs.Step.{classOf}

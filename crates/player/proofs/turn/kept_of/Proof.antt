@@ -1,5 +1,4 @@
 -- `kept_of` meets its contract, by its test. Assumes nothing.
-use mathlib.Core.Path.{_≡_}
 use borrow.Author.Needs.{needs}
 use Rattle.player.proofs.turn.kept_of.Statement.{statement}
 use Rattle.player.proofs.turn.kept_of.Tie as tie

@@ -23,7 +23,7 @@ use Rattle.table.specs.TableStep.{entryOf, sidesIn}
 use Rattle.table.specs.Recovery.{filesAfter}
 use Rattle.service.specs.declared.service.Service.{Service}
 use Rattle.service.specs.declared.outcome.Outcome.{Outcome}
-use Rattle.service.specs.Contents.{sizesOf, tableIn}
+use Rattle.service.specs.Contents.{sizesOf}
 use Rattle.service.specs.Step.{stepOf}
 use Rattle.stepfile.specs.declared.parsed.Parsed.{Parsed}
 use Rattle.stepfile.specs.declared.parsed.Read.the-variants.{Line}

@@ -1,8 +1,8 @@
 -- `advance` meets its contract: the last turn writes the summary, any other plays what fills the buffer. Assumes
 -- nothing.
 use Prim.Native.Nat.{ℕ, _≤_}
-use mathlib.Core.Path.{_≡_, refl, sym, ap, _∙_}
-use mathlib.Core.Bool.{Bool, true, false, not, _&&_, _||_}
+use mathlib.Core.Path.{_≡_, sym, ap, _∙_}
+use mathlib.Core.Bool.{true, false}
 use mathlib.Core.List.{List}
 use lib.ListN.{length, take}
 use denote.Ref.{now}
@@ -14,7 +14,7 @@ use Rattle.player.specs.declared.session.Session.{Session}
 use Rattle.player.specs.declared.session.Advance.{Advance}
 use Rattle.player.specs.declared.turn.Turn.{Turn}
 use Rattle.player.specs.Turn.{turnOf, bufferAfter}
-use Rattle.player.specs.Session.{isLastTurn, readsNothing, turnBuffer, filled, turnBufferOf, turnBytes, closed, withTurn, lastOut, advanced, bufferLeft, outLeft}
+use Rattle.player.specs.Session.{isLastTurn, readsNothing, filled, turnBufferOf, turnBytes, closed, withTurn, lastOut, advanced, bufferLeft, outLeft}
 use Rattle.player.proofs.Completing.{completed-long}
 use Rattle.player.proofs.session.Session.advance.Statement.{statement}
 use Rattle.player.proofs.session.Session.advance.Tie as tie

@@ -1,7 +1,7 @@
 -- `close` meets its contract: the summary is written where there is room for it. Assumes nothing.
 use Prim.Native.Nat.{ℕ, _+_, _≤_}
 use mathlib.Core.Path.{_≡_, ap, _∙_}
-use mathlib.Core.Bool.{Bool, cond}
+use mathlib.Core.Bool.{cond}
 use mathlib.Core.List.{List}
 use native.Mathlib.Nat.{zero-add}
 use native.Mathlib.Omega.{arith}
@@ -10,11 +10,10 @@ use lib.ListN.{length}
 use denote.Ref.{now}
 use borrow.Author.Needs.{needs}
 use borrow.Author.Tests.{leb-true}
-use Rattle.records.proofs.Choosing.{when, unless, split}
+use Rattle.records.proofs.Choosing.{unless, split}
 use Rattle.writer.specs.Buffer.{WroteIfRoom, summaryRoom}
 use Rattle.player.specs.declared.session.Session.{Session}
-use Rattle.player.specs.declared.session.Advance.{Advance}
-use Rattle.player.specs.Session.{sessionSummary, closed, lastOut}
+use Rattle.player.specs.Session.{sessionSummary}
 use Rattle.player.proofs.session.Session.close.Statement.{statement}
 use Rattle.player.proofs.session.Session.close.Tie as tie
 
