@@ -28,4 +28,5 @@ pub mod Owing
 pub mod NothingBehind
 pub mod Demand3
 pub mod Reached
+pub mod Parts
 pub mod Arms

@@ -14,6 +14,7 @@ use Rattle.protocol.specs.declared.entry.Entry.{Entry}
 use Rattle.protocol.specs.declared.step.Step.the-variants.{Open}
 use Rattle.service.specs.declared.service.Service.{Service}
 use Rattle.service.specs.Contents.{sizesOf}
+use Rattle.service.proofs.Parts.{serviceOf}
 use Rattle.service.proofs.Arms.Result.{file-result}
 use Rattle.batch.specs.Batch.{listedFrom, listed, opensOf, maxOpenings}
 use Rattle.batch.proofs.Promised.{promised}
@@ -21,23 +22,6 @@ use Rattle.batch.proofs.Trying.{Reached, none-yet, one-opening, tried-a
 use borrow.Author.Needs.{needs}
 use Rattle.batch.proofs.batch.open_batch.Statement.{statement}
 use Rattle.batch.proofs.batch.open_batch.Tie as tie
-
--- the service that these parts make
-abbrev serviceOf :
-    Sizes → List Entry → Bool → List Bool → List ℕ → List Sides → List ℕ → List Bool → List Bool → Service
-serviceOf given entries recovering reported blocks clients copies held dirty =
-    record {
-      sizes = given;
-      server =
-          record {
-            table = record { files = entries; recovering = recovering; reported = reported };
-            blocks = blocks;
-          };
-      clients = clients;
-      copies = copies;
-      held = held;
-      dirty = dirty;
-    }
 
 -- the service s with other entries, sides, blocks and copies
 abbrev withParts : Service → List Entry → List ℕ → List Sides → List ℕ → List Bool → List Bool → Service

@@ -8,12 +8,9 @@ use mathlib.Core.Logic.{⊎-elim}
 use native.Mathlib.Omega.{arith}
 use lib.ListN.{length}
 use denote.Ref.{now}
-use Rattle.decision.specs.declared.sizes.Sizes.{Sizes}
 use Rattle.decision.specs.Sizes.{Permitted, inForce}
 use Rattle.decision.proofs.InForce.{in-force-permitted}
 use Rattle.decision.proofs.Storing.{Stored, stored-all}
-use Rattle.protocol.specs.declared.client.Sides.{Sides}
-use Rattle.protocol.specs.declared.entry.Entry.{Entry}
 use Rattle.protocol.specs.declared.step.Step.{Step}
 use Rattle.protocol.specs.Step.{classOf}
 use Rattle.protocol.specs.Entry.{reportedEntry}
@@ -25,6 +22,7 @@ use Rattle.service.specs.declared.service.Service.{Service}
 use Rattle.service.specs.declared.outcome.Outcome.{Outcome}
 use Rattle.service.specs.Contents.{sizesOf}
 use Rattle.service.specs.Step.{stepOf}
+use Rattle.service.proofs.Parts.{serviceOf}
 use Rattle.stepfile.specs.declared.parsed.Parsed.{Parsed}
 use Rattle.stepfile.specs.declared.parsed.Read.the-variants.{Line}
 use Rattle.stepfile.specs.Input.{readAt}
@@ -34,22 +32,6 @@ use Rattle.writer.specs.Buffer.{WroteIfRoom, lineRoom}
 use Rattle.lines.proofs.Reaching.{LineAt}
 use Rattle.lines.proofs.Playing.{ReadLine, read-line, Reached, one-more, same-length}
 use Rattle.lines.proofs.lines.play_lines.Tie as tie
-
-abbrev pub serviceOf :
-    Sizes → List Entry → Bool → List Bool → List ℕ → List Sides → List ℕ → List Bool → List Bool → Service
-serviceOf given files recovering reported blocks clients copies held dirty =
-    record {
-      sizes = given;
-      server =
-          record {
-            table = record { files = files; recovering = recovering; reported = reported };
-            blocks = blocks;
-          };
-      clients = clients;
-      copies = copies;
-      held = held;
-      dirty = dirty;
-    }
 
 -- a report's turn through the entries: those before the file are stored
 abbrev pub Inv-loop2 : tie.InvT-loop2

@@ -1,0 +1,221 @@
+-- Both mornings of the README, a service of small sizes with a recovery, and an open with three callbacks, explained
+-- line by line from the definitions by evaluation; and the sentences of states that take many steps. Assumes nothing.
+use Prim.Native.Nat.{ℕ}
+use mathlib.Core.Path.{_≡_, refl}
+use mathlib.Core.Bool.{true}
+use mathlib.Core.List.{List, [], _∷_, _++_}
+use Rattle.records.specs.declared.record.Mode.the-variants.{Read as ForRead, Write as ForWrite}
+use Rattle.decision.specs.Sizes.{defaultSizes}
+use Rattle.decision.specs.Lists.{count, stored}
+use Rattle.decision.specs.State.{stateOf}
+use Rattle.decision.specs.Callback.{orderedCalls}
+use Rattle.decision.specs.Permission.{permissionAtGrant}
+use Rattle.protocol.specs.declared.step.Step.the-variants.{Open}
+use Rattle.protocol.specs.Entry.{freshEntry}
+use Rattle.access.specs.BlockStep.{blockStep}
+use Rattle.file.specs.FileStep.{fileStep}
+use Rattle.table.specs.TableStep.{tableStep}
+use Rattle.service.specs.Step.{stepOf}
+use Rattle.service.specs.Fresh.{fresh}
+use Rattle.stepfile.specs.Text.{bytes, decimal, digitsOf, valuesText}
+use Rattle.stepfile.specs.Grammar.{digitsOn, numeral, argument, shapeOf, shaped, step, parseLine}
+use Rattle.stepfile.specs.Setting.{settingOf}
+use Rattle.stepfile.specs.Line.{callsText as replyCalls}
+use Rattle.stepfile.specs.Transcript.{lines, transcript}
+use Rattle.stepfile.specs.Played.{serviceAfter}
+use Rattle.ledger.specs.Ledger.{emptyLedger, ledgerAfter}
+use Rattle.sentences.specs.Phrase.{numbersText}
+use Rattle.sentences.specs.Accepted.{callsText}
+use Rattle.sentences.specs.Refusal.{refusalText}
+use Rattle.sentences.specs.Explained.{Annotated, sentenceOf, explainedText, explainedLine, annotatedAfter}
+
+-- what is said of an input, line by line, from the fresh service and an empty ledger
+abbrev explained : List ℕ → List ℕ
+explained input =
+    let start : Annotated = record { service = fresh defaultSizes; ledger = emptyLedger } in
+    transcript (explainedLine true) (annotatedAfter true) start 1 (lines input)
+
+abbrev joined : List (List ℕ) → List ℕ
+joined [] = []
+joined (l ∷ ls) = l ++ joined ls
+
+pub record Examples : Type 0 where
+  -- the milling wheat
+  pub wheat :
+      explained
+      (joined
+      (bytes "OW 2 3\n"
+      ∷ bytes "WR 2 3 0 23900\n"
+      ∷ bytes "FL 2 3 0\n"
+      ∷ bytes "WR 2 3 0 24150\n"
+      ∷ bytes "OR 5 3\n"
+      ∷ bytes "RD 5 3 0\n"
+      ∷ bytes "AN 2 3\n"
+      ∷ bytes "RD 5 3 0\n"
+      ∷ bytes "WR 2 3 0 24200\n"
+      ∷ bytes "RD 5 3 0\n"
+      ∷ bytes "CR 5 3\n"
+      ∷ bytes "CW 2 3\n"
+      ∷ []))
+      ≡ joined
+      (bytes "1 G 2 1 1    station 2 has file 3 open for write at version 2 and may cache; it had no copy\n"
+      ∷ bytes "2 K    station 2 writes file 3 block 0 in its copy\n"
+      ∷ bytes "3 K    station 2 sends file 3 block 0 to the server\n"
+      ∷ bytes "4 K    station 2 writes file 3 block 0 in its copy\n"
+      ∷ bytes "5 W 2:3    station 5 waits to open file 3 for read, which is ONE_WRITER; station 2 is"
+      ∷ bytes " called to write back and drop its copy\n"
+      ∷ bytes "6 N 11    station 5 does not have file 3 open\n"
+      ∷ bytes "7 A 1 5 2 1 0    station 2 answers for file 3, blocks sent: 1; station 5 has file 3 open"
+      ∷ bytes " for read at version 2 and may not cache; it had no copy\n"
+      ∷ bytes "8 V 24150    station 5, file 3 block 0: from the server; written by station 2 at line 4\n"
+      ∷ bytes "9 K    station 2 writes file 3 block 0 at the server\n"
+      ∷ bytes "10 V 24200    station 5, file 3 block 0: from the server; written by station 2 at line 9\n"
+      ∷ bytes "11 K    station 5 closes file 3 for read\n"
+      ∷ bytes "12 K    station 2 closes file 3 for write\n"
+      ∷ [])
+  -- the feed barley
+  pub barley :
+      explained
+      (joined
+      (bytes "OW 2 7\n"
+      ∷ bytes "WR 2 7 0 18700\n"
+      ∷ bytes "CW 2 7\n"
+      ∷ bytes "OR 5 7\n"
+      ∷ bytes "AN 2 7\n"
+      ∷ bytes "RD 5 7 0\n"
+      ∷ bytes "CR 5 7\n"
+      ∷ bytes "OW 2 7\n"
+      ∷ bytes "WR 2 7 0 19050\n"
+      ∷ bytes "CW 2 7\n"
+      ∷ bytes "OR 5 7\n"
+      ∷ bytes "AN 2 7\n"
+      ∷ bytes "RD 5 7 0\n"
+      ∷ bytes "CR 5 7\n"
+      ∷ []))
+      ≡ joined
+      (bytes "1 G 2 1 1    station 2 has file 7 open for write at version 2 and may cache; it had no copy\n"
+      ∷ bytes "2 K    station 2 writes file 7 block 0 in its copy\n"
+      ∷ bytes "3 K    station 2 closes file 7 for write\n"
+      ∷ bytes "4 W 2:1    station 5 waits to open file 7 for read, which is CLOSED_DIRTY; station 2 is"
+      ∷ bytes " called to write back\n"
+      ∷ bytes "5 A 1 5 2 1 1    station 2 answers for file 7, blocks sent: 1; station 5 has file 7 open"
+      ∷ bytes " for read at version 2 and may cache; it had no copy\n"
+      ∷ bytes "6 V 18700    station 5, file 7 block 0: from the server; written by station 2 at line 2\n"
+      ∷ bytes "7 K    station 5 closes file 7 for read\n"
+      ∷ bytes "8 G 3 2 1    station 2 has file 7 open for write at version 3 and may cache; its copy of"
+      ∷ bytes " version 2 is kept\n"
+      ∷ bytes "9 K    station 2 writes file 7 block 0 in its copy\n"
+      ∷ bytes "10 K    station 2 closes file 7 for write\n"
+      ∷ bytes "11 W 2:1    station 5 waits to open file 7 for read, which is CLOSED_DIRTY; station 2 is"
+      ∷ bytes " called to write back\n"
+      ∷ bytes "12 A 1 5 3 2 1    station 2 answers for file 7, blocks sent: 1; station 5 has file 7 open"
+      ∷ bytes " for read at version 3 and may cache; its copy of version 2 is dropped\n"
+      ∷ bytes "13 V 19050    station 5, file 7 block 0: from the server; written by station 2 at line 9\n"
+      ∷ bytes "14 K    station 5 closes file 7 for read\n"
+      ∷ [])
+  -- 2 stations, 3 files of 1 block: most refusals, own copies, a recovery
+  pub small :
+      explained
+      (joined
+      (bytes "SET 2 3 1\n"
+      ∷ bytes "OW 2 0\n"
+      ∷ bytes "OR 0 3\n"
+      ∷ bytes "RD 0 0 1\n"
+      ∷ bytes "RP 0\n"
+      ∷ bytes "OW 0 0\n"
+      ∷ bytes "FL 0 0 0\n"
+      ∷ bytes "RD 0 0 0\n"
+      ∷ bytes "RD 0 0 0\n"
+      ∷ bytes "WR 0 0 0 5\n"
+      ∷ bytes "RD 0 0 0\n"
+      ∷ bytes "OR 1 0\n"
+      ∷ bytes "OR 0 0\n"
+      ∷ bytes "AN 1 0\n"
+      ∷ bytes "CR 0 1\n"
+      ∷ bytes "WR 1 1 0 9\n"
+      ∷ bytes "XX\n"
+      ∷ bytes "OR 1 1\n"
+      ∷ bytes "EN\n"
+      ∷ bytes "RP 0\n"
+      ∷ bytes "RP 0\n"
+      ∷ bytes "RP 1\n"
+      ∷ bytes "OR 1 1\n"
+      ∷ bytes "EN\n"
+      ∷ bytes "hello\n"
+      ∷ []))
+      ≡ joined
+      (bytes "1 K    the service has 2 stations, 3 files of 1 blocks\n"
+      ∷ bytes "2 N 2    there is no station 2; there are 2\n"
+      ∷ bytes "3 N 3    there is no file 3; there are 3\n"
+      ∷ bytes "4 N 4    there is no block 1; a file has 1\n"
+      ∷ bytes "5 N 6    no recovery is under way\n"
+      ∷ bytes "6 G 2 1 1    station 0 has file 0 open for write at version 2 and may cache; it had no copy\n"
+      ∷ bytes "7 N 13    station 0 has no dirty copy of file 0 block 0\n"
+      ∷ bytes "8 V 0    station 0, file 0 block 0: from the server; never written\n"
+      ∷ bytes "9 V 0    station 0, file 0 block 0: from its own copy, since line 8; never written\n"
+      ∷ bytes "10 K    station 0 writes file 0 block 0 in its copy\n"
+      ∷ bytes "11 V 5    station 0, file 0 block 0: from its own copy, dirty, since line 10; written by"
+      ∷ bytes " station 0 at line 10\n"
+      ∷ bytes "12 W 0:3    station 1 waits to open file 0 for read, which is ONE_WRITER; station 0 is"
+      ∷ bytes " called to write back and drop its copy\n"
+      ∷ bytes "13 N 9    station 1 waits to open file 0 for read since line 12; stations still to answer:"
+      ∷ bytes " 0\n"
+      ∷ bytes "14 N 10    station 1 has no call to answer on file 0\n"
+      ∷ bytes "15 N 11    station 0 does not have file 1 open for read\n"
+      ∷ bytes "16 N 11    station 1 does not have file 1 open for write\n"
+      ∷ bytes "17 K    the server crashes; every station has to report\n"
+      ∷ bytes "18 N 5    the server recovers; stations still to report: 0 1\n"
+      ∷ bytes "19 N 8    the recovery cannot end; stations still to report: 0 1\n"
+      ∷ bytes "20 K    station 0 reports what it has open\n"
+      ∷ bytes "21 N 7    station 0 has reported before\n"
+      ∷ bytes "22 K    station 1 reports what it has open\n"
+      ∷ bytes "23 N 5    the server recovers; stations still to report: none\n"
+      ∷ bytes "24 K    the recovery ends\n"
+      ∷ bytes "25 N 1    this line is no step\n"
+      ∷ [])
+  -- three callbacks, one of them answered
+  pub calls :
+      explained
+      (joined
+      (bytes "OR 2 0\n"
+      ∷ bytes "OR 5 0\n"
+      ∷ bytes "OR 7 0\n"
+      ∷ bytes "OW 0 0\n"
+      ∷ bytes "AN 5 0\n"
+      ∷ []))
+      ≡ joined
+      (bytes "1 G 1 0 1    station 2 has file 0 open for read at version 1 and may cache; it had no copy\n"
+      ∷ bytes "2 G 1 0 1    station 5 has file 0 open for read at version 1 and may cache; it had no copy\n"
+      ∷ bytes "3 G 1 0 1    station 7 has file 0 open for read at version 1 and may cache; it had no copy\n"
+      ∷ bytes "4 W 2:2 5:2 7:2    station 0 waits to open file 0 for write, which is MULT_READERS; station"
+      ∷ bytes " 2 is called to drop its copy; station 5 is called to drop its copy; station 7 is called to"
+      ∷ bytes " drop its copy\n"
+      ∷ bytes "5 A 0    station 5 answers for file 0, blocks sent: 0; stations still to answer: 2 7\n"
+      ∷ [])
+  -- "19 when a setting lies outside its range"
+  pub range :
+      explained (bytes "SET 9 1 1\n")
+      ≡ bytes "1 N 19    a setting lies outside its range: 1 to 8 stations, 1 to 64 files, 1 to 8 blocks\n"
+  -- 12 and 14
+  pub full :
+      refusalText defaultSizes [] (freshEntry 8) 0 (Open ForRead 5 3) 12
+      ≡ bytes "station 5 has file 3 open for read 255 times, the most there can be"
+  pub spent :
+      refusalText defaultSizes [] (freshEntry 8) 0 (Open ForWrite 5 3) 14
+      ≡ bytes "version 4294967295 is the last, and no write open of file 3 can raise it"
+
+pub examples : Examples
+unfolding fresh emptyLedger ledgerAfter stepOf fileStep blockStep tableStep stateOf permissionAtGrant orderedCalls
+    count stored decimal digitsOf valuesText digitsOn numeral argument shapeOf shaped step parseLine settingOf
+    replyCalls lines transcript serviceAfter numbersText callsText sentenceOf explainedText explainedLine
+    annotatedAfter
+examples =
+    record {
+      wheat = refl;
+      barley = refl;
+      small = refl;
+      calls = refl;
+      range = refl;
+      full = refl;
+      spent = refl;
+    }
