@@ -1,5 +1,5 @@
--- How far an input is played: the definition `lineProgress` stops past a line, with the reply lines, the service and
--- the number that the transcript gives. Assumes nothing.
+-- How far an input is told: the definition `reach` stops past a line, with the bytes, the state and the number that the
+-- transcript gives. Assumes nothing.
 use Prim.Native.Nat.{ℕ, _+_, _-_, _≤_, _<_}
 use mathlib.Core.Path.{_≡_, refl, sym, ap, subst, _∙_}
 use mathlib.Core.Bool.{Bool, true, false}
@@ -7,17 +7,14 @@ use mathlib.Core.List.{List, [], _∷_, _++_, append-assoc, nil≢cons}
 use native.Mathlib.Omega.{arith}
 use lib.ListN.{length, take, drop, length-append, take-append-drop}
 use lib.Seq.{length-take-le, take-at, drop-at}
-use Rattle.service.specs.declared.service.Service.{Service}
 use Rattle.records.proofs.Choosing.{when, unless, split, conflict}
 use Rattle.stepfile.specs.Grammar.{Reading, found, nothing}
 use Rattle.stepfile.specs.Input.{firstLine, wholeLines}
-use Rattle.stepfile.specs.Played.{replyLine, serviceAfter}
 use Rattle.stepfile.specs.Transcript.{lines, transcript, after, BreaksLine}
 use Rattle.stepfile.proofs.FirstLines.{first-line, whole-first, whole-none}
 use Rattle.stepfile.proofs.Splitting.{NoLF, breaks-none, breaks-line, count-more}
 use Rattle.stepfile.proofs.Transcripts.{after-more, transcript-more}
-use Rattle.lines.specs.declared.lines.Progress.{Progress}
-use Rattle.lines.specs.Lines.{transcriptOf, afterInput, canReply, stopped, progressOf, lineProgress}
+use Rattle.lines.specs.Telling.{Telling, Reach, canTell, saidOver, stateAfter, stoppedAt, reachOf, reach}
 use Rattle.lines.proofs.Resting.{no-lf}
 
 -- the line that starts at an offset, and the offset past its LF
@@ -64,37 +61,37 @@ first-whole input used h l ls e = from (firstLine (drop used input)) refl
         let f : [] ≡ l ∷ ls = sym (whole-none (drop used input) (no-lf (drop used input) q)) ∙ e in
         absurd (nil≢cons f)
 
--- the input is played up to an offset where a line starts: t is the service there, the next line has the number, and the
--- reply lines have so many bytes
-pub record At (settable : Bool) (s : Service) (n : ℕ) (input : List ℕ) (t : Service) (number used to : ℕ) : Type 0 where
+-- the input is told up to an offset where a line starts: x is the state there, the next line has the number, and so many
+-- bytes are said
+pub record At {S : Type 0} (t : Telling S) (s : S) (n : ℕ) (input : List ℕ) (x : S) (number used to : ℕ) : Type 0 where
   pub inside : used ≤ length input
   pub breaks : BreaksLine (take used input)
   pub numbers : number ≡ n + length (lines (take used input))
-  pub service : t ≡ afterInput settable s n (take used input)
-  pub size : to ≡ length (transcriptOf settable s n (take used input))
+  pub state : x ≡ stateAfter t s n (take used input)
+  pub size : to ≡ length (saidOver t s n (take used input))
 
-module _ (settable : Bool) (s : Service) (n : ℕ) (input : List ℕ) where
+module _ {S : Type 0} (t : Telling S) (s : S) (n : ℕ) (input : List ℕ) where
   -- before the first line
-  pub at-start : At settable s n input s n 0 0
+  pub at-start : At t s n input s n 0 0
   unfolding lines transcript after
-  at-start = record { inside = omega arith; breaks = breaks-none; numbers = omega arith; service = refl; size = refl }
+  at-start = record { inside = omega arith; breaks = breaks-none; numbers = omega arith; state = refl; size = refl }
 
   -- past another line
-  module _ (t : Service) (number used to : ℕ) (w : At settable s n input t number used to) (l : List ℕ) (next : ℕ) (at : LineAt input used l next) where
+  module _ (x : S) (number used to : ℕ) (w : At t s n input x number used to) (l : List ℕ) (next : ℕ) (at : LineAt input used l next) where
     abbrev a : List ℕ
     a = take used input
 
-    -- the reply line that the transcript has
-    reply-line : replyLine settable t number l ≡ replyLine settable (afterInput settable s n a) (n + length (lines a)) l
-    reply-line = ap (λ (k : ℕ). replyLine settable t k l) (w .numbers) ∙ ap (λ (x : Service). replyLine settable x (n + length (lines a)) l) (w .service)
+    -- what the transcript says of the line
+    said-line : t .say x number l ≡ t .say (stateAfter t s n a) (n + length (lines a)) l
+    said-line = ap (λ (k : ℕ). t .say x k l) (w .numbers) ∙ ap (λ (y : S). t .say y (n + length (lines a)) l) (w .state)
 
-    pub transcript-next : transcriptOf settable s n a ++ replyLine settable t number l ≡ transcriptOf settable s n (take next input)
+    pub transcript-next : saidOver t s n a ++ t .say x number l ≡ saidOver t s n (take next input)
     transcript-next =
-        ap (λ (x : List ℕ). transcriptOf settable s n a ++ x) reply-line
-        ∙ sym (transcript-more (replyLine settable) (serviceAfter settable) s n a l (w .breaks) (at .none))
-        ∙ ap (transcriptOf settable s n) (sym (at .upto))
+        ap (λ (x : List ℕ). saidOver t s n a ++ x) said-line
+        ∙ sym (transcript-more (t .say) (t .next) s n a l (w .breaks) (at .none))
+        ∙ ap (saidOver t s n) (sym (at .upto))
 
-    pub at-next : At settable s n input (serviceAfter settable t number l) (number + 1) next (to + length (replyLine settable t number l))
+    pub at-next : At t s n input (t .next x number l) (number + 1) next (to + length (t .say x number l))
     at-next =
         record {
           inside = at .inside;
@@ -102,41 +99,41 @@ module _ (settable : Bool) (s : Service) (n : ℕ) (input : List ℕ) where
           numbers =
               ap (λ (k : ℕ). k + 1) (w .numbers)
               ∙ omega (arith, ap (λ (x : List ℕ). length (lines x)) (at .upto), count-more a l (w .breaks) (at .none));
-          service =
-              ap (λ (k : ℕ). serviceAfter settable t k l) (w .numbers)
-              ∙ ap (λ (x : Service). serviceAfter settable x (n + length (lines a)) l) (w .service)
-              ∙ sym (after-more (serviceAfter settable) s n a l (w .breaks) (at .none))
-              ∙ ap (afterInput settable s n) (sym (at .upto));
+          state =
+              ap (λ (k : ℕ). t .next x k l) (w .numbers)
+              ∙ ap (λ (y : S). t .next y (n + length (lines a)) l) (w .state)
+              ∙ sym (after-more (t .next) s n a l (w .breaks) (at .none))
+              ∙ ap (stateAfter t s n) (sym (at .upto));
           size =
-              ap (λ (k : ℕ). k + length (replyLine settable t number l)) (w .size)
-              ∙ sym (length-append (transcriptOf settable s n a) (replyLine settable t number l))
+              ap (λ (k : ℕ). k + length (t .say x number l)) (w .size)
+              ∙ sym (length-append (saidOver t s n a) (t .say x number l))
               ∙ ap length transcript-next;
         }
 
   -- one line more, by the definition
-  pub progress-next : (room : ℕ) (l : List ℕ) (ls : List (List ℕ)) (t : Service) (number used to : ℕ)
-      → canReply room to number ≡ true
-      → progressOf settable room (l ∷ ls) t number used to
-      ≡ progressOf settable room ls (serviceAfter settable t number l) (number + 1) (used + length l + 1) (to + length (replyLine settable t number l))
-  unfolding progressOf
-  progress-next room l ls t number used to can = when _ _ can
+  pub reach-next : (room : ℕ) (l : List ℕ) (ls : List (List ℕ)) (x : S) (number used to : ℕ)
+      → canTell (t .room) room to number ≡ true
+      → reachOf t room (l ∷ ls) x number used to
+      ≡ reachOf t room ls (t .next x number l) (number + 1) (used + length l + 1) (to + length (t .say x number l))
+  unfolding reachOf
+  reach-next room l ls x number used to can = when _ _ can
 
-  -- it stops where no other line can be replied to, and where there is none
-  pub progress-full : (room : ℕ) (ls : List (List ℕ)) (t : Service) (number used to : ℕ)
-      → canReply room to number ≡ false
-      → progressOf settable room ls t number used to ≡ stopped t number used to
-  unfolding progressOf
-  progress-full room [] t number used to cannot = refl
-  progress-full room (l ∷ ls) t number used to cannot = unless _ _ cannot
+  -- it stops where no other line can be told, and where there is none
+  pub reach-full : (room : ℕ) (ls : List (List ℕ)) (x : S) (number used to : ℕ)
+      → canTell (t .room) room to number ≡ false
+      → reachOf t room ls x number used to ≡ stoppedAt x number used to
+  unfolding reachOf
+  reach-full room [] x number used to cannot = refl
+  reach-full room (l ∷ ls) x number used to cannot = unless _ _ cannot
 
-  pub progress-none : (room : ℕ) (t : Service) (number used to : ℕ) → progressOf settable room [] t number used to ≡ stopped t number used to
-  unfolding progressOf
-  progress-none room t number used to = refl
+  pub reach-none : (room : ℕ) (x : S) (number used to : ℕ) → reachOf t room [] x number used to ≡ stoppedAt x number used to
+  unfolding reachOf
+  reach-none room x number used to = refl
 
-  -- where the play stops, and why
-  pub record Stop (out : List ℕ) (p : Progress) : Type 0 where
-    pub at : At settable s n input (p .service) (p .number) (p .used) (p .written)
-    pub none : canReply (length out) (p .written) (p .number) ≡ true → NoLF (drop (p .used) input)
+  -- where it stops, and why
+  pub record Stop (out : List ℕ) (p : Reach S) : Type 0 where
+    pub at : At t s n input (p .state) (p .number) (p .used) (p .written)
+    pub none : canTell (t .room) (length out) (p .written) (p .number) ≡ true → NoLF (drop (p .used) input)
 
   no-whole : (d : List ℕ) → wholeLines d ≡ [] → NoLF d
   no-whole d e = from (firstLine d) refl
@@ -146,25 +143,25 @@ module _ (settable : Bool) (s : Service) (n : ℕ) (input : List ℕ) where
           absurd (nil≢cons (sym e ∙ whole-first d l r (first-line d l r q)))
       from nothing q = no-lf d q
 
-  stop-from : (out : List ℕ) (ls : List (List ℕ)) (t : Service) (number used to : ℕ)
-      → At settable s n input t number used to
+  stop-from : (out : List ℕ) (ls : List (List ℕ)) (x : S) (number used to : ℕ)
+      → At t s n input x number used to
       → wholeLines (drop used input) ≡ ls
-      → Stop out (progressOf settable (length out) ls t number used to)
-  stop-from out [] t number used to w e =
-      subst (Stop out) (sym (progress-none (length out) t number used to)) (record { at = w; none = λ can. no-whole (drop used input) e })
-  stop-from out (l ∷ ls) t number used to w e =
-      split (canReply (length out) to number)
+      → Stop out (reachOf t (length out) ls x number used to)
+  stop-from out [] x number used to w e =
+      subst (Stop out) (sym (reach-none (length out) x number used to)) (record { at = w; none = λ can. no-whole (drop used input) e })
+  stop-from out (l ∷ ls) x number used to w e =
+      split (canTell (t .room) (length out) to number)
       (λ can.
       let line = first-whole input used (w .inside) l ls e in
       let f : l ∷ wholeLines (drop (used + length l + 1) input) ≡ l ∷ ls = sym (line .onward) ∙ e in
       let rest : wholeLines (drop (used + length l + 1) input) ≡ ls = cc in
-      subst (Stop out) (sym (progress-next (length out) l ls t number used to can))
-      (stop-from out ls (serviceAfter settable t number l) (number + 1) (used + length l + 1) (to + length (replyLine settable t number l))
-      (at-next t number used to w l (used + length l + 1) line)
+      subst (Stop out) (sym (reach-next (length out) l ls x number used to can))
+      (stop-from out ls (t .next x number l) (number + 1) (used + length l + 1) (to + length (t .say x number l))
+      (at-next x number used to w l (used + length l + 1) line)
       rest))
       (λ cannot.
-      subst (Stop out) (sym (progress-full (length out) (l ∷ ls) t number used to cannot))
+      subst (Stop out) (sym (reach-full (length out) (l ∷ ls) x number used to cannot))
       (record { at = w; none = λ can. conflict can cannot }))
 
-  pub stop : (out : List ℕ) → Stop out (lineProgress settable s n input out)
+  pub stop : (out : List ℕ) → Stop out (reach t s n input out)
   stop out = stop-from out (wholeLines input) s n 0 0 at-start refl

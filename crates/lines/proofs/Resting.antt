@@ -7,13 +7,12 @@ use native.Mathlib.Omega.{arith}
 use lib.Dec.{eqb}
 use lib.ListN.{length, take}
 use lib.Seq.{length-take-le}
-use Rattle.service.specs.declared.service.Service.{Service}
 use Rattle.stepfile.specs.Grammar.{Reading, found, nothing, onward}
 use Rattle.stepfile.specs.Input.{firstLine}
 use Rattle.records.proofs.Choosing.{when, unless, split}
 use Rattle.stepfile.proofs.Splitting.{NoLF}
-use Rattle.stepfile.proofs.LongLines.{transcript-of-long, service-after-long}
-use Rattle.lines.specs.Lines.{transcriptOf, afterInput}
+use Rattle.stepfile.proofs.LongLines.{Blind, transcript-of-long, after-long}
+use Rattle.lines.specs.Telling.{Telling, saidOver, stateAfter}
 
 abbrev isFound : Reading (List ℕ) → Bool
 isFound (found l r) = true
@@ -43,12 +42,12 @@ no-lf-take (suc n) [] h = tt
 no-lf-take (suc n) (b ∷ d) h = (h .0, no-lf-take n d (h .1))
 
 -- a rest of 87 bytes or more that has no LF may be cut to 87
-module _ (settable : Bool) (b : List ℕ) (none : NoLF b) (long : 87 ≤ length b) (s : Service) (more : List ℕ) where
+module _ {S : Type 0} (t : Telling S) (blind : Blind (t .say) (t .next)) (b : List ℕ) (none : NoLF b) (long : 87 ≤ length b) (s : S) (more : List ℕ) where
   cut-long : 86 < length (take 87 b)
   cut-long = rw (length-take-le 87 b long) (omega arith)
 
-  pub transcript-cut : (n : ℕ) → transcriptOf settable s n (b ++ more) ≡ transcriptOf settable s n (take 87 b ++ more)
-  transcript-cut n = transcript-of-long settable b (take 87 b) none (no-lf-take 87 b none) long cut-long more s n
+  pub transcript-cut : (n : ℕ) → saidOver t s n (b ++ more) ≡ saidOver t s n (take 87 b ++ more)
+  transcript-cut n = transcript-of-long (t .say) (t .next) blind b (take 87 b) none (no-lf-take 87 b none) long cut-long more s n
 
-  pub after-cut : (n : ℕ) → afterInput settable s n (b ++ more) ≡ afterInput settable s n (take 87 b ++ more)
-  after-cut n = service-after-long settable b (take 87 b) none (no-lf-take 87 b none) long cut-long more s n
+  pub after-cut : (n : ℕ) → stateAfter t s n (b ++ more) ≡ stateAfter t s n (take 87 b ++ more)
+  after-cut n = after-long (t .say) (t .next) blind b (take 87 b) none (no-lf-take 87 b none) long cut-long more s n

@@ -1,2 +1,3 @@
--- What playing a buffer of lines leaves.
+-- Lines told into a buffer, for any kind of state; and what playing a buffer of lines leaves.
+pub mod Telling
 pub mod Lines

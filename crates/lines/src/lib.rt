@@ -2,5 +2,5 @@
 mod lines;
 
 pub use lines::Progress;
-pub use lines::can_reply;
+pub use lines::can_tell;
 pub use lines::play_lines;

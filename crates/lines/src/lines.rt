@@ -2,7 +2,8 @@
 ghost use mathlib.Core.Path.{_≡_};
 ghost use Prim.Native.Nat.{_≤_};
 ghost use lib.ListN.{length};
-ghost use Rattle.lines.specs.Lines.{canReply, lineProgress, linesWritten};
+ghost use Rattle.lines.specs.Telling.{canTell};
+ghost use Rattle.lines.specs.Lines.{lineProgress, linesWritten};
 use access::access_block;
 use decision::MAX_CLIENTS;
 use decision::MAX_FILES;
@@ -35,21 +36,21 @@ pub struct Progress {
     pub written: usize,
 }
 
-// Whether another line can be replied to: there is room for its reply line, and another number after its own.
-pub fn can_reply(room: usize, to: usize, number: u64) -> bool
-    ensures { λ r. ⌜ r ≡ canReply room to number ⌝ }
+// Whether another line can be told: there is so much room for it, and another number after its own.
+pub fn can_tell(need: usize, room: usize, to: usize, number: u64) -> bool
+    ensures { λ r. ⌜ r ≡ canTell need room to number ⌝ }
 {
-    if room < LINE_ROOM {
+    if room < need {
         return false;
     }
-    if room - LINE_ROOM < to {
+    if room - need < to {
         return false;
     }
     number < u64::MAX
 }
 
 // Plays the whole lines of the input, the first of them numbered so, and writes their reply lines from the start of
-// out on, as long as another line can be replied to. If the sizes are settable, line 1 may choose them. The service is
+// out on, as long as another line can be told. If the sizes are settable, line 1 may choose them. The service is
 // taken apart once, and no line copies it, save a first line that chooses the sizes.
 pub fn play_lines(
     settable: bool,
@@ -77,7 +78,7 @@ pub fn play_lines(
     let mut number = first;
     let mut used: usize = 0;
     let mut to: usize = 0;
-    while can_reply(out.len(), to, number) {
+    while can_tell(LINE_ROOM, out.len(), to, number) {
         let Read::Line { parsed, next } = read_at(input, used) else {
             break;
         };

@@ -1,5 +1,5 @@
--- A turn of the program: what it writes, and what will be written of the rest, are what is played of its bytes and of
--- all that follows; the session and the buffer that it leaves are sound. Assumes nothing.
+-- A turn of the program, for any kind of state: what it writes, and what will be written of the rest, are what is told of
+-- its bytes and of all that follows; what it leaves is sound. Assumes nothing.
 use Prim.Native.Nat.{ℕ, _+_, _≤_, _<_}
 use mathlib.Core.Path.{_≡_, refl, sym, ap, subst, _∙_}
 use mathlib.Core.Bool.{Bool, true, false, not}
@@ -10,62 +10,58 @@ use lib.Dec.{eqb, leb}
 use lib.ListN.{length, take, drop}
 use lib.Seq.{take-at}
 use borrow.Author.Tests.{le-leb, eqb-true}
-use Rattle.service.specs.declared.service.Service.{Service}
 use Rattle.records.proofs.Choosing.{when, unless, split, conflict, and-left, and-right}
-use Rattle.stepfile.specs.Played.{summaryOf, replyLines, afterLines}
 use Rattle.stepfile.specs.Transcript.{lines, transcript, after}
 use Rattle.stepfile.proofs.Splitting.{NoLF}
-use Rattle.writer.specs.Buffer.{summaryRoom}
-use Rattle.lines.specs.Lines.{transcriptOf, afterInput, lineProgress}
-use Rattle.player.specs.declared.session.Session.{Session}
-use Rattle.player.specs.declared.session.Advance.{Advance}
-use Rattle.player.specs.Turn.{bufferAfter, completedBuffer, completedCount}
-use Rattle.player.specs.Session.{startOf, wantsInput, isLastTurn, readsNothing, filled, turnBufferOf, turnBytes, afterTurn, sessionSummary, closed, outLeft}
-use Rattle.player.specs.Run.{Leg, turned, left, wrote, Takes}
+use Rattle.stepfile.proofs.LongLines.{Blind}
+use Rattle.lines.specs.Telling.{Telling, saidOver, stateAfter, reach}
+use Rattle.player.specs.Turn.{turnBy, bufferBy, completedBuffer, completedCount}
+use Rattle.player.specs.Telling.{Standing, Moved, standingAt, wantsInput, isLastTurn, readsNothing, filled, turnBufferOf, turnBytes, withTurn, closedBy, outMoved}
+use Rattle.player.specs.Telling.{Leg, movedOn, leftOn, wroteOn, TakesTurn}
 use Rattle.player.proofs.Flags.{or-right, or-either, not-true, wants, wants-not-paused, over-wants-none, paused-wants-none, still-paused, still-reads}
 use Rattle.player.proofs.Completing.{take-none, Terminated, terminated-none, terminated-drop, last-line, last-terminated}
-use Rattle.player.proofs.Turning.{take-least, kept-stands, kept-no-lf, kept-short, left-no-lf, paused-keeps, written-text, turn-transcript, turn-service}
+use Rattle.player.proofs.Turning.{take-least, kept-stands, kept-no-lf, kept-short, left-no-lf, paused-keeps, written-text, turn-transcript, turn-state}
 
-module _ (σ : Session) where
-  -- the service that a session comes to over bytes, and what it writes: their reply lines and the summary
-  abbrev pub endOn : List ℕ → Service
-  endOn bytes = afterInput (σ .settable) (σ .service) (σ .number) bytes
+module _ {S : Type 0} (t : Telling S) (σ : Standing S) where
+  -- the state that a session comes to over bytes, and what it writes: what is said of them, and the end
+  abbrev pub endOn : List ℕ → S
+  endOn bytes = stateAfter t (σ .state) (σ .number) bytes
 
-  abbrev pub playedOn : List ℕ → List ℕ
-  playedOn bytes = transcriptOf (σ .settable) (σ .service) (σ .number) bytes ++ summaryOf (endOn bytes)
+  abbrev pub toldOn : List ℕ → List ℕ
+  toldOn bytes = saidOver t (σ .state) (σ .number) bytes ++ t .close (endOn bytes)
 
-  pub end-none : endOn [] ≡ σ .service
+  pub end-none : endOn [] ≡ σ .state
   unfolding lines after
   end-none = refl
 
-  pub played-none : playedOn [] ≡ sessionSummary σ
+  pub told-none : toldOn [] ≡ t .close (σ .state)
   unfolding lines transcript after
-  played-none = refl
+  told-none = refl
 
-  -- bytes with the same lines are played alike
+  -- bytes with the same lines are told alike
   pub end-alike : (a b : List ℕ) → lines a ≡ lines b → endOn a ≡ endOn b
-  end-alike a b e = ap (afterLines (σ .settable) (σ .service) (σ .number)) e
+  end-alike a b e = ap (after (t .next) (σ .state) (σ .number)) e
 
-  pub played-alike : (a b : List ℕ) → lines a ≡ lines b → playedOn a ≡ playedOn b
-  played-alike a b e =
+  pub told-alike : (a b : List ℕ) → lines a ≡ lines b → toldOn a ≡ toldOn b
+  told-alike a b e =
       ap
       (λ (ls : List (List ℕ)).
-      replyLines (σ .settable) (σ .service) (σ .number) ls ++ summaryOf (afterLines (σ .settable) (σ .service) (σ .number) ls))
+      transcript (t .say) (t .next) (σ .state) (σ .number) ls ++ t .close (after (t .next) (σ .state) (σ .number) ls))
       e
 
 -- What stands between two turns: a session that is to read has the start of one line, for which there is room; one
--- whose input is over has whole lines, and nothing once they are played.
-pub record Sound (σ : Session) (kept : List ℕ) : Type 0 where
+-- whose input is over has whole lines, and nothing once they are told.
+pub record Sound {S : Type 0} (σ : Standing S) (kept : List ℕ) : Type 0 where
   pub reading : wantsInput σ ≡ true → NoLF kept × (σ .rest ≤ 87)
   pub whole : σ .over ≡ true → Terminated kept
   pub empty : isLastTurn σ ≡ true → kept ≡ []
 
-pub start-sound : (settable : Bool) (s : Service) (buffer : List ℕ) → Sound (startOf settable s) (take 0 buffer)
-start-sound settable s buffer =
+pub start-sound : {S : Type 0} (s : S) (buffer : List ℕ) → Sound (standingAt s) (take 0 buffer)
+start-sound s buffer =
     record { reading = λ e. (tt, omega arith); whole = λ e. conflict e refl; empty = λ e. conflict e refl }
 
 -- a turn of the program
-module _ (σ : Session) (buffer : List ℕ) (g : Leg) (takes : Takes σ buffer g) (sound : Sound σ (take (σ .rest) buffer)) where
+module _ {S : Type 0} (t : Telling S) (blind : Blind (t .say) (t .next)) (σ : Standing S) (buffer : List ℕ) (g : Leg) (takes : TakesTurn t σ buffer g) (sound : Sound σ (take (σ .rest) buffer)) where
   abbrev kept : List ℕ
   kept = take (σ .rest) buffer
 
@@ -82,7 +78,7 @@ module _ (σ : Session) (buffer : List ℕ) (g : Leg) (takes : Takes σ buffer g
   bytes = turnBytes σ got (g .buffer)
 
   abbrev outAfter : List ℕ
-  outAfter = outLeft σ got (g .buffer) (g .out)
+  outAfter = outMoved t σ got (g .buffer) (g .out)
 
   -- nothing was read: the rest stands where it stood
   stands : g .piece ≡ [] → take (σ .rest) (g .buffer) ≡ kept
@@ -98,24 +94,24 @@ module _ (σ : Session) (buffer : List ℕ) (g : Leg) (takes : Takes σ buffer g
     is-over : σ .over ≡ true
     is-over = and-left (σ .over) (not (σ .paused)) last
 
-    room : leb summaryRoom (length (g .out)) ≡ true
-    room = le-leb summaryRoom (length (g .out)) (takes .space)
+    room : leb (t .closeRoom) (length (g .out)) ≡ true
+    room = le-leb (t .closeRoom) (length (g .out)) (takes .space)
 
-    closes : turned σ g ≡ closed σ (g .out)
+    closes : movedOn t σ g ≡ closedBy t σ (g .out)
     closes = when _ _ last
 
-    pub is-done : turned σ g .session .done ≡ true
-    is-done = ap (λ (x : Advance). x .session .done) closes ∙ room
+    pub is-done : movedOn t σ g .standing .done ≡ true
+    is-done = ap (λ (x : Moved S). x .standing .done) closes ∙ room
 
-    pub wrote-summary : wrote σ g ≡ sessionSummary σ
-    wrote-summary =
-        ap (λ (x : Advance). take (x .written) outAfter) closes
+    pub wrote-end : wroteOn t σ g ≡ t .close (σ .state)
+    wrote-end =
+        ap (λ (x : Moved S). take (x .written) outAfter) closes
         ∙ ap (λ (k : ℕ). take k outAfter) (when _ _ room)
-        ∙ ap (take (length (sessionSummary σ))) (when _ _ last ∙ when _ _ room)
-        ∙ take-at (sessionSummary σ) (drop (0 + length (sessionSummary σ)) (g .out)) (length (sessionSummary σ)) refl
+        ∙ ap (take (length (t .close (σ .state)))) (when _ _ last ∙ when _ _ room)
+        ∙ take-at (t .close (σ .state)) (drop (0 + length (t .close (σ .state))) (g .out)) (length (t .close (σ .state))) refl
 
-    pub same-service : turned σ g .session .service ≡ σ .service
-    same-service = ap (λ (x : Advance). x .session .service) closes
+    pub same-state : movedOn t σ g .standing .state ≡ σ .state
+    same-state = ap (λ (x : Moved S). x .standing .state) closes
 
     pub nothing-left : (more : List ℕ) → more ≡ [] → kept ++ (g .piece ++ more) ≡ []
     nothing-left more e =
@@ -125,61 +121,63 @@ module _ (σ : Session) (buffer : List ℕ) (g : Leg) (takes : Takes σ buffer g
 
   -- any other turn
   module _ (other : isLastTurn σ ≡ false) where
-    abbrev next : Session
-    next = turned σ g .session
+    abbrev next : Standing S
+    next = movedOn t σ g .standing
 
     abbrev kept′ : List ℕ
-    kept′ = take (next .rest) (left σ g)
+    kept′ = take (next .rest) (leftOn t σ g)
 
-    plays : turned σ g ≡ afterTurn σ got bytes (g .out)
+    abbrev after-turn : Moved S
+    after-turn = withTurn σ got (turnBy t (σ .state) (σ .number) bytes (g .out))
+
+    plays : movedOn t σ g ≡ after-turn
     plays = unless _ _ other
 
-    leaves : left σ g ≡ bufferAfter (σ .settable) (σ .service) (σ .number) b₁ bytes (g .out)
+    leaves : leftOn t σ g ≡ bufferBy t (σ .state) (σ .number) b₁ bytes (g .out)
     leaves = unless _ _ other
 
-    abbrev turn : Session
-    turn = afterTurn σ got bytes (g .out) .session
+    abbrev turn : Standing S
+    turn = after-turn .standing
 
     abbrev turnKept : List ℕ
-    turnKept = take (turn .rest) (bufferAfter (σ .settable) (σ .service) (σ .number) b₁ bytes (g .out))
+    turnKept = take (turn .rest) (bufferBy t (σ .state) (σ .number) b₁ bytes (g .out))
 
     same-kept : kept′ ≡ turnKept
-    same-kept = ap (λ (x : Advance). take (x .session .rest) (left σ g)) plays ∙ ap (take (turn .rest)) leaves
+    same-kept = ap (λ (x : Moved S). take (x .standing .rest) (leftOn t σ g)) plays ∙ ap (take (turn .rest)) leaves
 
     -- what the turn writes, and what will be written of the rest, are all of it
     abbrev used : ℕ
-    used = lineProgress (σ .settable) (σ .service) (σ .number) bytes (g .out) .used
+    used = reach t (σ .state) (σ .number) bytes (g .out) .used
 
     abbrev Written : List ℕ
-    Written = transcriptOf (σ .settable) (σ .service) (σ .number) (take used bytes)
+    Written = saidOver t (σ .state) (σ .number) (take used bytes)
 
-    wrote-lines : wrote σ g ≡ Written
+    wrote-lines : wroteOn t σ g ≡ Written
     wrote-lines =
-        ap (λ (x : Advance). take (x .written) outAfter) plays
-        ∙ ap (take (afterTurn σ got bytes (g .out) .written)) (unless _ _ other)
-        ∙ written-text (σ .settable) (σ .service) (σ .number) b₁ count (g .out)
+        ap (λ (x : Moved S). take (x .written) outAfter) plays
+        ∙ ap (take (after-turn .written)) (unless _ _ other)
+        ∙ written-text t blind (σ .state) (σ .number) b₁ count (g .out)
 
-    pub wrote-first : (more : List ℕ) → playedOn σ (bytes ++ more) ≡ wrote σ g ++ playedOn next (kept′ ++ more)
+    pub wrote-first : (more : List ℕ) → toldOn t σ (bytes ++ more) ≡ wroteOn t σ g ++ toldOn t next (kept′ ++ more)
     wrote-first more =
-        let may = σ .settable in
-        let s = σ .service in
+        let s = σ .state in
         let n = σ .number in
-        let later = transcriptOf may (turn .service) (turn .number) (turnKept ++ more) in
-        ap (λ (x : Service). transcriptOf may s n (bytes ++ more) ++ summaryOf x) (turn-service may s n b₁ count (g .out) more)
-        ∙ ap (λ (l : List ℕ). l ++ summaryOf (endOn turn (turnKept ++ more))) (turn-transcript may s n b₁ count (g .out) more)
-        ∙ append-assoc Written later (summaryOf (endOn turn (turnKept ++ more)))
-        ∙ ap (λ (l : List ℕ). l ++ playedOn turn (turnKept ++ more)) (sym wrote-lines)
-        ∙ ap (λ (l : List ℕ). wrote σ g ++ playedOn turn (l ++ more)) (sym same-kept)
-        ∙ ap (λ (x : Advance). wrote σ g ++ playedOn (x .session) (kept′ ++ more)) (sym plays)
+        let later = saidOver t (turn .state) (turn .number) (turnKept ++ more) in
+        ap (λ (x : S). saidOver t s n (bytes ++ more) ++ t .close x) (turn-state t blind s n b₁ count (g .out) more)
+        ∙ ap (λ (l : List ℕ). l ++ t .close (endOn t turn (turnKept ++ more))) (turn-transcript t blind s n b₁ count (g .out) more)
+        ∙ append-assoc Written later (t .close (endOn t turn (turnKept ++ more)))
+        ∙ ap (λ (l : List ℕ). l ++ toldOn t turn (turnKept ++ more)) (sym wrote-lines)
+        ∙ ap (λ (l : List ℕ). wroteOn t σ g ++ toldOn t turn (l ++ more)) (sym same-kept)
+        ∙ ap (λ (x : Moved S). wroteOn t σ g ++ toldOn t (x .standing) (kept′ ++ more)) (sym plays)
 
-    -- and the service that it leaves comes to the same
-    pub same-end : (more : List ℕ) → endOn σ (bytes ++ more) ≡ endOn next (kept′ ++ more)
+    -- and the state that it leaves comes to the same
+    pub same-end : (more : List ℕ) → endOn t σ (bytes ++ more) ≡ endOn t next (kept′ ++ more)
     same-end more =
-        turn-service (σ .settable) (σ .service) (σ .number) b₁ count (g .out) more
-        ∙ ap (λ (l : List ℕ). endOn turn (l ++ more)) (sym same-kept)
-        ∙ ap (λ (x : Advance). endOn (x .session) (kept′ ++ more)) (sym plays)
+        turn-state t blind (σ .state) (σ .number) b₁ count (g .out) more
+        ∙ ap (λ (l : List ℕ). endOn t turn (l ++ more)) (sym same-kept)
+        ∙ ap (λ (x : Moved S). endOn t (x .standing) (kept′ ++ more)) (sym plays)
 
-    -- what is played: the rest; the rest and what was read; at the end of the input the rest and LF
+    -- what is told: the rest; the rest and what was read; at the end of the input the rest and LF
     paused-bytes : σ .paused ≡ true → bytes ≡ kept
     paused-bytes e =
         rw e (stands (takes .reading (paused-wants-none (σ .paused) (σ .over) e)))
@@ -212,7 +210,7 @@ module _ (σ : Session) (buffer : List ℕ) (g : Leg) (takes : Takes σ buffer g
           ∙ sym (last-line (g .buffer) (σ .rest) has-room (rw (stands nothing-read) (one-line .0)))
           ∙ ap lines (sym (last-bytes e none))
 
-    -- so the bytes that are played, and what follows, have the lines of what was read
+    -- so the bytes that are told, and what follows, have the lines of what was read
     pub same-input : (more : List ℕ) → (readsNothing (σ .paused) got ≡ true → more ≡ [])
         → lines (kept ++ (g .piece ++ more)) ≡ lines (bytes ++ more)
     same-input more ended =
@@ -233,7 +231,7 @@ module _ (σ : Session) (buffer : List ℕ) (g : Leg) (takes : Takes σ buffer g
         (λ some.
         ap lines (sym (append-assoc kept (g .piece) more)) ∙ ap (λ (l : List ℕ). lines (l ++ more)) (sym (read-bytes e some))))
 
-    -- once the input is over, what is played ends with LF
+    -- once the input is over, what is told ends with LF
     ends-whole : turn .over ≡ true → Terminated bytes
     ends-whole ended =
         split (σ .over)
@@ -246,8 +244,8 @@ module _ (σ : Session) (buffer : List ℕ) (g : Leg) (takes : Takes σ buffer g
 
     none-kept : turn .over ≡ true → turn .paused ≡ false → turnKept ≡ []
     none-kept ended going =
-        kept-stands (σ .settable) (σ .service) (σ .number) b₁ count (g .out)
-        ∙ ap (take (turn .rest)) (ends-whole ended used (left-no-lf (σ .settable) (σ .service) (σ .number) b₁ count (g .out) going))
+        kept-stands t blind (σ .state) (σ .number) b₁ count (g .out)
+        ∙ ap (take (turn .rest)) (ends-whole ended used (left-no-lf t blind (σ .state) (σ .number) b₁ count (g .out) going))
         ∙ take-none (turn .rest)
 
     turn-sound : Sound turn turnKept
@@ -255,11 +253,11 @@ module _ (σ : Session) (buffer : List ℕ) (g : Leg) (takes : Takes σ buffer g
         record {
           reading = λ e.
               let going = wants-not-paused (turn .paused) (turn .over) e in
-              (kept-no-lf (σ .settable) (σ .service) (σ .number) b₁ count (g .out) going, kept-short (σ .settable) (σ .service) (σ .number) b₁ count (g .out) going);
+              (kept-no-lf t blind (σ .state) (σ .number) b₁ count (g .out) going, kept-short t blind (σ .state) (σ .number) b₁ count (g .out) going);
           whole = λ ended.
               split (turn .paused)
               (λ e.
-              subst Terminated (sym (paused-keeps (σ .settable) (σ .service) (σ .number) b₁ count (g .out) e)) (terminated-drop bytes used (ends-whole ended)))
+              subst Terminated (sym (paused-keeps t blind (σ .state) (σ .number) b₁ count (g .out) e)) (terminated-drop bytes used (ends-whole ended)))
               (λ e. subst Terminated (sym (none-kept ended e)) terminated-none);
           empty = λ last.
               none-kept (and-left (turn .over) (not (turn .paused)) last) (not-true (turn .paused) (and-right (turn .over) (not (turn .paused)) last));
@@ -268,10 +266,10 @@ module _ (σ : Session) (buffer : List ℕ) (g : Leg) (takes : Takes σ buffer g
     pub still-sound : Sound next kept′
     still-sound =
         subst (λ (l : List ℕ). Sound next l) (sym same-kept)
-        (subst (λ (x : Advance). Sound (x .session) turnKept) (sym plays) turn-sound)
+        (subst (λ (x : Moved S). Sound (x .standing) turnKept) (sym plays) turn-sound)
 
     pub still-going : next .done ≡ false
-    still-going = ap (λ (x : Advance). x .session .done) plays
+    still-going = ap (λ (x : Moved S). x .standing .done) plays
 
     pub now-over : readsNothing (σ .paused) got ≡ true → next .over ≡ true
-    now-over e = ap (λ (x : Advance). x .session .over) plays ∙ or-right (σ .over) (readsNothing (σ .paused) got) e
+    now-over e = ap (λ (x : Moved S). x .standing .over) plays ∙ or-right (σ .over) (readsNothing (σ .paused) got) e

@@ -5,5 +5,9 @@ mod turn;
 
 pub use session::Advance;
 pub use session::Session;
+pub use session::fill;
 pub use turn::Turn;
+pub use turn::kept_of;
+pub use turn::least;
+pub use turn::move_down;
 pub use turn::play_turn;

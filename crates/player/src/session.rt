@@ -4,8 +4,8 @@ ghost use mathlib.Core.Path.{_≡_};
 ghost use Prim.Native.Nat.{_+_, _≤_};
 ghost use lib.ListN.{length};
 ghost use Rattle.player.specs.Turn.{least as smaller};
-ghost use Rattle.player.specs.Session.{startOf, freshSession, resumedSession, turnBuffer, filled, closed};
-ghost use Rattle.player.specs.Session.{lastOut};
+ghost use Rattle.player.specs.Telling.{turnBuffer, filled};
+ghost use Rattle.player.specs.Session.{startOf, freshSession, resumedSession, closed, lastOut};
 ghost use Rattle.player.specs.Session.{advanced, bufferLeft, outLeft};
 use crate::turn::complete_line;
 use crate::turn::least;
@@ -128,7 +128,7 @@ fn start(settable: bool, service: Service) -> Session
 
 // How many bytes of the buffer there are to play: the rest, and what was read after it; at the end of the input an LF
 // is put there.
-fn fill(is_paused: bool, buffer: &mut [u8], rest: usize, got: usize) -> usize
+pub fn fill(is_paused: bool, buffer: &mut [u8], rest: usize, got: usize) -> usize
     ensures { λ r. ⌜ now (buffer .exit) ≡ turnBuffer «is_paused» rest got (now (buffer .entry)) ⌝ }
     ensures { λ r. ⌜ r ≡ filled «is_paused» rest got (now (buffer .entry)) ⌝ }
 {

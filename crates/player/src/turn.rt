@@ -6,9 +6,10 @@ ghost use lib.Seq.{paste};
 ghost use Rattle.lines.specs.Lines.{linesWritten};
 ghost use Rattle.player.specs.Turn.{least as smaller, keptOf, turnOf, bufferAfter};
 ghost use Rattle.player.specs.Turn.{completedBuffer, completedCount};
-use lines::can_reply;
+use lines::can_tell;
 use lines::play_lines;
 use service::Service;
+use writer::LINE_ROOM;
 
 // What a turn leaves.
 pub struct Turn {
@@ -43,7 +44,7 @@ pub fn play_turn(
 {
     let n = least(filled, buffer.len());
     let progress = play_lines(settable, service, number, &buffer[..n], out);
-    let can = can_reply(out.len(), progress.written, progress.number);
+    let can = can_tell(LINE_ROOM, out.len(), progress.written, progress.number);
     let used = progress.used;
     let rest = kept_of(can, n - used);
     move_down(buffer, used, rest);
@@ -68,7 +69,7 @@ pub fn least(a: usize, b: usize) -> usize
 const NO_STEP: usize = 87;
 
 // How many bytes of a rest are kept: all of them, unless it is known to be the start of one line.
-fn kept_of(is_one_line: bool, left: usize) -> usize
+pub fn kept_of(is_one_line: bool, left: usize) -> usize
     ensures { λ r. ⌜ r ≡ keptOf «is_one_line» left ⌝ }
 {
     if is_one_line {
@@ -78,7 +79,7 @@ fn kept_of(is_one_line: bool, left: usize) -> usize
 }
 
 // Moves so many bytes from the offset to the start of the buffer.
-fn move_down(buffer: &mut [u8], from: usize, count: usize)
+pub fn move_down(buffer: &mut [u8], from: usize, count: usize)
     requires { ⌜ from + count ≤ length (now buffer) ⌝ }
     ensures { λ _. ⌜ now (buffer .exit) ≡ paste (now (buffer .entry)) 0 (drop from (now (buffer .entry))) count ⌝ }
 {

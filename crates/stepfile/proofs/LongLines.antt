@@ -1,4 +1,4 @@
--- A line of more than 86 bytes may be cut short to any other such line: what is said of the input, and the service after it, are the
+-- A line of more than 86 bytes may be cut short to any other such line: what is said of the input, and the state after it, are the
 -- same. So a reader need not keep such a line whole. Assumes nothing.
 use Prim.Native.Nat.{ℕ, _+_, _<_}
 use mathlib.Core.Path.{_≡_, sym, _∙_, ap}
@@ -12,7 +12,7 @@ use Rattle.service.specs.declared.service.Service.{Service}
 use Rattle.stepfile.specs.Grammar.{parseLine}
 use Rattle.stepfile.specs.Line.{lineText}
 use Rattle.stepfile.specs.Transcript.{before, lines, transcript, after}
-use Rattle.stepfile.specs.Played.{refusedWith, setOutcome, outcomeOf, replyLine, serviceAfter, replyLines, afterLines}
+use Rattle.stepfile.specs.Played.{refusedWith, setOutcome, outcomeOf, replyLine, serviceAfter}
 use Rattle.stepfile.proofs.Longest.{too-long, no-setting}
 use Rattle.stepfile.proofs.Splitting.{NoLF}
 
@@ -38,60 +38,68 @@ whole-front : (a r : List ℕ) → NoLF a → 86 < length a → lines (a ++ r) �
 whole-front [] r none long = absurd (omega arith)
 whole-front (b ∷ a) r none long = lines-front b a r none
 
-module _ (settable : Bool) where
-  -- such a line is refused with 1, whatever its number
-  line-refused : (s : Service) (n : ℕ) (l : List ℕ) → 86 < length l
-      → outcomeOf settable s n l (parseLine l) ≡ cond (settable && eqb n 1) (refusedWith s 1) (refusedWith s 1)
-  line-refused s n l long =
-      ap (outcomeOf settable s n l) (too-long l long)
-      ∙ ap (λ t. cond (settable && eqb n 1) (setOutcome s t) (refusedWith s 1)) (no-setting l long)
+-- what is said of a line of more than 86 bytes, and the state after it, do not depend on what the line is
+pub record Blind {S : Type 0} (say : S → ℕ → List ℕ → List ℕ) (next : S → ℕ → List ℕ → S) : Type 0 where
+  pub says : (s : S) (n : ℕ) (l m : List ℕ) → 86 < length l → 86 < length m → say s n l ≡ say s n m
+  pub goes : (s : S) (n : ℕ) (l m : List ℕ) → 86 < length l → 86 < length m → next s n l ≡ next s n m
 
-  module _ (s : Service) (n : ℕ) (l m : List ℕ) (l-long : 86 < length l) (m-long : 86 < length m) where
-    alike : outcomeOf settable s n l (parseLine l) ≡ outcomeOf settable s n m (parseLine m)
-    alike = line-refused s n l l-long ∙ sym (line-refused s n m m-long)
-
-    reply-alike : replyLine settable s n l ≡ replyLine settable s n m
-    unfolding replyLine
-    reply-alike = ap (λ (o : Outcome). lineText n (o .reply) (o .calls)) alike
-
-    after-alike : serviceAfter settable s n l ≡ serviceAfter settable s n m
-    unfolding serviceAfter
-    after-alike = ap (λ (o : Outcome). o .service) alike
-
-    transcript-alike : (ls : List (List ℕ)) → replyLines settable s n (l ∷ ls) ≡ replyLines settable s n (m ∷ ls)
+module _ {S : Type 0} (say : S → ℕ → List ℕ → List ℕ) (next : S → ℕ → List ℕ → S) (blind : Blind say next) where
+  module _ (s : S) (n : ℕ) (l m : List ℕ) (l-long : 86 < length l) (m-long : 86 < length m) where
+    transcript-alike : (ls : List (List ℕ)) → transcript say next s n (l ∷ ls) ≡ transcript say next s n (m ∷ ls)
     unfolding transcript
     transcript-alike ls =
-        ap (λ t. t ++ replyLines settable (serviceAfter settable s n l) (n + 1) ls) reply-alike
-        ∙ ap (λ t. replyLine settable s n m ++ replyLines settable t (n + 1) ls) after-alike
+        ap (λ t. t ++ transcript say next (next s n l) (n + 1) ls) (blind .says s n l m l-long m-long)
+        ∙ ap (λ t. say s n m ++ transcript say next t (n + 1) ls) (blind .goes s n l m l-long m-long)
 
-    service-alike : (ls : List (List ℕ)) → afterLines settable s n (l ∷ ls) ≡ afterLines settable s n (m ∷ ls)
+    after-alike : (ls : List (List ℕ)) → after next s n (l ∷ ls) ≡ after next s n (m ∷ ls)
     unfolding after
-    service-alike ls = ap (λ t. afterLines settable t (n + 1) ls) after-alike
+    after-alike ls = ap (λ t. after next t (n + 1) ls) (blind .goes s n l m l-long m-long)
 
   -- a and d are the starts of two such lines
   module _ (a d : List ℕ) (a-long : 86 < length a) (d-long : 86 < length d) where
     longer : (a l : List ℕ) → 86 < length a → 86 < length (a ++ l)
     longer a l long = rw (length-append a l) (omega arith)
 
-    front-transcript : (s : Service) (n : ℕ) (ls : List (List ℕ))
-        → replyLines settable s n (front a ls) ≡ replyLines settable s n (front d ls)
+    front-transcript : (s : S) (n : ℕ) (ls : List (List ℕ))
+        → transcript say next s n (front a ls) ≡ transcript say next s n (front d ls)
     front-transcript s n [] = transcript-alike s n a d a-long d-long []
     front-transcript s n (l ∷ ls) = transcript-alike s n (a ++ l) (d ++ l) (longer a l a-long) (longer d l d-long) ls
 
-    front-service : (s : Service) (n : ℕ) (ls : List (List ℕ))
-        → afterLines settable s n (front a ls) ≡ afterLines settable s n (front d ls)
-    front-service s n [] = service-alike s n a d a-long d-long []
-    front-service s n (l ∷ ls) = service-alike s n (a ++ l) (d ++ l) (longer a l a-long) (longer d l d-long) ls
+    front-after : (s : S) (n : ℕ) (ls : List (List ℕ)) → after next s n (front a ls) ≡ after next s n (front d ls)
+    front-after s n [] = after-alike s n a d a-long d-long []
+    front-after s n (l ∷ ls) = after-alike s n (a ++ l) (d ++ l) (longer a l a-long) (longer d l d-long) ls
 
-  module _ (a d : List ℕ) (a-none : NoLF a) (d-none : NoLF d) (a-long : 86 < length a) (d-long : 86 < length d) (r : List ℕ) (s : Service) where
-    pub transcript-of-long : (n : ℕ) → replyLines settable s n (lines (a ++ r)) ≡ replyLines settable s n (lines (d ++ r))
+  module _ (a d : List ℕ) (a-none : NoLF a) (d-none : NoLF d) (a-long : 86 < length a) (d-long : 86 < length d) (r : List ℕ) (s : S) where
+    pub transcript-of-long : (n : ℕ) → transcript say next s n (lines (a ++ r)) ≡ transcript say next s n (lines (d ++ r))
     transcript-of-long n =
-        ap (replyLines settable s n) (whole-front a r a-none a-long)
+        ap (transcript say next s n) (whole-front a r a-none a-long)
         ∙ front-transcript a d a-long d-long s n (lines r)
-        ∙ sym (ap (replyLines settable s n) (whole-front d r d-none d-long))
+        ∙ sym (ap (transcript say next s n) (whole-front d r d-none d-long))
 
-    pub service-after-long : (n : ℕ) → afterLines settable s n (lines (a ++ r)) ≡ afterLines settable s n (lines (d ++ r))
-    service-after-long n =
-        ap (afterLines settable s n) (whole-front a r a-none a-long)
-        ∙ front-service a d a-long d-long s n (lines r)
-        ∙ sym (ap (afterLines settable s n) (whole-front d r d-none d-long))
+    pub after-long : (n : ℕ) → after next s n (lines (a ++ r)) ≡ after next s n (lines (d ++ r))
+    after-long n =
+        ap (after next s n) (whole-front a r a-none a-long)
+        ∙ front-after a d a-long d-long s n (lines r)
+        ∙ sym (ap (after next s n) (whole-front d r d-none d-long))
+
+-- such a line is refused with 1, whatever its number
+module _ (settable : Bool) where
+  line-refused : (s : Service) (n : ℕ) (l : List ℕ) → 86 < length l
+      → outcomeOf settable s n l (parseLine l) ≡ cond (settable && eqb n 1) (refusedWith s 1) (refusedWith s 1)
+  line-refused s n l long =
+      ap (outcomeOf settable s n l) (too-long l long)
+      ∙ ap (λ t. cond (settable && eqb n 1) (setOutcome s t) (refusedWith s 1)) (no-setting l long)
+
+  pub outcome-alike :
+      (s : Service) (n : ℕ) (l m : List ℕ) → 86 < length l → 86 < length m
+      → outcomeOf settable s n l (parseLine l) ≡ outcomeOf settable s n m (parseLine m)
+  outcome-alike s n l m l-long m-long = line-refused s n l l-long ∙ sym (line-refused s n m m-long)
+
+  pub reply-blind : Blind (replyLine settable) (serviceAfter settable)
+  unfolding replyLine serviceAfter
+  reply-blind =
+      record {
+        says = λ s n l m l-long m-long.
+            ap (λ (o : Outcome). lineText n (o .reply) (o .calls)) (outcome-alike s n l m l-long m-long);
+        goes = λ s n l m l-long m-long. ap (λ (o : Outcome). o .service) (outcome-alike s n l m l-long m-long);
+      }

@@ -26,5 +26,9 @@ callsText (call ∷ calls) = callText call ++ callsText calls
 abbrev pub fieldsText : Reply → List ℕ → List ℕ
 fieldsText r kinds = cond (eqb (letterOf r) 87) (callsText (orderedCalls maxClients kinds)) (valuesText (valuesOf r))
 
+-- the line without its LF
+abbrev pub replyText : ℕ → Reply → List ℕ → List ℕ
+replyText n r kinds = decimal n ++ ((32 ∷ letterOf r ∷ []) ++ fieldsText r kinds)
+
 unfoldable pub lineText : ℕ → Reply → List ℕ → List ℕ
-lineText n r kinds = decimal n ++ ((32 ∷ letterOf r ∷ []) ++ (fieldsText r kinds ++ bytes "\n"))
+lineText n r kinds = replyText n r kinds ++ bytes "\n"

@@ -7,7 +7,7 @@ ghost use lib.ListN.{length};
 ghost use Rattle.decision.specs.Sizes.{maxClients};
 ghost use Rattle.decision.specs.Callback.{callIf, orderedCalls};
 ghost use Rattle.protocol.specs.Reply.{grantValues, letterOf};
-ghost use Rattle.stepfile.specs.Line.{callsText, fieldsText, lineText};
+ghost use Rattle.stepfile.specs.Line.{callsText, fieldsText, replyText, lineText};
 ghost use Rattle.stepfile.specs.Text.{valuesText};
 ghost use Rattle.writer.specs.Buffer.{Wrote, WroteIfRoom, lineRoom};
 use crate::decimal::put_argument;
@@ -38,24 +38,33 @@ pub fn write_reply(
     if out.len() - LINE_ROOM < at {
         return at;
     }
-    put_reply(out, at, number, reply, calls)
+    put_line(out, at, number, reply, calls)
 }
 
-fn put_reply(
+fn put_line(out: &mut [u8], at: usize, number: u64, reply: Reply, calls: [u8; MAX_CLIENTS]) -> usize
+    requires { ⌜ at + lineRoom ≤ length (now out) ⌝ }
+    ensures { λ r. ⌜ Wrote (now (out .entry)) at (lineText number reply calls) (now (out .exit)) r ⌝ }
+    ensures { λ r. ⌜ r ≤ at + lineRoom ⌝ }
+{
+    let feed = put_reply(out, at, number, reply, calls);
+    put_byte(out, feed, b'\n')
+}
+
+// The line of a reply without its LF.
+pub fn put_reply(
     out: &mut [u8],
     at: usize,
     number: u64,
     reply: Reply,
     calls: [u8; MAX_CLIENTS],
 ) -> usize
-    requires { ⌜ at + lineRoom ≤ length (now out) ⌝ }
-    ensures { λ r. ⌜ Wrote (now (out .entry)) at (lineText number reply calls) (now (out .exit)) r ⌝ }
-    ensures { λ r. ⌜ r ≤ at + lineRoom ⌝ }
+    requires { ⌜ at + 358 ≤ length (now out) ⌝ }
+    ensures { λ r. ⌜ Wrote (now (out .entry)) at (replyText number reply calls) (now (out .exit)) r ⌝ }
+    ensures { λ r. ⌜ r ≤ at + 358 ⌝ }
 {
     let letter = put_decimal(out, at, number);
     let fields = put_letter(out, letter, letter_of(reply));
-    let feed = put_fields(out, fields, reply, calls);
-    put_byte(out, feed, b'\n')
+    put_fields(out, fields, reply, calls)
 }
 
 fn letter_of(reply: Reply) -> u8

@@ -76,7 +76,7 @@ fn count_listed(sizes: Sizes, table: Table) -> u64
 }
 
 // A file is told if it is not CLOSED or not at version 1.
-fn is_listed(entry: Entry, clients: usize) -> bool
+pub fn is_listed(entry: Entry, clients: usize) -> bool
     requires { ⌜ clients ≤ maxClients ⌝ }
     ensures { λ r. ⌜ r ≡ isListed clients entry ⌝ }
 {
@@ -96,7 +96,7 @@ fn code_in(entry: Entry, clients: usize) -> u8
     state_of(records, clients, entry.last).code()
 }
 
-fn version_in(entry: Entry) -> u32
+pub fn version_in(entry: Entry) -> u32
     ensures { λ r. ⌜ r ≡ versionIn entry ⌝ }
 {
     let version = entry.version;

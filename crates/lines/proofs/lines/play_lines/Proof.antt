@@ -20,7 +20,9 @@ use Rattle.stepfile.specs.Setting.{settingOf}
 use Rattle.stepfile.specs.Played.{refusedWith, setOutcome, outcomeOf}
 use Rattle.lines.proofs.Reaching.{LineAt}
 use Rattle.lines.proofs.FirstLine.{late-line, set-line, line-bytes}
-use Rattle.lines.proofs.Playing.{none-yet, stops-full, stops-whole}
+use Rattle.lines.specs.Telling.{Reach}
+use Rattle.lines.specs.Lines.{playing, progressOf}
+use Rattle.lines.proofs.Telling.{none-yet, stops-full, stops-whole}
 use Rattle.lines.proofs.lines.play_lines.Proof.Points.{
   Inv-loop2,
   μ-loop2,
@@ -66,7 +68,7 @@ chosen c x l at is =
 loop-holds : tie.Need-loop-holds Inv-loop2 μ-loop2 Inv-loop μ-loop
 loop-holds c =
     let a = c .before .before .before .before .before .before .before .before .before .before .before .before .before .args in
-    (none-yet (a .settable) (a .service) (a .first) (now (a .input)) (now (a .out)), c .before .before .before .before .before .before .before .before .before .in-force .ensures .0)
+    (none-yet (playing (a .settable)) (a .service) (a .first) (now (a .input)) (now (a .out)), c .before .before .before .before .before .before .before .before .before .in-force .ensures .0)
 
 loop-again : tie.Need-loop-again Inv-loop2 μ-loop2 Inv-loop μ-loop
 loop-again c =
@@ -156,19 +158,25 @@ loop-again-7 c =
       in-force (at-line told),
     )
 
+-- how far it went, in the words of the contract
+as-progress : {r r′ : Reach Service} {P : Type 0} → (r ≡ r′) × P → (progressOf r ≡ progressOf r′) × P
+as-progress w = (ap progressOf (w .0), w .1)
+
 returns : tie.Need-returns Inv-loop2 μ-loop2 Inv-loop μ-loop
 returns c =
     let at = c .before .before in
     let l = at .loop in
-    stops-full (settable₀ at) (service₀ at) (first₀ at) (input₀ at) (out₀ at) (stands at) (l .number) (l .used) (l .to) (l .out) (reached at)
-    (sym (c .before .can-reply .ensures) ∙ c .if1 .left)
+    as-progress
+    (stops-full (playing (settable₀ at)) (service₀ at) (first₀ at) (input₀ at) (out₀ at) (stands at) (l .number) (l .used) (l .to) (l .out) (reached at)
+    (sym (c .before .can-tell .ensures) ∙ c .if1 .left))
 
 returns-2 : tie.Need-returns-2 Inv-loop2 μ-loop2 Inv-loop μ-loop
 returns-2 c =
     let at = c .before .before .before .before .before in
     let l = at .loop in
-    stops-whole (settable₀ at) (service₀ at) (first₀ at) (input₀ at) (out₀ at) (stands at) (l .number) (l .used) (l .to) (l .out) (reached at)
-    (sym (c .before .before .read-at .ensures) ∙ c .enum-told .given .1)
+    as-progress
+    (stops-whole (playing (settable₀ at)) (service₀ at) (first₀ at) (input₀ at) (out₀ at) (stands at) (l .number) (l .used) (l .to) (l .out) (reached at)
+    (sym (c .before .before .read-at .ensures) ∙ c .enum-told .given .1))
 
 pub play-lines-spec : {M : Type 1} → statement M
 play-lines-spec =

@@ -8,7 +8,7 @@ use denote.Ref.{now}
 use borrow.Author.Needs.{needs}
 use borrow.Author.Tests.{eq-eqb, ne-eqb}
 use Rattle.player.specs.Turn.{least, completedBuffer, completedCount}
-use Rattle.player.specs.Session.{turnBuffer, filled}
+use Rattle.player.specs.Telling.{turnBuffer, filled}
 use Rattle.player.proofs.session.fill.Statement.{statement}
 use Rattle.player.proofs.session.fill.Tie as tie
 

@@ -12,7 +12,7 @@ returns-2 : tie.Need-returns-2
 returns-2 c = (no-room-wrote _ _ _ _ (omega arith), search needs)
 
 returns-3 : tie.Need-returns-3
-returns-3 c = (wrote-if-room _ _ _ _ _ _ (omega arith) (c .before .before .put-reply .ensures .0), search needs)
+returns-3 c = (wrote-if-room _ _ _ _ _ _ (omega arith) (c .before .before .put-line .ensures .0), search needs)
 
 pub write-reply-spec : {M : Type 1} → statement M
 write-reply-spec =

@@ -30,7 +30,9 @@ use Rattle.stepfile.specs.Line.{lineText}
 use Rattle.stepfile.specs.Played.{outcomeOf}
 use Rattle.writer.specs.Buffer.{WroteIfRoom, lineRoom}
 use Rattle.lines.proofs.Reaching.{LineAt}
-use Rattle.lines.proofs.Playing.{ReadLine, read-line, Reached, one-more, same-length}
+use Rattle.lines.specs.Lines.{playing}
+use Rattle.lines.proofs.Telling.{ReadLine, read-line, Reached, one-more, same-length}
+use Rattle.lines.proofs.Playing.{replied}
 use Rattle.lines.proofs.lines.play_lines.Tie as tie
 
 -- a report's turn through the entries: those before the file are stored
@@ -46,7 +48,7 @@ abbrev pub μ-loop2 : tie.MeasureT-loop2
 -- the lines before this one are replied to, and the sizes are those in force
 abbrev pub Inv-loop : tie.InvT-loop
 Inv-loop settable first input out₀ given₀ sizes₀ files₀ recovering₀ reported₀ blocks₀ clients₀ copies₀ held₀ dirty₀ number₀ used₀ to₀ out given sizes files recovering reported blocks clients copies held dirty number used to =
-    Reached settable (serviceOf given₀ files₀ recovering₀ reported₀ blocks₀ clients₀ copies₀ held₀ dirty₀) first input out₀
+    Reached (playing settable) (serviceOf given₀ files₀ recovering₀ reported₀ blocks₀ clients₀ copies₀ held₀ dirty₀) first input out₀
     (serviceOf given files recovering reported blocks clients copies held dirty) number used to out
     × (sizes ≡ inForce given)
 
@@ -80,11 +82,11 @@ module _ (c : AtLoop) where
   abbrev pub out₀ : List ℕ
   out₀ = now (c .before .before .before .before .before .before .before .before .before .before .before .before .before .before .args .out)
 
-  pub reached : Reached settable₀ service₀ first₀ input₀ out₀ stands (c .loop .number) (c .loop .used) (c .loop .to) (c .loop .out)
+  pub reached : Reached (playing settable₀) service₀ first₀ input₀ out₀ stands (c .loop .number) (c .loop .used) (c .loop .to) (c .loop .out)
   reached = c .loop .inv .0
 
   pub kept-length : length (c .loop .out) ≡ length out₀
-  kept-length = same-length settable₀ service₀ first₀ input₀ out₀ stands (c .loop .number) (c .loop .used) (c .loop .to) (c .loop .out) reached
+  kept-length = same-length (playing settable₀) service₀ first₀ input₀ out₀ stands (c .loop .number) (c .loop .used) (c .loop .to) (c .loop .out) reached
 
   pub in-force : c .loop .sizes ≡ sizesOf stands
   in-force = c .loop .inv .1
@@ -121,14 +123,16 @@ module _ (c : LineRead) where
       → WroteIfRoom lineRoom (before-line .loop .out) (before-line .loop .to) (lineText (before-line .loop .number) (o .reply) (o .calls))
       out to
       → to ≤ before-line .loop .to + lineRoom
-      → Reached (settable₀ before-line) (service₀ before-line) (first₀ before-line) (input₀ before-line) (out₀ before-line)
+      → Reached (playing (settable₀ before-line)) (service₀ before-line) (first₀ before-line) (input₀ before-line) (out₀ before-line)
       (o .service) (before-line .loop .number + 1) next to out
   replies o to out is placed most =
       let l = before-line .loop in
-      one-more (settable₀ before-line) (service₀ before-line) (first₀ before-line) (input₀ before-line) (out₀ before-line) (stands before-line)
-      (l .number) (l .used) (l .to) (l .out) gives next o to out (reached before-line) is-read
-      (sym (c .before .before .before .before .before .can-reply .ensures) ∙ c .before .before .before .before .if1 .taken)
-      is placed most
+      one-more (playing (settable₀ before-line)) (service₀ before-line) (first₀ before-line) (input₀ before-line) (out₀ before-line) (stands before-line)
+      (l .number) (l .used) (l .to) (l .out) gives next (o .service) (lineText (l .number) (o .reply) (o .calls)) to out (reached before-line) is-read
+      (sym (c .before .before .before .before .before .can-tell .ensures) ∙ c .before .before .before .before .if1 .taken)
+      (λ text at parses. replied (settable₀ before-line) (stands before-line) (l .number) text gives o parses (is text at))
+      placed
+      most
 
   -- and fewer bytes are left
   pub fewer : length (input₀ before-line) - next < length (input₀ before-line) - before-line .loop .used

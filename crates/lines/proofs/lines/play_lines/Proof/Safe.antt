@@ -4,7 +4,8 @@ use mathlib.Core.Path.{sym, _∙_}
 use native.Mathlib.Omega.{arith}
 use lib.ListN.{length}
 use borrow.Author.Needs.{needs}
-use Rattle.lines.proofs.Playing.{has-number}
+use Rattle.writer.specs.Buffer.{lineRoom}
+use Rattle.lines.proofs.Telling.{has-number}
 use Rattle.lines.proofs.lines.play_lines.Proof.Points.{Inv-loop2, μ-loop2, Inv-loop, μ-loop, permitted, before-line, the-line, at-line}
 use Rattle.lines.proofs.lines.play_lines.Tie as tie
 
@@ -17,7 +18,7 @@ enum-told c = search needs
 pub add-number : tie.Need-add-number Inv-loop2 μ-loop2 Inv-loop μ-loop
 add-number c =
     let l = before-line c .loop in
-    omega (arith, has-number (length (l .out)) (l .to) (l .number) (sym (c .before .before .before .before .before .can-reply .ensures) ∙ c .before .before .before .before .if1 .taken))
+    omega (arith, has-number lineRoom (length (l .out)) (l .to) (l .number) (sym (c .before .before .before .before .before .can-tell .ensures) ∙ c .before .before .before .before .if1 .taken))
 
 pub enum-known-parsed-2 : tie.Need-enum-known-parsed-2 Inv-loop2 μ-loop2 Inv-loop μ-loop
 enum-known-parsed-2 c = search needs

@@ -1,25 +1,30 @@
 -- `advance` meets its contract: the last turn writes the summary, any other plays what fills the buffer. Assumes
 -- nothing.
 use Prim.Native.Nat.{ℕ, _≤_}
-use mathlib.Core.Path.{_≡_, sym, ap, _∙_}
-use mathlib.Core.Bool.{true, false}
+use mathlib.Core.Path.{_≡_, ap, _∙_}
+use mathlib.Core.Bool.{true, false, _||_}
 use mathlib.Core.List.{List}
 use lib.ListN.{length, take}
 use denote.Ref.{now}
 use borrow.Author.Needs.{needs}
 use native.Mathlib.Omega.{arith}
-use Rattle.records.proofs.Choosing.{when, unless, split}
-use Rattle.lines.specs.Lines.{linesWritten}
+use Rattle.service.specs.declared.service.Service.{Service}
+use Rattle.lines.specs.Telling.{Telling}
+use Rattle.lines.specs.Lines.{playing, linesWritten}
 use Rattle.player.specs.declared.session.Session.{Session}
 use Rattle.player.specs.declared.session.Advance.{Advance}
 use Rattle.player.specs.declared.turn.Turn.{Turn}
 use Rattle.player.specs.Turn.{turnOf, bufferAfter}
-use Rattle.player.specs.Session.{isLastTurn, readsNothing, filled, turnBufferOf, turnBytes, closed, withTurn, lastOut, advanced, bufferLeft, outLeft}
-use Rattle.player.proofs.Completing.{completed-long}
+use Rattle.player.specs.Telling.{isLastTurn, readsNothing, filled, turnBufferOf}
+use Rattle.player.specs.Session.{standing, advanceOf, closed, lastOut, advanced, bufferLeft, outLeft}
+use Rattle.player.proofs.Parts.{closes, closes-buffer, closes-out, still-long, turns, turns-buffer, turns-out}
 use Rattle.player.proofs.session.Session.advance.Statement.{statement}
 use Rattle.player.proofs.session.Session.advance.Tie as tie
 
 module _ (σ : Session) (got : ℕ) (buffer out : List ℕ) where
+  abbrev t : Telling Service
+  t = playing (σ .settable)
+
   -- what the function promises of its answer, of both buffers, of how much was written, and of the rest
   abbrev Promised : Advance → List ℕ → List ℕ → Type 0
   Promised r buffer′ out′ =
@@ -27,44 +32,50 @@ module _ (σ : Session) (got : ℕ) (buffer out : List ℕ) where
       × ((buffer′ ≡ bufferLeft σ got buffer out)
       × ((out′ ≡ outLeft σ got buffer out) × ((r .written ≤ length out) × (r .session .rest ≤ length buffer))))
 
-  last-turn : (r : Advance) (out′ : List ℕ) → isLastTurn σ ≡ true
+  last-turn : (r : Advance) (out′ : List ℕ) → isLastTurn (standing σ) ≡ true
       → r ≡ closed σ out → out′ ≡ lastOut σ out → r .written ≤ length out → Promised r buffer out′
   last-turn r out′ last e f fits =
-      let none : r .session .rest ≤ length buffer = omega (arith, ap (λ (x : Advance). x .session .rest) e) in
-      (e ∙ sym (when _ _ last), (sym (when _ _ last), (f ∙ sym (when _ _ last), (fits, none))))
+      let none : r .session .rest ≤ length buffer = omega (arith, ap (λ (x : Advance). x .session .rest) e) in (
+        e ∙ ap (advanceOf (σ .settable)) (closes t (standing σ) got buffer out last),
+        (closes-buffer t (standing σ) got buffer out last, (f ∙ closes-out t (standing σ) got buffer out last, (fits, none))),
+      )
 
-  module _
-      (b₁ : List ℕ) (n : ℕ) (t : Turn) (buffer′ out′ : List ℕ)
-      (filling : b₁ ≡ turnBufferOf σ got buffer) (count : n ≡ filled (σ .paused) (σ .rest) got buffer) where
-    same-bytes : take n b₁ ≡ turnBytes σ got buffer
-    same-bytes =
-        ap (λ (k : ℕ). take k b₁) count ∙ ap (take (filled (σ .paused) (σ .rest) got buffer)) filling
+  -- the session after a turn
+  abbrev afterTurn : Turn → Advance
+  afterTurn u =
+      record {
+        session =
+            record {
+              settable = σ .settable;
+              service = u .service;
+              number = u .number;
+              rest = u .rest;
+              paused = u .paused;
+              over = σ .over || readsNothing (σ .paused) got;
+              done = false;
+            };
+        written = u .written;
+      }
 
-    still-long : length b₁ ≡ length buffer
-    still-long =
-        ap length filling
-        ∙ split (readsNothing (σ .paused) got)
-        (λ e. ap length (when _ _ e) ∙ completed-long buffer (σ .rest))
-        (λ e. ap length (unless _ _ e))
-
-    other-turn : isLastTurn σ ≡ false
-        → t ≡ turnOf (σ .settable) (σ .service) (σ .number) (take n b₁) out
-        → buffer′ ≡ bufferAfter (σ .settable) (σ .service) (σ .number) b₁ (take n b₁) out
-        → out′ ≡ linesWritten (σ .settable) (σ .service) (σ .number) (take n b₁) out
-        → t .written ≤ length out
-        → t .rest ≤ length b₁
-        → Promised (withTurn σ got t) buffer′ out′
-    other-turn more e f g fits short =
-        let inside : t .rest ≤ length buffer = omega (arith, short, still-long) in (
-          ap (withTurn σ got) (e ∙ ap (λ (l : List ℕ). turnOf (σ .settable) (σ .service) (σ .number) l out) same-bytes) ∙ sym (unless _ _ more),
-          (
-            f
-                ∙ ap (λ (l : List ℕ). bufferAfter (σ .settable) (σ .service) (σ .number) b₁ l out) same-bytes
-                ∙ ap (λ (l : List ℕ). bufferAfter (σ .settable) (σ .service) (σ .number) l (turnBytes σ got buffer) out) filling
-                ∙ sym (unless _ _ more),
-            (g ∙ ap (λ (l : List ℕ). linesWritten (σ .settable) (σ .service) (σ .number) l out) same-bytes ∙ sym (unless _ _ more), (fits, inside)),
-          ),
-        )
+  other-turn :
+      (b₁ : List ℕ) (n : ℕ) (u : Turn) (buffer′ out′ : List ℕ)
+      → b₁ ≡ turnBufferOf (standing σ) got buffer
+      → n ≡ filled (σ .paused) (σ .rest) got buffer
+      → isLastTurn (standing σ) ≡ false
+      → u ≡ turnOf (σ .settable) (σ .service) (σ .number) (take n b₁) out
+      → buffer′ ≡ bufferAfter (σ .settable) (σ .service) (σ .number) b₁ (take n b₁) out
+      → out′ ≡ linesWritten (σ .settable) (σ .service) (σ .number) (take n b₁) out
+      → u .written ≤ length out
+      → u .rest ≤ length b₁
+      → Promised (afterTurn u) buffer′ out′
+  other-turn b₁ n u buffer′ out′ filling count more e f g fits short =
+      let inside : u .rest ≤ length buffer = omega (arith, short, still-long t (standing σ) got buffer out b₁ n filling count more) in (
+        ap afterTurn e ∙ ap (advanceOf (σ .settable)) (turns t (standing σ) got buffer out b₁ n filling count more),
+        (
+          f ∙ turns-buffer t (standing σ) got buffer out b₁ n filling count more,
+          (g ∙ turns-out t (standing σ) got buffer out b₁ n filling count more, (fits, inside)),
+        ),
+      )
 
 close-requires : tie.Need-close-requires
 close-requires c κs = search needs

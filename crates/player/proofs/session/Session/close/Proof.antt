@@ -13,15 +13,15 @@ use borrow.Author.Tests.{leb-true}
 use Rattle.records.proofs.Choosing.{unless, split}
 use Rattle.writer.specs.Buffer.{WroteIfRoom, summaryRoom}
 use Rattle.player.specs.declared.session.Session.{Session}
-use Rattle.player.specs.Session.{sessionSummary}
+use Rattle.stepfile.specs.Played.{summaryOf}
 use Rattle.player.proofs.session.Session.close.Statement.{statement}
 use Rattle.player.proofs.session.Session.close.Tie as tie
 
 module _
     (σ : Session) (out out′ : List ℕ) (r : ℕ)
-    (placed : WroteIfRoom summaryRoom out 0 (sessionSummary σ) out′ r) (most : r ≤ 0 + summaryRoom) where
-  is-written : r ≡ cond (leb summaryRoom (length out)) (length (sessionSummary σ)) 0
-  is-written = placed .next ∙ ap (λ (k : ℕ). cond (leb summaryRoom (length out)) k 0) (zero-add (length (sessionSummary σ)))
+    (placed : WroteIfRoom summaryRoom out 0 (summaryOf (σ .service)) out′ r) (most : r ≤ 0 + summaryRoom) where
+  is-written : r ≡ cond (leb summaryRoom (length out)) (length (summaryOf (σ .service))) 0
+  is-written = placed .next ∙ ap (λ (k : ℕ). cond (leb summaryRoom (length out)) k 0) (zero-add (length (summaryOf (σ .service))))
 
   fits : r ≤ length out
   fits =
