@@ -26,7 +26,8 @@ use Rattle.service.proofs.Tests.{split, conflict, and-true, and-false, both}
 use Rattle.service.proofs.Lists.{getD-set, length-put}
 use Rattle.service.proofs.Contents.{place-same, cell-same, place-in, cell-in}
 use Rattle.service.proofs.Accepted.{when-accepted}
-use Rattle.ledger.specs.Ledger.{Ledger, writtenAt, writerAt, copiedAt, waitingSince, isWaiting, fetches}
+use Rattle.ledger.specs.declared.ledger.Ledger.{Ledger}
+use Rattle.ledger.specs.Ledger.{writtenAt, writerAt, copiedAt, waitingSince, isWaiting, fetches}
 use Rattle.ledger.specs.Ledger.{writesCopy}
 use Rattle.ledger.specs.Ledger.{copyNoted, writeNoted, ledgerAfter}
 use Rattle.ledger.specs.Provenance.{Origin, never, by, originAfter, copies, beginsWait}

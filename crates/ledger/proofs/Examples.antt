@@ -17,7 +17,8 @@ use Rattle.service.specs.Fresh.{fresh}
 use Rattle.service.specs.Demand3.{after}
 use Rattle.service.proofs.Run.{freshDefault, OR, OW, CR, CW, RD, WR, FL, AN}
 use Rattle.ledger.specs.declared.told.Told.{Told}
-use Rattle.ledger.specs.Ledger.{Ledger, emptyLedger, waitingSince, ledgerAfter, readTold}
+use Rattle.ledger.specs.declared.ledger.Ledger.{Ledger}
+use Rattle.ledger.specs.Ledger.{emptyLedger, waitingSince, ledgerAfter, readTold}
 
 abbrev told : Bool → Bool → ℕ → ℕ → ℕ → Told
 told own dirty since line client =

@@ -13,7 +13,8 @@ use Rattle.protocol.specs.declared.step.Step.the-variants.{Open, Close, Read, W
 use Rattle.protocol.specs.Reply.{isRefused}
 use Rattle.protocol.proofs.OtherKinds.{not-among}
 use Rattle.protocol.proofs.step.Step.{the-type}
-use Rattle.ledger.specs.Ledger.{Ledger, entered, isWaiting, fetches, writesCopy, waitNoted, copyNoted}
+use Rattle.ledger.specs.declared.ledger.Ledger.{Ledger}
+use Rattle.ledger.specs.Ledger.{entered, isWaiting, fetches, writesCopy, waitNoted, copyNoted}
 use Rattle.ledger.specs.Ledger.{writeNoted, noted}
 use Rattle.ledger.specs.Wrapped.{wrappedStep}
 

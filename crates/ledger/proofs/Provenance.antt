@@ -27,7 +27,8 @@ use Rattle.service.proofs.Demand3.{demand3}
 use Rattle.stepfile.specs.declared.parsed.Parsed.{Parsed}
 use Rattle.stepfile.specs.declared.parsed.Parsed.the-variants.{Is, NoStep}
 use Rattle.ledger.specs.declared.told.Told.{Told}
-use Rattle.ledger.specs.Ledger.{Ledger, emptyLedger, writtenAt, writerAt, copiedAt, waitingSince, ledgerAfter}
+use Rattle.ledger.specs.declared.ledger.Ledger.{Ledger}
+use Rattle.ledger.specs.Ledger.{emptyLedger, writtenAt, writerAt, copiedAt, waitingSince, ledgerAfter}
 use Rattle.ledger.specs.Ledger.{readTold}
 use Rattle.ledger.specs.Provenance.{Event, Origin, never, by, originAfter, latestWrite, latestLine}
 use Rattle.ledger.specs.Provenance.{copies, beginsWait, NamesWrite, ReadIsTold, LineIsTold, AllTold, Provenance}

@@ -16,7 +16,8 @@ use Rattle.service.specs.Contents.{sizesOf, storesOf, clientAt}
 use Rattle.service.specs.Step.{stepOf}
 use Rattle.service.specs.Demand3.{refused}
 use Rattle.service.proofs.Tests.{split, conflict}
-use Rattle.ledger.specs.Ledger.{Ledger, isWaiting, noted, mayCache, holdsBlock, ledgerAfter, toldOf, readTold}
+use Rattle.ledger.specs.declared.ledger.Ledger.{Ledger}
+use Rattle.ledger.specs.Ledger.{isWaiting, noted, mayCache, holdsBlock, ledgerAfter, toldOf, readTold}
 use Rattle.ledger.specs.Wrapped.{wrappedStep}
 use Rattle.ledger.proofs.Entries.{accepted-reply, open-names, read-names, write-names}
 

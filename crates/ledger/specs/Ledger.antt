@@ -13,18 +13,10 @@ use Rattle.protocol.specs.declared.step.Step.the-variants.{Open, Close, Read, W
 use Rattle.protocol.specs.Reply.{isRefused}
 use Rattle.blocks.specs.Stores.{Stores, heldIn, dirtyIn}
 use Rattle.service.specs.declared.service.Service.{Service}
-use Rattle.service.specs.Contents.{clientAt, heldAt, storesOf}
+use Rattle.service.specs.Contents.{clientAt, storesOf}
 use Rattle.service.specs.Step.{stepOf}
+use Rattle.ledger.specs.declared.ledger.Ledger.{Ledger}
 use Rattle.ledger.specs.declared.told.Told.{Told}
-
-pub record Ledger : Type 0 where
-  -- of each block: the line of the latest accepted write to it, and its client
-  pub written : List ℕ
-  pub writers : List ℕ
-  -- of each copy: the line at which it was fetched, or written there
-  pub copied : List ℕ
-  -- of each file: the line at which the latest open that waits, or waited, began to wait
-  pub waiting : List ℕ
 
 -- the lent arrays, together
 abbrev pub entered : List ℕ → List ℕ → List ℕ → List ℕ → Ledger
@@ -111,16 +103,19 @@ mayCache s Crash = false
 mayCache s (Report i) = false
 mayCache s End = false
 
+abbrev pub holdsIn : Stores → Step → Bool
+holdsIn a (Open m i f) = false
+holdsIn a (Close m i f) = false
+holdsIn a (Read i f b) = heldIn a i f b
+holdsIn a (Write i f b v) = heldIn a i f b
+holdsIn a (Flush i f b) = false
+holdsIn a (Answer i f) = false
+holdsIn a Crash = false
+holdsIn a (Report i) = false
+holdsIn a End = false
+
 abbrev pub holdsBlock : Service → Step → Bool
-holdsBlock s (Open m i f) = false
-holdsBlock s (Close m i f) = false
-holdsBlock s (Read i f b) = heldAt s i f b
-holdsBlock s (Write i f b v) = heldAt s i f b
-holdsBlock s (Flush i f b) = false
-holdsBlock s (Answer i f) = false
-holdsBlock s Crash = false
-holdsBlock s (Report i) = false
-holdsBlock s End = false
+holdsBlock s x = holdsIn (storesOf s) x
 
 -- the ledger after line n, which gave the step x to the service s
 unfoldable pub ledgerAfter : ℕ → Service → Step → Ledger → Ledger
@@ -143,3 +138,22 @@ toldOf caching a l i f b =
 -- what is told of a read by client i of block b of file f, before the read
 abbrev pub readTold : Service → Ledger → ℕ → ℕ → ℕ → Told
 readTold s l i f b = toldOf (clientAt s i f .opens .caching) (storesOf s) l i f b
+
+-- of a step that is no read nothing is told
+abbrev pub noTold : Told
+noTold = record { own = false; dirty = false; since = 0; line = 0; client = 0 }
+
+-- what is told of a step, before it, where its client may cache or not
+abbrev pub toldFor : Bool → Stores → Ledger → Step → Told
+toldFor caching a l (Open m i f) = noTold
+toldFor caching a l (Close m i f) = noTold
+toldFor caching a l (Read i f b) = toldOf caching a l i f b
+toldFor caching a l (Write i f b v) = noTold
+toldFor caching a l (Flush i f b) = noTold
+toldFor caching a l (Answer i f) = noTold
+toldFor caching a l Crash = noTold
+toldFor caching a l (Report i) = noTold
+toldFor caching a l End = noTold
+
+abbrev pub stepTold : Service → Ledger → Step → Told
+stepTold s l x = toldFor (mayCache s x) (storesOf s) l x

@@ -19,7 +19,8 @@ use Rattle.service.specs.Demand3.{refused, after}
 use Rattle.stepfile.specs.declared.parsed.Parsed.{Parsed}
 use Rattle.stepfile.specs.declared.parsed.Parsed.the-variants.{Is, NoStep}
 use Rattle.ledger.specs.declared.told.Told.{Told}
-use Rattle.ledger.specs.Ledger.{Ledger, emptyLedger, waitingSince, isWaiting, fetches, writesCopy}
+use Rattle.ledger.specs.declared.ledger.Ledger.{Ledger}
+use Rattle.ledger.specs.Ledger.{emptyLedger, waitingSince, isWaiting, fetches, writesCopy}
 use Rattle.ledger.specs.Ledger.{ledgerAfter, readTold}
 
 -- ---- the past

@@ -1,7 +1,14 @@
-// The ledger: which line wrote what each client reads, on lent arrays of the largest sizes.
+// The ledger: which line wrote what each client reads, and refusals, counted.
+mod ledger;
 mod note;
+mod refusals;
 mod told;
 
+pub use ledger::Ledger;
 pub use note::note_line;
+pub use refusals::REFUSAL_NUMBERS;
+pub use refusals::count_refusal;
 pub use told::Told;
+pub use told::holds_block;
 pub use told::read_told;
+pub use told::step_told;

@@ -27,13 +27,12 @@ use Rattle.ledger.specs.Ledger.{emptyLedger, ledgerAfter}
 use Rattle.sentences.specs.Phrase.{numbersText}
 use Rattle.sentences.specs.Accepted.{callsText}
 use Rattle.sentences.specs.Refusal.{refusalText}
-use Rattle.sentences.specs.Explained.{Annotated, sentenceOf, explainedText, explainedLine, annotatedAfter}
+use Rattle.sentences.specs.Explained.{unannotated, sentenceOf, explainedText, explainedLine, annotatedAfter}
 
 -- what is said of an input, line by line, from the fresh service and an empty ledger
 abbrev explained : List ℕ → List ℕ
 explained input =
-    let start : Annotated = record { service = fresh defaultSizes; ledger = emptyLedger } in
-    transcript (explainedLine true) (annotatedAfter true) start 1 (lines input)
+    transcript (explainedLine true) (annotatedAfter true) (unannotated (fresh defaultSizes)) 1 (lines input)
 
 abbrev joined : List (List ℕ) → List ℕ
 joined [] = []

@@ -18,27 +18,31 @@ use Rattle.protocol.specs.Client.{keepsBlocks}
 use Rattle.protocol.specs.Entry.{recordAt, callTo}
 use Rattle.stepfile.specs.Text.{bytes, argumentText}
 use Rattle.ledger.specs.declared.told.Told.{Told}
-use Rattle.sentences.specs.Phrase.{clientText, fileText, blockText, forText, stateText, clientsText}
+use Rattle.sentences.specs.Phrase.{clientText, fileText, blockText, forText, openText, stateText, listText}
 
 -- ---- reads
 
 -- which copy: the client's own, with the line at which it was fetched or written there, or the server's
-abbrev pub sourceText : Told → List ℕ
-sourceText t =
-    cond (t .own)
-    (bytes ": from its own copy"
-    ++ (cond (t .dirty) (bytes ", dirty") [] ++ (bytes ", since line" ++ argumentText (t .since))))
-    (bytes ": from the server")
+abbrev pub ownText : Bool → ℕ → List ℕ
+ownText dirty since =
+    bytes ": from its own copy" ++ (cond dirty (bytes ", dirty") [] ++ (bytes ", since line" ++ argumentText since))
 
--- whose write, which line
-abbrev pub originText : Told → List ℕ
-originText t =
+abbrev pub sourceText : Told → List ℕ
+sourceText t = cond (t .own) (ownText (t .dirty) (t .since)) (bytes ": from the server")
+
+-- no line wrote it: it is 0, or the session began with an image
+abbrev pub unwrittenText : Bool → List ℕ
+unwrittenText fresh = cond fresh (bytes "; never written") (bytes "; as the image has it")
+
+-- whose write, which line; `fresh` says whether the session began with the fresh service
+abbrev pub originText : Bool → Told → List ℕ
+originText fresh t =
     cond (eqb (t .line) 0)
-    (bytes "; never written")
+    (unwrittenText fresh)
     (bytes "; written by " ++ (clientText (t .client) ++ (bytes " at line" ++ argumentText (t .line))))
 
-abbrev pub readText : Told → ℕ → ℕ → ℕ → List ℕ
-readText t i f b = clientText i ++ (bytes "," ++ (blockText f b ++ (sourceText t ++ originText t)))
+abbrev pub readText : Bool → Told → ℕ → ℕ → ℕ → List ℕ
+readText fresh t i f b = clientText i ++ (bytes "," ++ (blockText f b ++ (sourceText t ++ originText fresh t)))
 
 -- ---- opens
 
@@ -55,16 +59,14 @@ abbrev pub permissionText : Bool → List ℕ
 permissionText caching = cond caching (bytes " and may cache") (bytes " and may not cache")
 
 -- client i is granted; `own` is its side of the file before
-abbrev pub grantText : Mode → Grant → ClientFile → ℕ → ℕ → List ℕ
-grantText mode g own i f =
-    clientText i
-    ++ (bytes " has"
-    ++ (fileText f
-    ++ (bytes " open"
-    ++ (forText mode
-    ++ (bytes " at version"
+abbrev pub termsText : Mode → Grant → ClientFile → List ℕ
+termsText mode g own =
+    bytes " at version"
     ++ (argumentText (numberOf (g .latest))
-    ++ (permissionText (g .caching) ++ keptText (keepsBlocks mode g own) (own .label))))))))
+    ++ (permissionText (g .caching) ++ keptText (keepsBlocks mode g own) (own .label)))
+
+abbrev pub grantText : Mode → Grant → ClientFile → ℕ → ℕ → List ℕ
+grantText mode g own i f = openText mode i f ++ termsText mode g own
 
 -- "1 write-back, 2 invalidate, 3 both"
 abbrev pub kindText : ℕ → List ℕ
@@ -82,14 +84,15 @@ callsText [] = []
 callsText (call ∷ calls) = callText call ++ callsText calls
 
 -- the open waits: the state of the file is why they are called (document 01, "Opening")
+abbrev pub waiterText : Mode → ℕ → ℕ → List ℕ
+waiterText mode i f = clientText i ++ (bytes " waits to open" ++ (fileText f ++ forText mode))
+
+abbrev pub stateInText : ℕ → Entry → List ℕ
+stateInText n e = bytes ", which is " ++ stateText (stateOf n (recordAt e) (e .last))
+
 abbrev pub waitText : ℕ → Entry → Mode → ℕ → ℕ → List ℕ → List ℕ
 waitText n e mode i f kinds =
-    clientText i
-    ++ (bytes " waits to open"
-    ++ (fileText f
-    ++ (forText mode
-    ++ (bytes ", which is "
-    ++ (stateText (stateOf n (recordAt e) (e .last)) ++ callsText (orderedCalls maxClients kinds))))))
+    waiterText mode i f ++ (stateInText n e ++ callsText (orderedCalls maxClients kinds))
 
 -- ---- answers
 
@@ -100,7 +103,7 @@ answerText sent i f =
 
 -- who has still to answer, where e is the entry after the step
 abbrev pub stillText : ℕ → Entry → List ℕ
-stillText n e = bytes "; stations still to answer:" ++ clientsText n (λ j. not (asksNothing (callTo n e j)))
+stillText n e = bytes "; stations still to answer:" ++ listText n (λ j. not (asksNothing (callTo n e j)))
 
 -- ---- all other steps
 

@@ -1,4 +1,6 @@
--- The line that `explain` prints: what `play` prints for it, and after four spaces what happened.
+-- The line that `explain` prints: what `play` prints for it, and after four spaces what happened. The Bool `fresh` says
+-- whether the session began with the fresh service: a first line may choose its sizes then (`settable` in
+-- crates/stepfile/specs/Played.antt), and no block comes from an image.
 use Prim.Native.Nat.{ℕ}
 use mathlib.Core.Bool.{Bool, cond, _&&_}
 use mathlib.Core.List.{List, [], _∷_, _++_}
@@ -7,42 +9,59 @@ use Rattle.protocol.specs.declared.reply.Reply.{Reply}
 use Rattle.protocol.specs.declared.reply.Reply.the-variants.{Granted, Waiting, Value, Refused, Answered}
 use Rattle.protocol.specs.declared.reply.Reply.the-variants.{AnsweredGrant, Done}
 use Rattle.protocol.specs.declared.step.Step.{Step}
-use Rattle.protocol.specs.Reply.{letterOf}
+use Rattle.protocol.specs.Client.{sideOf}
 use Rattle.service.specs.declared.service.Service.{Service}
-use Rattle.service.specs.Contents.{sizesOf, tableIn, entryAt, clientAt}
+use Rattle.service.specs.Contents.{sizesOf, tableIn, entryAt, sidesAt}
 use Rattle.service.specs.Step.{stepOf}
 use Rattle.stepfile.specs.declared.parsed.Parsed.{Parsed}
 use Rattle.stepfile.specs.declared.parsed.Parsed.the-variants.{Is, NoStep}
 use Rattle.stepfile.specs.declared.setting.Setting.{Setting}
 use Rattle.stepfile.specs.declared.setting.Setting.the-variants.{Are, OutOfRange, Missing}
-use Rattle.stepfile.specs.Text.{bytes, decimal, argumentText}
+use Rattle.stepfile.specs.Text.{bytes, argumentText}
 use Rattle.stepfile.specs.Grammar.{parseLine}
 use Rattle.stepfile.specs.Setting.{settingOf}
-use Rattle.stepfile.specs.Line.{fieldsText}
+use Rattle.stepfile.specs.Line.{replyText}
 use Rattle.stepfile.specs.Played.{outcomeOf, serviceAfter}
-use Rattle.ledger.specs.Ledger.{Ledger, waitingSince, mayCache, ledgerAfter, readTold}
+use Rattle.ledger.specs.declared.ledger.Ledger.{Ledger}
+use Rattle.ledger.specs.Ledger.{emptyLedger, waitingSince, mayCache, ledgerAfter, stepTold}
+use Rattle.ledger.specs.Refusals.{noRefusals, refusalsAfter}
+use Rattle.sentences.specs.declared.annotated.Annotated.{Annotated}
+use Rattle.sentences.specs.declared.scene.Scene.{Scene}
 use Rattle.sentences.specs.Accepted.{readText, grantText, waitText, answerText, stillText, doneText}
 use Rattle.sentences.specs.Refusal.{clientOf, fileOf, blockOf, modeOf, refusalText}
 
--- What is said of the step x, on the service s with the ledger l, by its outcome. An answer that grants gives the
--- open that waited: the waiter's, in the mode in which it waits.
-abbrev pub saidOf : Service → Ledger → Step → Service → List ℕ → Reply → List ℕ
-saidOf s l x s′ kinds (Granted g) = grantText (modeOf x) g (clientAt s (clientOf x) (fileOf x)) (clientOf x) (fileOf x)
-saidOf s l x s′ kinds Waiting =
-    waitText (sizesOf s .clients) (entryAt s (fileOf x)) (modeOf x) (clientOf x) (fileOf x) kinds
-saidOf s l x s′ kinds (Value v) =
-    readText (readTold s l (clientOf x) (fileOf x) (blockOf x)) (clientOf x) (fileOf x) (blockOf x)
-saidOf s l x s′ kinds (Refused k) =
-    refusalText (sizesOf s) (tableIn s .reported) (entryAt s (fileOf x)) (waitingSince l (fileOf x)) x k
-saidOf s l x s′ kinds (Answered n) =
-    answerText n (clientOf x) (fileOf x) ++ stillText (sizesOf s .clients) (entryAt s′ (fileOf x))
-saidOf s l x s′ kinds (AnsweredGrant n i g) =
+-- What is said of the step x, by its reply. An answer that grants gives the open that waited: the waiter's, in the mode
+-- in which it waits.
+abbrev pub saidOf : Bool → Scene → Step → List ℕ → Reply → List ℕ
+saidOf fresh c x kinds (Granted g) =
+    grantText (modeOf x) g (sideOf (c .sides) (clientOf x)) (clientOf x) (fileOf x)
+saidOf fresh c x kinds Waiting =
+    waitText (c .sizes .clients) (c .entry) (modeOf x) (clientOf x) (fileOf x) kinds
+saidOf fresh c x kinds (Value v) = readText fresh (c .told) (clientOf x) (fileOf x) (blockOf x)
+saidOf fresh c x kinds (Refused k) = refusalText (c .sizes) (c .reported) (c .entry) (c .since) x k
+saidOf fresh c x kinds (Answered n) =
+    answerText n (clientOf x) (fileOf x) ++ stillText (c .sizes .clients) (c .after)
+saidOf fresh c x kinds (AnsweredGrant n i g) =
     answerText n (clientOf x) (fileOf x)
-    ++ (bytes "; " ++ grantText (entryAt s (fileOf x) .mode) g (clientAt s i (fileOf x)) i (fileOf x))
-saidOf s l x s′ kinds Done = doneText (mayCache s x) x
+    ++ (bytes "; " ++ grantText (c .entry .mode) g (sideOf (c .sides) i) i (fileOf x))
+saidOf fresh c x kinds Done = doneText (c .caching) x
 
-unfoldable pub sentenceOf : Service → Ledger → Step → List ℕ
-sentenceOf s l x = let o = stepOf s x in saidOf s l x (o .service) (o .calls) (o .reply)
+-- what the sentence looks at, where the step x finds the service s with the ledger l
+abbrev pub sceneOf : Service → Ledger → Step → Scene
+sceneOf s l x =
+    record {
+      sizes = sizesOf s;
+      reported = tableIn s .reported;
+      entry = entryAt s (fileOf x);
+      after = entryAt (stepOf s x .service) (fileOf x);
+      sides = sidesAt s (fileOf x);
+      since = waitingSince l (fileOf x);
+      told = stepTold s l x;
+      caching = mayCache s x;
+    }
+
+unfoldable pub sentenceOf : Bool → Service → Ledger → Step → List ℕ
+sentenceOf fresh s l x = let o = stepOf s x in saidOf fresh (sceneOf s l x) x (o .calls) (o .reply)
 
 -- ---- lines that are no steps
 
@@ -63,34 +82,37 @@ settingText Missing = noStepText
 
 -- what is said of line l′, numbered n: its step's sentence, or of a first line that may choose the sizes what it sets
 abbrev pub saidOfLine : Bool → Service → Ledger → ℕ → List ℕ → Parsed → List ℕ
-saidOfLine settable s l n l′ (Is x) = sentenceOf s l x
-saidOfLine settable s l n l′ NoStep = cond (settable && eqb n 1) (settingText (settingOf l′)) noStepText
+saidOfLine fresh s l n l′ (Is x) = sentenceOf fresh s l x
+saidOfLine fresh s l n l′ NoStep = cond (fresh && eqb n 1) (settingText (settingOf l′)) noStepText
 
--- the reply line without its LF, as `play` prints it (`reply-line`, proofs/Beginning.antt)
-abbrev pub replyText : ℕ → Reply → List ℕ → List ℕ
-replyText n r kinds = decimal n ++ ((32 ∷ letterOf r ∷ []) ++ fieldsText r kinds)
-
+-- it begins as `play` prints it (`reply-line`, crates/writer/proofs/Replies.antt)
 unfoldable pub explainedText : ℕ → Reply → List ℕ → List ℕ → List ℕ
 explainedText n r kinds said = replyText n r kinds ++ (bytes "    " ++ (said ++ bytes "\n"))
 
--- the service with its ledger, and what a line makes of them; a line that gives no step notes nothing
-pub record Annotated : Type 0 where
-  pub service : Service
-  pub ledger : Ledger
+-- the service with nothing noted yet
+abbrev pub unannotated : Service → Annotated
+unannotated s = record { service = s; ledger = emptyLedger; refusals = noRefusals }
 
+-- a line that gives no step notes nothing in the ledger
 abbrev pub ledgerOf : Service → Ledger → ℕ → Parsed → Ledger
 ledgerOf s l n (Is x) = ledgerAfter n s x l
 ledgerOf s l n NoStep = l
 
 -- for `transcript` (crates/stepfile/specs/Transcript.antt)
 unfoldable pub explainedLine : Bool → Annotated → ℕ → List ℕ → List ℕ
-explainedLine settable t n l =
-    let o = outcomeOf settable (t .service) n l (parseLine l) in
-    explainedText n (o .reply) (o .calls) (saidOfLine settable (t .service) (t .ledger) n l (parseLine l))
+explainedLine fresh t n l =
+    let o = outcomeOf fresh (t .service) n l (parseLine l) in
+    explainedText n (o .reply) (o .calls) (saidOfLine fresh (t .service) (t .ledger) n l (parseLine l))
 
 unfoldable pub annotatedAfter : Bool → Annotated → ℕ → List ℕ → Annotated
-annotatedAfter settable t n l =
+annotatedAfter fresh t n l =
+    let p = parseLine l in
     record {
-      service = serviceAfter settable (t .service) n l;
-      ledger = ledgerOf (t .service) (t .ledger) n (parseLine l);
+      service = serviceAfter fresh (t .service) n l;
+      ledger = ledgerOf (t .service) (t .ledger) n p;
+      refusals = refusalsAfter (outcomeOf fresh (t .service) n l p .reply) (t .refusals);
     }
+
+-- the room that an explained line is given: more than it takes
+abbrev pub explainedRoom : ℕ
+explainedRoom = 1200

@@ -27,6 +27,10 @@ abbrev pub forText : Mode → List ℕ
 forText Read = bytes " for read"
 forText Write = bytes " for write"
 
+-- "station 2 has file 3 open for write"
+abbrev pub openText : Mode → ℕ → ℕ → List ℕ
+openText mode i f = clientText i ++ (bytes " has" ++ (fileText f ++ (bytes " open" ++ forText mode)))
+
 -- document 01's names of the states
 abbrev pub stateText : FileState → List ℕ
 stateText Closed = bytes "CLOSED"
@@ -37,10 +41,10 @@ stateText MultReaders = bytes "MULT_READERS"
 stateText OneWriter = bytes "ONE_WRITER"
 stateText WriteShared = bytes "WRITE_SHARED"
 
--- the clients below n with the property, each after a space; " none" where there is none
+-- the numbers below n with the property, each after a space; " none" where there is none
 unfoldable pub numbersText : ℕ → (ℕ → Bool) → List ℕ
 numbersText zero p = []
 numbersText (suc n) p = numbersText n p ++ cond (p n) (argumentText n) []
 
-abbrev pub clientsText : ℕ → (ℕ → Bool) → List ℕ
-clientsText n p = cond (eqb (count n p) 0) (bytes " none") (numbersText n p)
+abbrev pub listText : ℕ → (ℕ → Bool) → List ℕ
+listText n p = cond (eqb (count n p) 0) (bytes " none") (numbersText n p)

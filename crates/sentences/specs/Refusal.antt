@@ -11,8 +11,8 @@ use Rattle.protocol.specs.declared.step.Step.{Step}
 use Rattle.protocol.specs.declared.step.Step.the-variants.{Open, Close, Read, Write, Flush, Answer, Crash, Report, End}
 use Rattle.table.specs.TableStep.{isReported}
 use Rattle.stepfile.specs.Text.{bytes, argumentText}
-use Rattle.sentences.specs.Phrase.{clientText, fileText, blockText, forText, clientsText}
-use Rattle.sentences.specs.Accepted.{stillText}
+use Rattle.sentences.specs.Phrase.{clientText, fileText, blockText, forText, openText, listText}
+use Rattle.sentences.specs.Accepted.{waiterText, stillText}
 
 -- ---- what a step names; 0 where it names none
 
@@ -74,14 +74,12 @@ noBlockText b n = bytes "there is no block" ++ (argumentText b ++ (bytes "; a fi
 
 -- 5 and 8 name the clients still to report
 abbrev pub missingText : ℕ → List Bool → List ℕ
-missingText n reported = bytes "; stations still to report:" ++ clientsText n (λ i. not (isReported reported i))
+missingText n reported = bytes "; stations still to report:" ++ listText n (λ i. not (isReported reported i))
 
 -- 9 names who waits, since which line, and who must answer
 abbrev pub openWaitsText : ℕ → Entry → ℕ → ℕ → List ℕ
 openWaitsText n e f since =
-    clientText (e .waiter)
-    ++ (bytes " waits to open"
-    ++ (fileText f ++ (forText (e .mode) ++ (bytes " since line" ++ (argumentText since ++ stillText n e)))))
+    waiterText (e .mode) (e .waiter) f ++ (bytes " since line" ++ (argumentText since ++ stillText n e))
 
 -- 10: there is no call to answer
 abbrev pub noCallText : ℕ → ℕ → List ℕ
@@ -104,9 +102,7 @@ notOpenText x i f = clientText i ++ (bytes " does not have" ++ (fileText f ++ (b
 
 -- 12: the count that is full
 abbrev pub countFullText : Mode → ℕ → ℕ → List ℕ
-countFullText m i f =
-    clientText i
-    ++ (bytes " has" ++ (fileText f ++ (bytes " open" ++ (forText m ++ bytes " 255 times, the most there can be"))))
+countFullText m i f = openText m i f ++ bytes " 255 times, the most there can be"
 
 -- 13: the block that is not dirty
 abbrev pub notDirtyText : ℕ → ℕ → ℕ → List ℕ

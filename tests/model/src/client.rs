@@ -51,11 +51,12 @@ impl Copies {
 }
 
 /// "The copy is kept when its label equals the latest version, or for a write open the previous one."
-fn copy_kept(cached_version: u32, mode: Mode, grant: &Grant) -> bool {
+pub fn copy_kept(cached_version: u32, mode: Mode, grant: &Grant) -> bool {
     cached_version == grant.latest || (mode == Mode::Write && cached_version == grant.previous)
 }
 
 impl ClientFile {
+    #[inline(always)]
     pub fn grant(&mut self, sizes: Sizes, mode: Mode, grant: &Grant) {
         self.record.grant(mode, grant.may_cache);
         if !grant.may_cache {
@@ -112,6 +113,7 @@ impl ClientFile {
     }
 
     /// The client's part of a callback reply: kind 3 is 1, then 2.
+    #[inline(always)]
     pub fn answer(&mut self, sizes: Sizes, kind: Kind, server: &mut [u64; BLOCKS]) {
         if kind.writes_back() {
             self.write_back(sizes, server);
@@ -122,6 +124,7 @@ impl ClientFile {
         }
     }
 
+    #[inline(always)]
     fn write_back(&mut self, sizes: Sizes, server: &mut [u64; BLOCKS]) {
         for block in 0..sizes.blocks {
             if self.copies.dirty[block] {

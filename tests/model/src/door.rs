@@ -36,6 +36,7 @@ impl Service {
         unless(self.at_client(client, file).record.count(mode) == 0, Refusal::NotOpen)
     }
 
+    #[inline(always)]
     pub fn may_read(&self, client: u64, file: u64, block: u64) -> Admission {
         self.client_exists(client)?;
         self.file_exists(file)?;
@@ -47,6 +48,7 @@ impl Service {
         unless(!copy.record.is_open(), Refusal::NotOpen)
     }
 
+    #[inline(always)]
     pub fn may_write(&self, client: u64, file: u64, block: u64) -> Admission {
         self.client_exists(client)?;
         self.file_exists(file)?;
@@ -67,6 +69,7 @@ impl Service {
     }
 
     /// A reply that is admitted has the kind of its callback.
+    #[inline(always)]
     pub fn may_reply(&self, client: u64, file: u64) -> Result<Kind, Refusal> {
         self.client_exists(client)?;
         self.file_exists(file)?;

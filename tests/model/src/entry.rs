@@ -50,6 +50,7 @@ impl Entry {
     }
 
     /// The table "Opening" of document 01, row by row.
+    #[inline(always)]
     pub fn callbacks_due(&self, sizes: Sizes, opener: usize, mode: Mode) -> Callbacks {
         if self.records[opener].keeps_permission(mode) {
             return Callbacks::NONE;
@@ -75,12 +76,14 @@ impl Entry {
     }
 
     /// Whether the opener may cache, on the table just before the grant.
+    #[inline(always)]
     pub fn permission_at_grant(&self, sizes: Sizes, opener: usize, mode: Mode) -> bool {
         let record = &self.records[opener];
         if record.keeps_permission(mode) { record.may_cache } else { self.permission_judged(sizes, opener, mode) }
     }
 
     /// Permission where none is kept.
+    #[inline(always)]
     pub fn permission_judged(&self, sizes: Sizes, opener: usize, mode: Mode) -> bool {
         let open = self.open_clients(sizes);
         let another_writes = !self.writing_clients(sizes).without(opener).is_empty();

@@ -6,7 +6,16 @@ use crate::LONGEST_STEP;
 
 const BUFFER: usize = 64 * 1024;
 
-pub struct Input<R> {
+/// Hands the input on piece by piece: whole lines each time it is read, and at its end the last line if it has no LF.
+pub fn each_piece(input: impl Read, mut take: impl FnMut(&[u8]) -> Result<()>) -> Result<()> {
+    let mut input = Input::new(input);
+    while input.advance()? {
+        take(input.whole_lines())?;
+    }
+    take(input.last_line())
+}
+
+struct Input<R> {
     from: R,
     buffer: Box<[u8]>,
     /// The whole lines read last, `buffer[..lines]`, and the beginning of another, `buffer[lines..filled]`.
@@ -15,12 +24,12 @@ pub struct Input<R> {
 }
 
 impl<R: Read> Input<R> {
-    pub fn new(from: R) -> Self {
+    fn new(from: R) -> Self {
         Input { from, buffer: vec![0; BUFFER].into_boxed_slice(), lines: 0, filled: 0 }
     }
 
     /// Goes on past the whole lines given so far and reads once more. False at the end of the input.
-    pub fn advance(&mut self) -> Result<bool> {
+    fn advance(&mut self) -> Result<bool> {
         self.buffer.copy_within(self.lines..self.filled, 0);
         self.filled -= self.lines;
         self.lines = 0;
@@ -46,12 +55,12 @@ impl<R: Read> Input<R> {
         }
     }
 
-    pub fn whole_lines(&self) -> &[u8] {
+    fn whole_lines(&self) -> &[u8] {
         &self.buffer[..self.lines]
     }
 
     /// At the end of the input: the last line, if it has no LF.
-    pub fn last_line(&self) -> &[u8] {
+    fn last_line(&self) -> &[u8] {
         &self.buffer[self.lines..self.filled]
     }
 }

@@ -3,6 +3,7 @@
 //! gives document 01's word where it differs.
 
 pub mod check;
+pub mod explain;
 pub mod generate;
 pub mod images;
 pub mod process;
@@ -26,9 +27,10 @@ mod service;
 mod sizes;
 mod state;
 mod step;
+mod text;
 
 pub use callbacks::{Callbacks, Kind};
-pub use client::{Client, ClientFile, Copies};
+pub use client::{Client, ClientFile, Copies, copy_kept};
 pub use client_set::ClientSet;
 pub use door::Admission;
 pub use entry::{Entry, WaitingOpen};

@@ -1,24 +1,27 @@
-//! Plays a step file from standard input to standard output by the documents' rules: `model [--read-image FILE]
-//! [--write-image FILE]`. With an image to read, the session goes on from that reading; with one to write, the image of
-//! the server is written when the input has ended.
+//! Plays a step file from standard input to standard output by the documents' rules: `model [--explain] [--read-image
+//! FILE] [--write-image FILE]`. With --explain it says of each line what docs/EXPLAIN.md fixes. With an image to read,
+//! the session goes on from that reading; with one to write, the image of the server is written when the input has
+//! ended.
 
 use std::env::args;
 use std::fs;
 use std::io::{Error, stdin, stdout};
 use std::process::ExitCode;
 
+use model::explain::explain_on;
 use model::images::written;
 use model::{Document01, Refusal, Service, play_on};
 
 #[derive(Default)]
 struct Options {
+    explain: bool,
     read_image: Option<String>,
     write_image: Option<String>,
 }
 
 fn main() -> ExitCode {
     let Some(options) = options(args().skip(1)) else {
-        eprintln!("usage: model [--read-image FILE] [--write-image FILE]");
+        eprintln!("usage: model [--explain] [--read-image FILE] [--write-image FILE]");
         return ExitCode::from(2);
     };
     match session(&options) {
@@ -30,11 +33,15 @@ fn main() -> ExitCode {
     }
 }
 
-/// Each option at most once, with its file.
+/// Each option at most once, those for an image with its file.
 fn options(mut words: impl Iterator<Item = String>) -> Option<Options> {
     let mut options = Options::default();
     while let Some(word) = words.next() {
         let place = match word.as_str() {
+            "--explain" if !options.explain => {
+                options.explain = true;
+                continue;
+            }
             "--read-image" => &mut options.read_image,
             "--write-image" => &mut options.write_image,
             _ => return None,
@@ -52,7 +59,11 @@ fn session(options: &Options) -> Result<(), String> {
         None => Service::fresh(),
     };
     let resumed = options.read_image.is_some();
-    let played = play_on::<Document01>(service, resumed, stdin().lock(), stdout().lock());
+    let (input, output) = (stdin().lock(), stdout().lock());
+    let played = match options.explain {
+        true => explain_on(service, resumed, input, output),
+        false => play_on::<Document01>(service, resumed, input, output),
+    };
     let service = played.map_err(|error| error.to_string())?;
     options.write_image.as_ref().map_or(Ok(()), |path| write_image(&service, path))
 }

@@ -4,7 +4,7 @@ use std::io::{Read, Result, Write};
 use std::marker::PhantomData;
 
 use crate::check::Witness;
-use crate::input::Input;
+use crate::input::each_piece;
 use crate::printer::Printer;
 use crate::reader::{Taker, take_line};
 use crate::{Outcome, Refusal, Rules, Service, Settings, Sizes, Step, read_line, read_settings};
@@ -17,13 +17,11 @@ pub fn play<R: Rules>(input: impl Read, output: impl Write) -> Result<()> {
 /// The same from any service. A resumed session takes no line SET, on its first line either. Gives what the last step
 /// leaves.
 pub fn play_on<R: Rules>(service: Service, resumed: bool, input: impl Read, output: impl Write) -> Result<Service> {
-    let mut input = Input::new(input);
     let mut player = Player::<R, _> { service, printer: Printer::new(output), begun: resumed, rules: PhantomData };
-    while input.advance()? {
-        player.lines(input.whole_lines())?;
-        player.printer.flush()?;
-    }
-    player.lines(input.last_line())?;
+    each_piece(input, |lines| {
+        player.lines(lines)?;
+        player.printer.flush()
+    })?;
     player.printer.summary(&player.service, R::files_in_summary(player.service.sizes()))?;
     player.printer.flush()?;
     Ok(player.service)

@@ -2,34 +2,53 @@
 
 use std::io::{Result, Write};
 
+use crate::text::{LineNumber, Text};
 use crate::{Callbacks, Entry, Grant, Outcome, Service, Sizes, State};
 
 const BUFFER: usize = 64 * 1024;
 
-/// Room for any line: a number of twenty digits, and eight callbacks or a value.
-const LINE_ROOM: usize = 80;
+/// Room for any line. The longest, of fewer than 500 bytes, explains an open that waits for seven clients.
+const LINE_ROOM: usize = 512;
 
 pub struct Printer<W> {
     to: W,
     buffer: Box<[u8]>,
     filled: usize,
-    line: LineNumber,
+    line_number: LineNumber,
 }
 
 impl<W: Write> Printer<W> {
     pub fn new(to: W) -> Self {
-        Printer { to, buffer: vec![0; BUFFER].into_boxed_slice(), filled: 0, line: LineNumber::zero() }
+        Printer { to, buffer: vec![0; BUFFER].into_boxed_slice(), filled: 0, line_number: LineNumber::zero() }
     }
 
     /// The output line of the next input line.
     #[inline(always)]
     pub fn outcome(&mut self, outcome: &Outcome) -> Result<()> {
+        self.explained(outcome, |_| ())
+    }
+
+    /// The same, with more behind the outcome.
+    #[inline(always)]
+    pub fn explained(&mut self, outcome: &Outcome, explain: impl FnOnce(&mut Text)) -> Result<()> {
         self.make_room()?;
-        self.line.advance();
-        let mut text = Text { bytes: &mut self.buffer, at: self.filled };
-        text.line_number(&self.line);
+        self.line_number.advance();
+        let mut text = Text::new(&mut self.buffer, self.filled);
+        text.line_number(&self.line_number);
         text.outcome(outcome);
-        self.filled = text.at;
+        explain(&mut text);
+        text.byte(b'\n');
+        self.filled = text.end();
+        Ok(())
+    }
+
+    /// An output line that has no input line.
+    pub fn line(&mut self, write: impl FnOnce(&mut Text)) -> Result<()> {
+        self.make_room()?;
+        let mut text = Text::new(&mut self.buffer, self.filled);
+        write(&mut text);
+        text.byte(b'\n');
+        self.filled = text.end();
         Ok(())
     }
 
@@ -39,17 +58,12 @@ impl<W: Write> Printer<W> {
         let listed = |entry: &Entry| State::of(sizes, entry) != State::Closed || entry.version.read() != 1;
         let entries = &service.server.entries[..files];
         let count = entries.iter().filter(|entry| listed(entry)).count();
-        self.make_room()?;
-        let mut text = Text { bytes: &mut self.buffer, at: self.filled };
-        text.bytes(b"files ");
-        text.number(count as u64);
-        text.byte(b'\n');
-        self.filled = text.at;
+        self.line(|text| {
+            text.bytes(b"files ");
+            text.number(count as u64);
+        })?;
         for (file, entry) in entries.iter().enumerate().filter(|(_, entry)| listed(entry)) {
-            self.make_room()?;
-            let mut text = Text { bytes: &mut self.buffer, at: self.filled };
-            text.entry(sizes, file, entry);
-            self.filled = text.at;
+            self.line(|text| text.entry(sizes, file, entry))?;
         }
         Ok(())
     }
@@ -69,11 +83,6 @@ impl<W: Write> Printer<W> {
     fn make_room(&mut self) -> Result<()> {
         if BUFFER - self.filled < LINE_ROOM { self.flush() } else { Ok(()) }
     }
-}
-
-struct Text<'a> {
-    bytes: &'a mut [u8],
-    at: usize,
 }
 
 impl Text<'_> {
@@ -107,7 +116,6 @@ impl Text<'_> {
             }
             Outcome::Done => self.bytes(b" K"),
         }
-        self.byte(b'\n');
     }
 
     fn grant(&mut self, grant: &Grant) {
@@ -133,78 +141,5 @@ impl Text<'_> {
             Some(client) => self.number(client as u64),
             None => self.byte(b'-'),
         }
-        self.byte(b'\n');
-    }
-
-    #[inline]
-    fn byte(&mut self, byte: u8) {
-        self.bytes[self.at] = byte;
-        self.at += 1;
-    }
-
-    #[inline]
-    fn bytes(&mut self, bytes: &[u8]) {
-        self.bytes[self.at..self.at + bytes.len()].copy_from_slice(bytes);
-        self.at += bytes.len();
-    }
-
-    /// Copies all twenty places, of which those past the number are written over by what follows.
-    #[inline]
-    fn line_number(&mut self, line: &LineNumber) {
-        self.bytes[self.at..self.at + line.digits.len()].copy_from_slice(&line.digits);
-        self.at += line.length;
-    }
-
-    /// Two digits at a time, from the last.
-    #[inline]
-    fn number(&mut self, mut value: u64) {
-        let length = value.checked_ilog10().map_or(1, |log| log as usize + 1);
-        let digits = &mut self.bytes[self.at..self.at + length];
-        self.at += length;
-        let mut pairs = digits.rchunks_exact_mut(2);
-        for pair in &mut pairs {
-            pair.copy_from_slice(&PAIRS[(value % 100) as usize]);
-            value /= 100;
-        }
-        if let [first] = pairs.into_remainder() {
-            *first = b'0' + value as u8;
-        }
-    }
-}
-
-/// The numbers below 100 in two digits.
-static PAIRS: [[u8; 2]; 100] = {
-    let mut pairs = [[b'0'; 2]; 100];
-    let mut value = 0;
-    while value < 100 {
-        pairs[value] = [b'0' + value as u8 / 10, b'0' + value as u8 % 10];
-        value += 1;
-    }
-    pairs
-};
-
-/// A line number kept in decimal, since every line prints it.
-struct LineNumber {
-    digits: [u8; 20],
-    length: usize,
-}
-
-impl LineNumber {
-    fn zero() -> Self {
-        LineNumber { digits: [b'0'; 20], length: 1 }
-    }
-
-    #[inline]
-    fn advance(&mut self) {
-        for digit in self.digits[..self.length].iter_mut().rev() {
-            if *digit < b'9' {
-                *digit += 1;
-                return;
-            }
-            *digit = b'0';
-        }
-        self.digits[0] = b'1';
-        self.digits[self.length] = b'0';
-        self.length += 1;
     }
 }

@@ -19,6 +19,18 @@ impl State {
         self as u64
     }
 
+    pub fn name(self) -> &'static str {
+        match self {
+            State::Closed => "CLOSED",
+            State::ClosedDirty => "CLOSED_DIRTY",
+            State::OneReader => "ONE_READER",
+            State::OneRdrDirty => "ONE_RDRDIRTY",
+            State::MultReaders => "MULT_READERS",
+            State::OneWriter => "ONE_WRITER",
+            State::WriteShared => "WRITE_SHARED",
+        }
+    }
+
     /// "Names, first that fits."
     pub fn of(sizes: Sizes, entry: &Entry) -> State {
         let open = entry.open_clients(sizes);

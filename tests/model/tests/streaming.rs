@@ -1,8 +1,9 @@
-//! The streaming player: however the input comes in, it says what the player in memory says.
+//! The streaming player and explainer: however the input comes in, each says what the one in memory says.
 
 use std::cell::RefCell;
 use std::io::{ErrorKind, Read, Result, Write};
 
+use model::explain::{explain, explained};
 use model::generate::{FileKind, Rng, step_file};
 use model::{Document01, play, replay};
 
@@ -26,18 +27,28 @@ impl Read for Pieces<'_> {
     }
 }
 
+fn pieces(input: &[u8], limit: usize) -> Pieces<'_> {
+    Pieces { rest: input, rng: Rng::new(1), limit }
+}
+
 fn streamed(input: &[u8], limit: usize) -> Vec<u8> {
     let mut output = Vec::new();
-    play::<Document01>(Pieces { rest: input, rng: Rng::new(1), limit }, &mut output).expect("memory takes every byte");
+    play::<Document01>(pieces(input, limit), &mut output).expect("memory takes every byte");
     output
 }
 
-#[test]
-fn pieces_of_any_size_are_played_alike() {
+fn explained_in_pieces(input: &[u8], limit: usize) -> Vec<u8> {
+    let mut output = Vec::new();
+    explain(pieces(input, limit), &mut output).expect("memory takes every byte");
+    output
+}
+
+/// Whole files, each with what is expected of it, in pieces of every size.
+fn check_pieces(expected: fn(&[u8]) -> Vec<u8>, streamed: fn(&[u8], usize) -> Vec<u8>) {
     for kind in FileKind::ALL {
         for seed in 0..9 {
             let input = step_file(kind, seed, 3000);
-            let expected = replay::<Document01>(&input, &mut ());
+            let expected = expected(&input);
             for limit in [1, 7, 100, 5000, 65_535, 65_536, 1_000_000] {
                 let said = streamed(&input, limit);
                 assert!(said == expected, "{} seed {seed} pieces up to {limit}", kind.name());
@@ -47,12 +58,23 @@ fn pieces_of_any_size_are_played_alike() {
 }
 
 #[test]
+fn pieces_of_any_size_are_played_alike() {
+    check_pieces(|input| replay::<Document01>(input, &mut ()), streamed);
+}
+
+#[test]
+fn pieces_of_any_size_are_explained_alike() {
+    check_pieces(explained, explained_in_pieces);
+}
+
+#[test]
 fn lines_about_the_size_of_the_buffer_are_one_line_each() {
     for length in [65_535, 65_536, 65_537, 131_071, 131_072, 131_073, 400_000] {
         for line in [vec![b'7'; length], [b"OR 0 0".to_vec(), vec![b' '; length]].concat()] {
             let input = [&line[..], b"\nOR 0 0\n", &line].concat();
             let expected = "1 N 1\n2 G 1 0 1\n3 N 1\nfiles 1\n0 2 1 -\n";
             assert_eq!(streamed(&input, 1_000_000), expected.as_bytes(), "{length}");
+            assert_eq!(explained_in_pieces(&input, 1_000_000), explained(b"\nOR 0 0\nno step"), "{length}");
         }
     }
 }
@@ -108,11 +130,19 @@ fn a_first_line_set_comes_in_pieces() {
     assert_eq!(streamed(&long, 1_000_000), b"1 N 1\n2 N 1\nfiles 0\n");
 }
 
+const LINES: [&str; 3] = ["OR 0 0\n", "RD 0 0 0\n", "CR 0 0\n"];
+
 #[test]
 fn every_line_is_answered_before_more_is_read() {
     let said = RefCell::new(Vec::new());
-    let lines = ["OR 0 0\n", "RD 0 0 0\n", "CR 0 0\n"];
-    play::<Document01>(Dialogue { lines: lines.iter(), said: &said, asked: 0 }, Shared(&said))
+    play::<Document01>(Dialogue { lines: LINES.iter(), said: &said, asked: 0 }, Shared(&said))
         .expect("memory suffices");
     assert_eq!(said.into_inner(), b"1 G 1 0 1\n2 V 0\n3 K\nfiles 0\n");
+}
+
+#[test]
+fn every_line_is_explained_before_more_is_read() {
+    let said = RefCell::new(Vec::new());
+    explain(Dialogue { lines: LINES.iter(), said: &said, asked: 0 }, Shared(&said)).expect("memory suffices");
+    assert_eq!(said.into_inner(), explained(LINES.concat().as_bytes()));
 }

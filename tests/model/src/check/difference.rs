@@ -25,9 +25,9 @@ impl Difference {
     }
 }
 
-/// The bytes of a line, LF and all, in print and cut to a readable length.
+/// The bytes of a line, LF and all, in print and cut to a readable length, which any explained line has.
 pub fn shown(line: &[u8]) -> String {
-    const READABLE: usize = 100;
+    const READABLE: usize = 500;
     let cut = &line[..line.len().min(READABLE)];
     let rest = if line.len() > READABLE { format!(".. ({} bytes)", line.len()) } else { String::new() };
     format!("{}{rest}", cut.escape_ascii())

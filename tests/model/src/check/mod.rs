@@ -1,4 +1,5 @@
-//! What is checked beside a run: Demand 3, the invariant that carries it, and the counts of the summary.
+//! What is checked beside a run: Demand 3, the invariant that carries it, the counts of the summary, and what an
+//! explainer says of reads.
 
 mod behind;
 mod cuts;
@@ -6,6 +7,7 @@ mod demand3;
 mod difference;
 mod invariant;
 mod memory;
+mod provenance;
 mod table;
 mod tally;
 
@@ -17,6 +19,7 @@ pub use demand3::{Breach, Demand3};
 pub use difference::{Difference, shown};
 pub use invariant::{BrokenClause, CLAUSES, Invariant, broken_clauses};
 pub use memory::ReferenceMemory;
+pub use provenance::{Provenance, Unfounded};
 pub use table::{StateTable, TableEntry};
 pub use tally::Tally;
 

@@ -4,6 +4,7 @@ mod aim;
 mod closing;
 mod guided;
 mod malformed;
+mod resumed;
 mod rng;
 mod scene;
 mod session;
@@ -13,6 +14,7 @@ mod text;
 mod tide;
 
 use std::io::{Result, Write};
+use std::ops::Range;
 
 use guided::Guided;
 use malformed::Malformed;
@@ -22,6 +24,7 @@ use settings::{SettingsLines, WithSettings};
 use crate::{Service, Settings};
 
 pub use closing::closing_time;
+pub use resumed::resumed_run;
 pub use rng::Rng;
 
 #[derive(Clone, Copy, PartialEq, Eq, Debug)]
@@ -92,6 +95,12 @@ fn write_lines(author: &mut dyn Author, lines: usize, output: &mut impl Write) -
         offset += text.len();
     }
     Ok(())
+}
+
+/// Seeds as a command line gives them, `A..B`.
+pub fn seeds(text: &str) -> Option<Range<u64>> {
+    let (first, end) = text.split_once("..")?;
+    Some(first.parse().ok()?..end.parse().ok()?)
 }
 
 /// A step file in memory.

@@ -3,7 +3,7 @@
 use std::env::args;
 use std::ops::Range;
 
-use model::generate::FileKind;
+use model::generate::{FileKind, seeds};
 
 pub const USAGE: &str = "usage: differ --player PATH [--seeds A..B] [--lines N] [--kinds hot,wide,malformed,session]";
 
@@ -33,11 +33,6 @@ impl Options {
         options.player = player.ok_or("--player is missing")?;
         Ok(options)
     }
-}
-
-fn seeds(text: &str) -> Option<Range<u64>> {
-    let (first, end) = text.split_once("..")?;
-    Some(first.parse().ok()?..end.parse().ok()?)
 }
 
 fn kinds(text: &str) -> Option<Vec<FileKind>> {

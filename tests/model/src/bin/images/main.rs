@@ -49,6 +49,7 @@ use std::io::{Read, Write, stdin, stdout};
 use std::ops::Range;
 use std::process::ExitCode;
 
+use model::generate::seeds;
 use model::images::Judge;
 
 const USAGE: &str = "usage: images [--seeds A..B] --judge PROGRAM [WORD..] | images judge [FAULT] | images faults";
@@ -61,7 +62,7 @@ fn main() -> ExitCode {
     let words: Vec<&str> = words.iter().map(String::as_str).collect();
     match words[..] {
         ["--judge", program, ref words @ ..] => told(compare::with_program(program, words, SEEDS)),
-        ["--seeds", seeds, "--judge", program, ref words @ ..] => match range(seeds) {
+        ["--seeds", range, "--judge", program, ref words @ ..] => match seeds(range) {
             Some(seeds) => told(compare::with_program(program, words, seeds)),
             None => usage(),
         },
@@ -78,11 +79,6 @@ fn main() -> ExitCode {
 fn usage() -> ExitCode {
     eprintln!("{USAGE}");
     ExitCode::from(2)
-}
-
-fn range(text: &str) -> Option<Range<u64>> {
-    let (first, end) = text.split_once("..")?;
-    Some(first.parse().ok()?..end.parse().ok()?)
 }
 
 /// A summary, or what was found.

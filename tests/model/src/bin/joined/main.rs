@@ -12,6 +12,7 @@ use std::env::args;
 use std::ops::Range;
 use std::process::ExitCode;
 
+use model::generate::seeds;
 use runs::Player;
 use session::{Compared, Session};
 
@@ -28,10 +29,7 @@ fn options(words: &[&str]) -> Option<Options> {
     for pair in words.chunks(2) {
         match *pair {
             ["--player", path] => options.player = path.into(),
-            ["--seeds", seeds] => {
-                let (first, end) = seeds.split_once("..")?;
-                options.seeds = first.parse().ok()?..end.parse().ok()?;
-            }
+            ["--seeds", range] => options.seeds = seeds(range)?,
             ["--lines", lines] => options.lines = lines.parse().ok()?,
             _ => return None,
         }

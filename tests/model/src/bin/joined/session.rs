@@ -3,7 +3,7 @@
 use std::fmt;
 
 use model::check::Difference;
-use model::generate::{FileKind, closing_time, session_from, step_file};
+use model::generate::{FileKind, closing_time, resumed_run, step_file};
 use model::images::written;
 use model::{Document01, Service, replay, replay_from};
 
@@ -36,7 +36,7 @@ impl Session {
         let sizes = service.sizes();
         let mut entries = service.server.entries[..sizes.files].iter();
         let leaves_nothing = entries.all(|entry| entry.last_writer.read(sizes).is_none());
-        let second = second_part(&mut service, seed, lines);
+        let second = resumed_run(&mut service, seed, lines);
         let first = [&begun[..], &closing].concat();
         let name = format!("{} seed {seed} lines {lines}", kind.name());
         Session { name, seed, begun, image_begun, first, image, second, leaves_nothing }
@@ -93,18 +93,6 @@ impl Session {
         }
         Ok(reads)
     }
-}
-
-/// The reports and the end, and after them a session up to its close; in one of three a line SET, which is no step,
-/// comes first.
-fn second_part(service: &mut Service, seed: u64, lines: usize) -> Vec<u8> {
-    let mut text = if seed.is_multiple_of(3) { "SET 8 32 4\n".to_string() } else { String::new() };
-    text.extend((0..service.sizes().clients).map(|client| format!("RP {client}\n")));
-    text.push_str("EN\n");
-    replay_from::<Document01>(service, &[b"XX\n", text.as_bytes()].concat(), &mut ());
-    let session = session_from(service.clone(), seed, lines);
-    replay_from::<Document01>(service, &session, &mut ());
-    [text.into_bytes(), session, closing_time(service)].concat()
 }
 
 fn lines(text: &[u8]) -> Vec<&[u8]> {

@@ -1,0 +1,122 @@
+// What the arguments ask for, and how it is done. All arguments are looked at before anything is played.
+use crate::errors::refuse_image_option;
+use crate::errors::refuse_long;
+use crate::errors::refuse_option;
+use crate::help::print_help;
+use crate::help::print_version;
+use crate::inputs::Images;
+use crate::inputs::play_file;
+use crate::inputs::play_stdin;
+use crate::options::Act;
+use crate::options::Argument;
+use crate::options::Request;
+use crate::options::argument_of;
+
+// Runs `explain`, or else `play`. They differ in their name, in what they print of a line, and in what they print at
+// the end. A program calls this with a constant, and as a bool the compiler follows it everywhere and leaves the other
+// program's loop out; an enum it does not follow, and with both loops in it `play` takes a seventh more instructions.
+pub fn run(explaining: bool) {
+    let count = os::arg_count();
+    let request = request_of(explaining, count);
+    let images = Images {
+        read: request.read,
+        written: request.written,
+    };
+    let act = request.act(count);
+    match act {
+        Act::Nothing => {}
+        Act::RefuseName { writing } => refuse_image_option(explaining, writing, b"no file name"),
+        Act::PrintHelp => print_help(explaining),
+        Act::PrintVersion => print_version(explaining),
+        Act::RefuseInputs { writing } => refuse_image_option(
+            explaining,
+            writing,
+            b"more than one input",
+        ),
+        Act::PlayStdin => {
+            play_stdin(explaining, false, images);
+        }
+        Act::PlayNames { headed } => play_names(explaining, count, headed, images),
+    }
+}
+
+// What the arguments ask for. Argument 0 is the program's own name.
+fn request_of(explaining: bool, count: usize) -> Request {
+    let mut request = Request::new();
+    let mut i = 1;
+    while i < count {
+        let next = i + 1;
+        request = with_argument(explaining, i, next, request);
+        i = next;
+    }
+    request
+}
+
+// The request with argument i; one that is not understood is told of.
+fn with_argument(explaining: bool, i: usize, next: usize, request: Request) -> Request {
+    let mut text = io::buffer();
+    let length = os::arg(i, &mut text);
+    if os::errno() != 0 {
+        refuse_long(explaining, i);
+        return request.with(Argument::Unknown, next);
+    }
+    let argument = argument_of(&text[..length], i, request);
+    if let Argument::Unknown = argument {
+        refuse_option(explaining, &text[..length], b"unknown option");
+    }
+    if let Argument::NoName = argument {
+        refuse_option(explaining, &text[..length], b"no file name");
+    }
+    if let Argument::Repeated = argument {
+        refuse_option(explaining, &text[..length], b"given twice");
+    }
+    request.with(argument, next)
+}
+
+// What stands between two arguments: what those so far ask for, and whether standard output takes more.
+struct Standing {
+    request: Request,
+    writes: bool,
+}
+
+// Plays each input that an argument names, until standard output fails.
+fn play_names(explaining: bool, count: usize, headed: bool, images: Images) {
+    let mut standing = Standing {
+        request: Request::new(),
+        writes: true,
+    };
+    let mut i = 1;
+    while i < count {
+        let next = i + 1;
+        standing = play_argument(explaining, i, next, standing.request, headed, images);
+        if !standing.writes {
+            return;
+        }
+        i = next;
+    }
+}
+
+// Plays what argument i names.
+fn play_argument(
+    explaining: bool,
+    i: usize,
+    next: usize,
+    request: Request,
+    headed: bool,
+    images: Images,
+) -> Standing {
+    let mut text = io::buffer();
+    let length = os::arg(i, &mut text);
+    let argument = argument_of(&text[..length], i, request);
+    let mut standing = Standing {
+        request: request.with(argument, next),
+        writes: true,
+    };
+    if let Argument::Name = argument {
+        standing.writes = play_file(explaining, &text[..length], headed, images);
+    }
+    if let Argument::Stdin = argument {
+        standing.writes = play_stdin(explaining, headed, images);
+    }
+    standing
+}

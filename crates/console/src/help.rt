@@ -1,0 +1,102 @@
+// What `--help` and `--version` print.
+use crate::errors::fail_output;
+use crate::errors::write_name;
+use libc::STDOUT_FILENO;
+
+pub fn print_version(explaining: bool) {
+    if !(write_name(explaining, STDOUT_FILENO) && io::write_all(STDOUT_FILENO, b" 0.1.0\n")) {
+        fail_output(explaining);
+    }
+}
+
+pub fn print_help(explaining: bool) {
+    if !(write_purpose(explaining) && write_options() && write_lines() && write_end(explaining)) {
+        fail_output(explaining);
+    }
+}
+
+// Each of these writes a part of the help, and answers whether standard output took it.
+fn write_purpose(explaining: bool) -> bool {
+    if explaining {
+        return io::write_all(
+            STDOUT_FILENO,
+            b"Usage: explain [--help] [--version] [--read-image IMAGE] [--write-image IMAGE]\n\
+              \x20              [--] [FILE..]\n\
+              \n\
+              Plays step files, and says of every line what happened. Each FILE is played on a\n\
+              fresh file service: every line gets its reply, as play prints it, and after four\n\
+              spaces a sentence; a picture of the service comes last. With no FILE, or where\n\
+              FILE is -, standard input is played.\n\
+              \n",
+        );
+    }
+    io::write_all(
+        STDOUT_FILENO,
+        b"Usage: play [--help] [--version] [--read-image IMAGE] [--write-image IMAGE]\n\
+          \x20           [--] [FILE..]\n\
+          \n\
+          Plays step files. Each FILE is played on a fresh file service: every line gets a\n\
+          reply, and a summary of the service's files comes last. With no FILE, or where\n\
+          FILE is -, standard input is played.\n\
+          \n",
+    )
+}
+
+fn write_options() -> bool {
+    io::write_all(
+        STDOUT_FILENO,
+        b"\x20 --help                 print this text, and play nothing\n\
+          \x20 --version              print the version, and play nothing\n\
+          \x20 --read-image IMAGE     begin with the server whose image this file has, in\n\
+          \x20                        recovery, and with no first line SET\n\
+          \x20 --write-image IMAGE    at the end, put the image of the server into this file\n\
+          \x20 --                     end the options: what follows are names of files\n\
+          With an image, at most one FILE is played.\n\
+          \n",
+    )
+}
+
+fn write_lines() -> bool {
+    io::write_all(
+        STDOUT_FILENO,
+        b"Steps, one to a line. C is a client, F a file, B a block, V a value:\n\
+          \x20 OR C F      open for reading        OW C F      open for writing\n\
+          \x20 CR C F      close for reading       CW C F      close for writing\n\
+          \x20 RD C F B    read a block            WR C F B V  write a block\n\
+          \x20 FL C F B    flush a dirty block     AN C F      answer a callback\n\
+          \x20 XX          crash the server        RP C        report after a crash\n\
+          \x20 EN          end the recovery\n\
+          As the first line, for other sizes than 8 clients, 32 files and 4 blocks:\n\
+          \x20 SET N F B   N clients, F files, B blocks in each: at most 8, 64 and 8\n\
+          \n\
+          Replies, each after the number of its line:\n\
+          \x20 G LATEST PREVIOUS PERMISSION         the open is granted\n\
+          \x20 W C:KIND ..                          the open waits for these callbacks:\n\
+          \x20                                      1 write-back, 2 invalidate, 3 both\n\
+          \x20 A [C LATEST PREVIOUS PERMISSION]     answered; if it was the last answer, the\n\
+          \x20                                      open of client C is granted\n\
+          \x20 V VALUE                              the value read\n\
+          \x20 K                                    done\n\
+          \x20 N NUMBER                             refused, and why\n\
+          \n",
+    )
+}
+
+fn write_end(explaining: bool) -> bool {
+    if explaining {
+        return io::write_all(
+            STDOUT_FILENO,
+            b"A sentence calls a client a station. Picture: whether the server runs, the files\n\
+              with the stations that have them open or hold blocks, and the refusals counted.\n\
+              \n\
+              Errors go to standard error. docs/STEPFILE.md is the manual, and docs/EXPLAIN.md\n\
+              has the sentences.\n",
+        );
+    }
+    io::write_all(
+        STDOUT_FILENO,
+        b"Summary: `files` and a count, then for each file F STATE VERSION LAST-WRITER.\n\
+          \n\
+          Errors go to standard error. docs/STEPFILE.md is the manual.\n",
+    )
+}

@@ -1,0 +1,76 @@
+// The inputs: standard input and named files, each played from its start to its end.
+use crate::errors::fail;
+use crate::errors::fail_output;
+use crate::explaining::explain;
+use crate::explaining::explainer_from;
+use crate::images::Start;
+use crate::images::save;
+use crate::images::start_of;
+use crate::playing::play;
+use crate::playing::player_from;
+use crate::turns::End;
+use libc::STDERR_FILENO;
+use libc::STDIN_FILENO;
+
+// The places of the arguments that name the image to begin with and the image to write at the end; 0: there is none.
+pub struct Images {
+    pub read: usize,
+    pub written: usize,
+}
+
+// Each of these answers whether standard output took what was played.
+pub fn play_file(explaining: bool, path: &[u8], headed: bool, images: Images) -> bool {
+    if headed {
+        print_heading(path);
+    }
+    let fd = os::open_read(path);
+    if fd < 0 {
+        fail(explaining, path);
+        return true;
+    }
+    let writes = play_input(explaining, fd, path, images);
+    libc::close(fd);
+    writes
+}
+
+pub fn play_stdin(explaining: bool, headed: bool, images: Images) -> bool {
+    let name = b"standard input";
+    if headed {
+        print_heading(name);
+    }
+    play_input(explaining, STDIN_FILENO, name, images)
+}
+
+// A read or a write that fails is told of. The image of the end is written only if the input was played to its end.
+fn play_input(explaining: bool, fd: i32, name: &[u8], images: Images) -> bool {
+    let start = start_of(explaining, images.read);
+    if !start.found {
+        return true;
+    }
+    let end = play_from(explaining, start, fd);
+    let service = end.service;
+    if !end.reads {
+        fail(explaining, name);
+    }
+    if !end.writes {
+        fail_output(explaining);
+    }
+    if end.writes & end.done & (images.written != 0) {
+        save(explaining, service, images.written);
+    }
+    end.writes
+}
+
+fn play_from(explaining: bool, start: Start, fd: i32) -> End {
+    if explaining {
+        return explain(explainer_from(start), fd);
+    }
+    play(player_from(start), fd)
+}
+
+// Which input comes now, on standard error: standard output has the replies alone.
+fn print_heading(name: &[u8]) {
+    io::write_all(STDERR_FILENO, b"==> ");
+    io::write_all(STDERR_FILENO, name);
+    io::write_all(STDERR_FILENO, b" <==\n");
+}

@@ -1,0 +1,2 @@
+-- What explaining a buffer of lines leaves.
+pub mod Lines

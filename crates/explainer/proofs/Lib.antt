@@ -1,0 +1,2 @@
+-- The theorem of the explainer's whole run.
+pub mod Run

@@ -1,0 +1,3 @@
+-- The laws behind the functions that write the picture, and examples of it.
+pub mod Parts
+pub mod Examples

@@ -1,0 +1,161 @@
+-- The texts of the picture, as the functions put them together. They look at the flags of the copies only, so the
+-- other stores are empty. Assumes nothing.
+use Prim.Native.Nat.{ℕ, zero, suc, _+_, _%_, _≤_, _<_}
+use mathlib.Core.Path.{_≡_, refl, sym, _∙_, ap}
+use mathlib.Core.Bool.{Bool, false, cond, not, _||_}
+use mathlib.Core.List.{List, [], _++_}
+use native.Mathlib.Numerals.{add-one}
+use native.Mathlib.Omega.{arith}
+use lib.Dec.{eqb, ltb}
+use lib.ListN.{getD, replicate}
+use borrow.Author.Tests.{lt-ltb, ne-eqb}
+use Rattle.records.specs.Record.{isOpen}
+use Rattle.decision.specs.declared.sizes.Sizes.{Sizes}
+use Rattle.decision.specs.Sizes.{maxClients, maxFiles, maxBlocks, firstCell}
+use Rattle.decision.specs.Lists.{count, stored}
+use Rattle.decision.proofs.Storing.{getD-stored}
+use Rattle.protocol.specs.declared.client.ClientFile.{ClientFile}
+use Rattle.protocol.specs.declared.client.Sides.{Sides}
+use Rattle.protocol.specs.declared.entry.Entry.{Entry}
+use Rattle.blocks.specs.Stores.{lent}
+use Rattle.blocks.proofs.Wrapped.{wrapped-cell}
+use Rattle.table.specs.TableStep.{entryOf, sidesIn}
+use Rattle.service.specs.Contents.{sizesOf, tableIn, entryAt, sidesAt}
+use Rattle.stepfile.specs.Summary.{isListed}
+use Rattle.ledger.specs.Ledger.{waitingSince}
+use Rattle.ledger.specs.Refusals.{timesRefused}
+use Rattle.sentences.specs.declared.annotated.Annotated.{Annotated}
+use Rattle.sentences.specs.Phrase.{listText}
+use Rattle.sentences.proofs.Lists.{list-agree}
+use Rattle.picture.specs.Picture.{isConcerned, concerned, isPictured, stationIfText, stationsText}
+use Rattle.picture.specs.Picture.{headText, waitIfText, fileIfText, filesText, refusedText, timesText}
+
+-- one or more
+pub some : (n : ℕ) → ltb 0 n ≡ not (eqb n 0)
+some zero = refl
+some (suc n) = lt-ltb 0 (suc n) (omega arith) ∙ ap not (sym (ne-eqb (suc n) 0 (λ e. omega (arith, e))))
+
+-- base is where client i's copies of file f begin
+module _ (i f base : ℕ) (hi : i < maxClients) (hf : f < maxFiles)
+    (is : base ≡ firstCell (i % maxClients) (f % maxFiles)) where
+  first : base ≡ firstCell i f
+  first = is ∙ wrapped-cell i f hi hf
+
+  -- the flags of the blocks, as a list of them
+  pub list-there :
+      (n : ℕ) (flags : List Bool)
+      → listText n (λ b. getD flags (base + b) false) ≡ listText n (λ b. getD flags (firstCell i f + b) false)
+  list-there n flags = ap (λ k. listText n (λ b. getD flags (k + b) false)) first
+
+  -- whether the file concerns the client
+  pub concerned-by :
+      (z : Sizes) (held : List Bool) (own : ClientFile) (any : Bool) (blocks : ℕ)
+      → any ≡ isOpen (own .opens)
+      → blocks ≡ count (z .blocks) (λ b. getD held (base + b) false)
+      → (any || ltb 0 blocks) ≡ isConcerned z (lent [] [] held []) own i f
+  concerned-by z held own any blocks opens counts =
+      let there : blocks ≡ count (z .blocks) (λ b. getD held (firstCell i f + b) false) =
+      counts ∙ ap (λ k. count (z .blocks) (λ b. getD held (k + b) false)) first in
+      ap (λ x. x || ltb 0 blocks) opens
+      ∙ ap (λ x. isOpen (own .opens) || x) (some blocks ∙ ap (λ k. not (eqb k 0)) there)
+
+-- the flags of a file's blocks, copied out, are told as they stand among all
+pub list-copied :
+    (n base : ℕ) (flags found : List Bool)
+    → n ≤ maxBlocks
+    → found ≡ stored maxBlocks (λ b. b) (λ b. getD flags (base + b) false) (replicate maxBlocks false)
+    → listText n (λ b. getD found b false) ≡ listText n (λ b. getD flags (base + b) false)
+list-copied n base flags found h is =
+    list-agree (λ b. getD found b false) (λ b. getD flags (base + b) false) n
+    (λ b below.
+    ap (λ l. getD l b false) is
+    ∙ getD-stored 8 (λ k. k) (λ k. getD flags (base + k) false) (replicate 8 false) false b (omega arith) (omega arith)
+    (λ k later past. omega arith))
+
+-- whether a file is told
+pub pictured-by :
+    (z : Sizes) (held : List Bool) (sides : Sides) (e : Entry) (f : ℕ) (listed : Bool) (stations : ℕ)
+    → listed ≡ isListed (z .clients) e
+    → stations ≡ concerned z (lent [] [] held []) sides f
+    → (listed || ltb 0 stations) ≡ isPictured z (lent [] [] held []) sides e f
+pictured-by z held sides e f listed stations is counts =
+    ap (λ x. x || ltb 0 stations) is
+    ∙ ap (λ x. isListed (z .clients) e || x) (some stations ∙ ap (λ k. not (eqb k 0)) counts)
+
+-- one client more
+pub stations-next :
+    (z : Sizes) (held dirty : List Bool) (sides : Sides) (f n : ℕ)
+    → let a = lent [] [] held dirty in
+    stationsText z a sides f (n + 1) ≡ stationsText z a sides f n ++ stationIfText z a sides n f
+unfolding stationsText
+stations-next z held dirty sides f n = rw (add-one n)
+
+-- the other stores are not looked at
+stations-flags :
+    (z : Sizes) (blocks copies : List ℕ) (held dirty : List Bool) (sides : Sides) (f n : ℕ)
+    → stationsText z (lent blocks copies held dirty) sides f n ≡ stationsText z (lent [] [] held dirty) sides f n
+unfolding stationsText
+stations-flags z blocks copies held dirty sides f zero = refl
+stations-flags z blocks copies held dirty sides f (suc n) =
+    ap (λ t. t ++ stationIfText z (lent [] [] held dirty) sides n f)
+    (stations-flags z blocks copies held dirty sides f n)
+
+-- one number more
+pub times-next :
+    (counts : List ℕ) (k : ℕ) → timesText counts (k + 1) ≡ timesText counts k ++ refusedText k (timesRefused counts k)
+unfolding timesText
+times-next counts k = rw (add-one k)
+
+-- the files below k, from the parts of the service and the ledger that they look at
+unfoldable pub filesFrom : Sizes → List Entry → List Sides → List Bool → List Bool → List ℕ → ℕ → List ℕ
+filesFrom z entries clients held dirty waiting zero = []
+filesFrom z entries clients held dirty waiting (suc k) =
+    filesFrom z entries clients held dirty waiting k
+    ++ fileIfText z (lent [] [] held dirty) (sidesIn clients k) (entryOf entries k) k (getD waiting k 0)
+
+pub files-next :
+    (z : Sizes) (entries : List Entry) (clients : List Sides) (held dirty : List Bool) (waiting : List ℕ) (k : ℕ)
+    → filesFrom z entries clients held dirty waiting (k + 1)
+    ≡ filesFrom z entries clients held dirty waiting k
+    ++ fileIfText z (lent [] [] held dirty) (sidesIn clients k) (entryOf entries k) k (getD waiting k 0)
+unfolding filesFrom
+files-next z entries clients held dirty waiting k = rw (add-one k)
+
+-- they are those of the whole
+module _ (t : Annotated) where
+  abbrev from : ℕ → List ℕ
+  from k =
+      let s = t .service in
+      filesFrom (sizesOf s) (tableIn s .files) (s .clients) (s .held) (s .dirty) (t .ledger .waiting) k
+
+  files-from : (k : ℕ) → from k ≡ filesText t k
+  unfolding filesFrom filesText
+  files-from zero = refl
+  files-from (suc k) =
+      let s = t .service in
+      let z = sizesOf s in
+      let e = entryAt s k in
+      let sides = sidesAt s k in
+      let since = waitingSince (t .ledger) k in
+      let a = lent [] [] (s .held) (s .dirty) in
+      ap (λ text. text ++ fileIfText z a sides e k since) (files-from k)
+      ∙ ap
+      (λ text.
+      filesText t k
+      ++ cond (isPictured z a sides e k)
+      (headText (z .clients) e k ++ (text ++ waitIfText (z .clients) e k since))
+      [])
+      (sym (stations-flags z (s .server .blocks) (s .copies) (s .held) (s .dirty) sides k (z .clients)))
+
+  pub files-all :
+      (z : Sizes) (k : ℕ)
+      → z ≡ sizesOf (t .service)
+      → k ≡ z .files
+      → let s = t .service in
+      filesFrom z (tableIn s .files) (s .clients) (s .held) (s .dirty) (t .ledger .waiting) k
+      ≡ filesText t (sizesOf s .files)
+  files-all z k is all =
+      let s = t .service in
+      ap (λ x. filesFrom x (tableIn s .files) (s .clients) (s .held) (s .dirty) (t .ledger .waiting) k) is
+      ∙ files-from k
+      ∙ ap (filesText t) (all ∙ ap (λ x. x .files) is)

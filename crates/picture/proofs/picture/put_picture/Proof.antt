@@ -1,0 +1,71 @@
+-- `put_picture` meets its contract: its parts, one after the other. Assumes nothing.
+use mathlib.Core.Path.{ap}
+use native.Mathlib.Omega.{arith}
+use Rattle.writer.proofs.Buffers.{wrote-then, wrote-as}
+use Rattle.picture.specs.Picture.{serverText, pictureText}
+use borrow.Author.Needs.{needs}
+use Rattle.picture.proofs.picture.put_picture.Statement.{statement}
+use Rattle.picture.proofs.picture.put_picture.Tie as tie
+
+in-force-requires : tie.Need-in-force-requires
+in-force-requires c κs = search needs
+
+put-server-requires : tie.Need-put-server-requires
+put-server-requires c κs =
+    let at-in-force = c .before .before .before in
+    let start = at-in-force .before .before .before .before in
+    (at-in-force .in-force .ensures .1 .clients, omega (arith, start .pre))
+
+put-files-requires : tie.Need-put-files-requires
+put-files-requires c κs =
+    let at-put-server = c .before .before .before in
+    let start = at-put-server .before .before .before .before .before .before .before .before in
+    omega (arith, start .pre, at-put-server .put-server .ensures .1, at-put-server .put-server .kept .0)
+
+put-refusals-requires : tie.Need-put-refusals-requires
+put-refusals-requires c κs =
+    let at-put-files = c .before .before .before .before in
+    let at-put-server = at-put-files .before .before .before .before in
+    let start = at-put-server .before .before .before .before .before .before .before .before in
+    omega (
+      arith,
+      start .pre,
+      at-put-server .put-server .ensures .1,
+      at-put-server .put-server .kept .0,
+      at-put-files .put-files .ensures .1,
+      at-put-files .put-files .kept .0,
+    )
+
+same-length : tie.Need-same-length
+same-length c = search needs
+
+returns : tie.Need-returns
+unfolding pictureText
+returns c =
+    let at-put-refusals = c .before .before in
+    let at-put-files = at-put-refusals .before .before .before .before .before in
+    let at-put-server = at-put-files .before .before .before .before in
+    let at-in-force = at-put-server .before .before .before .before in
+    let start = at-in-force .before .before .before .before in
+    let is = at-in-force .in-force .ensures .0 in
+    let server = ap (λ z. serverText z (start .args .state .service .server .table)) is in (
+      wrote-then (wrote-as server (at-put-server .put-server .ensures .0))
+          (wrote-then (at-put-files .put-files .ensures .0) (at-put-refusals .put-refusals .ensures .0)),
+      omega (
+        arith,
+        at-put-server .put-server .ensures .1,
+        at-put-files .put-files .ensures .1,
+        at-put-refusals .put-refusals .ensures .1,
+      ),
+    )
+
+pub put-picture-spec : {M : Type 1} → statement M
+put-picture-spec =
+    tie.close
+    (tie.spec
+    in-force-requires
+    put-server-requires
+    put-files-requires
+    put-refusals-requires
+    same-length
+    returns)

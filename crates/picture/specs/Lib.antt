@@ -1,0 +1,2 @@
+-- What is told of the service at the end.
+pub mod Picture

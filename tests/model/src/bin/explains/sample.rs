@@ -1,0 +1,104 @@
+//! The files that are explained: those of the differential run, and runs that go on from an image.
+
+use model::check::Cuts;
+use model::explain::{Distortion, distorted, explained_from};
+use model::generate::{FileKind, closing_time, resumed_run, step_file};
+use model::images::written;
+use model::{Document01, Service, play_on, replay, replay_from};
+
+#[derive(Clone, Copy)]
+pub enum Kind {
+    Fresh(FileKind),
+    /// The run begins with an image.
+    Resumed,
+}
+
+impl Kind {
+    pub const ALL: [Kind; 5] = [
+        Kind::Fresh(FileKind::Hot),
+        Kind::Fresh(FileKind::Wide),
+        Kind::Fresh(FileKind::Malformed),
+        Kind::Fresh(FileKind::Session),
+        Kind::Resumed,
+    ];
+
+    pub fn name(self) -> &'static str {
+        match self {
+            Kind::Fresh(kind) => kind.name(),
+            Kind::Resumed => "resumed",
+        }
+    }
+
+    pub fn named(name: &str) -> Option<Self> {
+        Kind::ALL.into_iter().find(|kind| kind.name() == name)
+    }
+}
+
+/// A step file, and the image with which the run begins, if it begins with one.
+pub struct Sample {
+    pub name: String,
+    pub seed: u64,
+    pub input: Vec<u8>,
+    pub image: Option<Vec<u8>>,
+}
+
+impl Sample {
+    pub fn of(kind: Kind, seed: u64, lines: usize) -> Self {
+        let name = format!("{} seed {seed} lines {lines}", kind.name());
+        match kind {
+            Kind::Fresh(kind) => Sample { name, seed, input: step_file(kind, seed, lines), image: None },
+            Kind::Resumed => {
+                let (image, input) = resumed(seed, lines);
+                Sample { name, seed, input, image: Some(image) }
+            }
+        }
+    }
+
+    /// The file cut short, so that the picture shows the service halfway: as the differential run does it, and of a
+    /// resumed run in its recovery.
+    pub fn cut_short(&self) -> Vec<Sample> {
+        let inputs = match self.image {
+            None => {
+                let mut cuts = Cuts::default();
+                replay::<Document01>(&self.input, &mut cuts);
+                cuts.of(&self.input).into_iter().map(<[u8]>::to_vec).collect()
+            }
+            Some(_) => vec![self.input.split_inclusive(|&byte| byte == b'\n').take(3).flatten().copied().collect()],
+        };
+        let name = format!("{} cut short", self.name);
+        let cut = |input| Sample { name: name.clone(), seed: self.seed, input, image: self.image.clone() };
+        inputs.into_iter().map(cut).collect()
+    }
+
+    /// What the model's explainer says.
+    pub fn explained(&self) -> Vec<u8> {
+        explained_from(self.service(), self.image.is_some(), &self.input)
+    }
+
+    pub fn distorted(&self, distortion: &mut dyn Distortion) -> Vec<u8> {
+        distorted(self.service(), self.image.is_some(), &self.input, distortion)
+    }
+
+    /// What the model's player says.
+    pub fn played(&self) -> Vec<u8> {
+        let mut output = Vec::new();
+        play_on::<Document01>(self.service(), self.image.is_some(), &self.input[..], &mut output)
+            .expect("a vector takes every byte");
+        output
+    }
+
+    fn service(&self) -> Service {
+        let resumed = |image: &Vec<u8>| Service::resumed(image).expect("the model wrote the image");
+        self.image.as_ref().map_or_else(Service::fresh, resumed)
+    }
+}
+
+/// The image that a session, hot or wide file leaves once every client has closed and flushed, and the next run.
+fn resumed(seed: u64, lines: usize) -> (Vec<u8>, Vec<u8>) {
+    let kind = [FileKind::Session, FileKind::Hot, FileKind::Wide][seed as usize % 3];
+    let mut service = Service::fresh();
+    replay_from::<Document01>(&mut service, &step_file(kind, seed, lines), &mut ());
+    closing_time(&mut service);
+    let image = written(&service).expect("no open waits, and no recovery is under way");
+    (image, resumed_run(&mut service, seed, lines))
+}

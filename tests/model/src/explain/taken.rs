@@ -1,0 +1,109 @@
+//! A step taken by the service, and what is told of it.
+
+use super::{Book, Granted, Opening, Place, Reading, Reason, Source, Told};
+use crate::{Outcome, Rules, Service, State, Step, WaitingOpen};
+
+/// The documents' rules, compiled apart: the player's are inlined where they have no second caller. What both call is
+/// marked for that.
+struct Apart;
+
+impl Rules for Apart {}
+
+/// Takes the step. The book has the lines before it.
+pub fn take(service: &mut Service, book: &Book, step: &Step) -> (Outcome, Told) {
+    if let Some(refusal) = service.refusal(step) {
+        return (Outcome::Refused(refusal), Told::Refused(Reason::of(service, book, step, refusal)));
+    }
+    // An accepted step names what is there: its numbers fit.
+    let found = Found::by(step, service, book);
+    let outcome = service.take::<Apart>(step);
+    let told = found.told(service, &outcome);
+    (outcome, told)
+}
+
+/// What an accepted step finds before it is taken, as far as it is told.
+enum Found {
+    /// The file's state and the label of the opener's copy.
+    Open { opening: Opening, state: State, label: u32 },
+    /// The open that waits, and the label of the opener's copy.
+    Reply { client: usize, opening: Opening, label: u32 },
+    /// All that is told, found before the step.
+    Whole(Told),
+}
+
+impl Found {
+    fn by(step: &Step, service: &Service, book: &Book) -> Self {
+        match *step {
+            Step::Open { mode, client, file } => {
+                let opening = Opening { client: client as usize, file: file as usize, mode };
+                let state = State::of(service.sizes(), &service.server.entries[opening.file]);
+                Found::Open { opening, state, label: label(service, opening) }
+            }
+            Step::Reply { client, file } => {
+                let open = waiting(service, file as usize);
+                let opening = Opening { client: open.opener, file: file as usize, mode: open.mode };
+                Found::Reply { client: client as usize, opening, label: label(service, opening) }
+            }
+            Step::Close { mode, client, file } => {
+                Found::Whole(Told::Closed(Opening { client: client as usize, file: file as usize, mode }))
+            }
+            Step::Read { client, file, block } => {
+                let place = place(client, file, block);
+                let reading = Reading { place, source: source(service, book, place), origin: book.origin(place) };
+                Found::Whole(Told::Read(reading))
+            }
+            Step::Write { client, file, block, value } => {
+                let place = place(client, file, block);
+                let in_copy = service.clients[place.client].files[place.file].record.may_cache;
+                Found::Whole(Told::Written { place, value, in_copy })
+            }
+            Step::Flush { client, file, block } => Found::Whole(Told::Flushed(place(client, file, block))),
+            Step::Crash => Found::Whole(Told::Crashed),
+            Step::Report { client } => Found::Whole(Told::Reported { client: client as usize }),
+            Step::End => Found::Whole(Told::Ended),
+        }
+    }
+
+    /// What is told of the step, given the service that it leaves.
+    fn told(self, service: &Service, outcome: &Outcome) -> Told {
+        match (self, outcome) {
+            (Found::Open { opening, label, .. }, Outcome::Granted(grant)) => {
+                Told::Granted(Granted::of(opening, label, grant))
+            }
+            (Found::Open { opening, state, .. }, Outcome::Waits(callbacks)) => {
+                Told::Waits { opening, state, callbacks: *callbacks }
+            }
+            (Found::Reply { client, opening, label }, Outcome::Replied { sent, granted: Some((_, grant)) }) => {
+                Told::AnsweredLast { client, sent: *sent, granted: Granted::of(opening, label, grant) }
+            }
+            (Found::Reply { client, opening: Opening { file, .. }, .. }, Outcome::Replied { sent, granted: None }) => {
+                Told::Answered { client, file, sent: *sent, still: waiting(service, file).callbacks.clients() }
+            }
+            (Found::Whole(told), _) => told,
+            (_, outcome) => unreachable!("an open or a callback reply with the outcome {outcome:?}"),
+        }
+    }
+}
+
+/// The open of which a callback is out.
+fn waiting(service: &Service, file: usize) -> WaitingOpen {
+    service.server.entries[file].waiting.read(service.sizes()).expect("a callback is out while an open waits")
+}
+
+fn place(client: u64, file: u64, block: u64) -> Place {
+    Place { client: client as usize, file: file as usize, block: block as usize }
+}
+
+fn label(service: &Service, Opening { client, file, .. }: Opening) -> u32 {
+    service.clients[client].files[file].cached_version
+}
+
+/// "Its own copy" is told if the client may cache and holds the block.
+fn source(service: &Service, book: &Book, place: Place) -> Source {
+    let file = &service.clients[place.client].files[place.file];
+    match (file.record.may_cache, file.copies.held[place.block]) {
+        (true, true) => Source::OwnCopy { dirty: file.copies.dirty[place.block], since: book.copied(place) },
+        (true, false) => Source::Fetched,
+        (false, _) => Source::Server,
+    }
+}

@@ -1,0 +1,280 @@
+//! What is told, in the words of docs/EXPLAIN.md.
+
+use super::{CopyAtGrant, Granted, Opening, Origin, Place, Reading, Reason, Source, Told, Waiting};
+use crate::text::Text;
+use crate::{CLIENTS, Callbacks, ClientSet, Kind, Mode, Sizes};
+
+impl Text<'_> {
+    /// The sentence of a line.
+    pub fn told(&mut self, told: &Told) {
+        match told {
+            Told::Read(reading) => self.read(reading),
+            Told::Granted(granted) => self.granted(granted),
+            Told::Waits { opening, state, callbacks } => {
+                self.waits(opening);
+                self.words(", which is ");
+                self.words(state.name());
+                self.called(*callbacks);
+            }
+            Told::Answered { client, file, sent, still } => {
+                self.answers(*client, *file, *sent);
+                self.still_to_answer(*still);
+            }
+            Told::AnsweredLast { client, sent, granted } => {
+                self.answers(*client, granted.opening.file, *sent);
+                self.words("; ");
+                self.granted(granted);
+            }
+            Told::Closed(Opening { client, file, mode }) => {
+                self.station(*client);
+                self.words(" closes");
+                self.file(*file);
+                self.mode(*mode);
+            }
+            Told::Written { place, in_copy, .. } => {
+                self.station(place.client);
+                self.words(" writes");
+                self.block(*place);
+                self.words(if *in_copy { " in its copy" } else { " at the server" });
+            }
+            Told::Flushed(place) => {
+                self.station(place.client);
+                self.words(" sends");
+                self.block(*place);
+                self.words(" to the server");
+            }
+            Told::Crashed => self.words("the server crashes; every station has to report"),
+            Told::Reported { client } => {
+                self.station(*client);
+                self.words(" reports what it has open");
+            }
+            Told::Ended => self.words("the recovery ends"),
+            Told::Set(Sizes { clients, files, blocks }) => {
+                self.words("the service has ");
+                self.count(*clients);
+                self.words(" stations, ");
+                self.count(*files);
+                self.words(" files of ");
+                self.count(*blocks);
+                self.words(" blocks");
+            }
+            Told::Refused(reason) => self.reason(reason),
+        }
+    }
+
+    fn read(&mut self, reading: &Reading) {
+        self.station(reading.place.client);
+        self.byte(b',');
+        self.block(reading.place);
+        match reading.source {
+            Source::OwnCopy { dirty, since } => {
+                self.words(": from its own copy");
+                if dirty {
+                    self.words(", dirty");
+                }
+                self.words(", since line ");
+                self.number(since);
+            }
+            Source::Fetched | Source::Server => self.words(": from the server"),
+        }
+        match reading.origin {
+            Origin::Written(written) => {
+                self.words("; written by ");
+                self.station(written.client);
+                self.words(" at line ");
+                self.number(written.line);
+            }
+            Origin::NeverWritten => self.words("; never written"),
+            Origin::Image => self.words("; as the image has it"),
+        }
+    }
+
+    fn granted(&mut self, granted: &Granted) {
+        self.has_open(&granted.opening);
+        self.words(" at version ");
+        self.number(granted.version.into());
+        self.words(" and ");
+        self.permission(granted.may_cache);
+        match granted.copy {
+            CopyAtGrant::None => self.words("; it had no copy"),
+            CopyAtGrant::Kept(version) => self.copy_is(version, "kept"),
+            CopyAtGrant::Dropped(version) => self.copy_is(version, "dropped"),
+        }
+    }
+
+    fn copy_is(&mut self, version: u32, what: &str) {
+        self.words("; its copy of version ");
+        self.number(version.into());
+        self.words(" is ");
+        self.words(what);
+    }
+
+    fn called(&mut self, callbacks: Callbacks) {
+        for client in 0..CLIENTS {
+            let Some(kind) = callbacks.kind(client) else { continue };
+            self.words("; ");
+            self.station(client);
+            self.words(" is called to ");
+            self.words(match kind {
+                Kind::WriteBack => "write back",
+                Kind::Invalidate => "drop its copy",
+                Kind::Both => "write back and drop its copy",
+            });
+        }
+    }
+
+    fn answers(&mut self, client: usize, file: usize, sent: usize) {
+        self.station(client);
+        self.words(" answers for");
+        self.file(file);
+        self.words(", blocks sent: ");
+        self.count(sent);
+    }
+
+    fn reason(&mut self, reason: &Reason) {
+        match *reason {
+            Reason::NotAStep => self.words("this line is no step"),
+            Reason::NoSuchClient(client, clients) => self.not_there("station", client, "; there are ", clients),
+            Reason::NoSuchFile(file, files) => self.not_there("file", file, "; there are ", files),
+            Reason::NoSuchBlock(block, blocks) => self.not_there("block", block, "; a file has ", blocks),
+            Reason::Recovering { to_report } => self.recovers(to_report),
+            Reason::NotRecovering => self.words("no recovery is under way"),
+            Reason::AlreadyReported { client } => {
+                self.station(client);
+                self.words(" has reported before");
+            }
+            Reason::ReportsMissing { to_report } => {
+                self.words("the recovery cannot end");
+                self.still_to_report(to_report);
+            }
+            Reason::OpenWaits(waiting) => self.waiting(&waiting),
+            Reason::NoCallback { client, file } => {
+                self.station(client);
+                self.words(" has no call to answer on");
+                self.file(file);
+            }
+            Reason::NotOpen { client, file, needed } => {
+                self.station(client);
+                self.words(" does not have");
+                self.file(file);
+                self.words(" open");
+                if let Some(mode) = needed {
+                    self.mode(mode);
+                }
+            }
+            Reason::CountAtLimit(opening) => {
+                self.has_open(&opening);
+                self.words(" 255 times, the most there can be");
+            }
+            Reason::NotDirty(place) => {
+                self.station(place.client);
+                self.words(" has no dirty copy of");
+                self.block(place);
+            }
+            Reason::VersionAtLimit { file } => {
+                self.words("version 4294967295 is the last, and no write open of");
+                self.file(file);
+                self.words(" can raise it");
+            }
+            Reason::SettingOutOfRange => {
+                self.words("a setting lies outside its range: 1 to 8 stations, 1 to 64 files, 1 to 8 blocks");
+            }
+        }
+    }
+
+    fn not_there(&mut self, what: &str, number: u64, there_are: &str, count: usize) {
+        self.words("there is no ");
+        self.words(what);
+        self.byte(b' ');
+        self.number(number);
+        self.words(there_are);
+        self.count(count);
+    }
+
+    /// An open that waits, as refusal 9 and the picture tell it.
+    pub fn waiting(&mut self, waiting: &Waiting) {
+        self.waits(&waiting.opening);
+        self.words(" since line ");
+        self.number(waiting.since);
+        self.still_to_answer(waiting.still);
+    }
+
+    /// As refusal 5 and the picture tell it.
+    pub fn recovers(&mut self, to_report: ClientSet) {
+        self.words("the server recovers");
+        self.still_to_report(to_report);
+    }
+
+    fn waits(&mut self, Opening { client, file, mode }: &Opening) {
+        self.station(*client);
+        self.words(" waits to open");
+        self.file(*file);
+        self.mode(*mode);
+    }
+
+    fn has_open(&mut self, Opening { client, file, mode }: &Opening) {
+        self.station(*client);
+        self.words(" has");
+        self.file(*file);
+        self.words(" open");
+        self.mode(*mode);
+    }
+
+    fn still_to_answer(&mut self, clients: ClientSet) {
+        self.words("; stations still to answer:");
+        self.list(clients.members());
+    }
+
+    fn still_to_report(&mut self, clients: ClientSet) {
+        self.words("; stations still to report:");
+        self.list(clients.members());
+    }
+
+    pub fn permission(&mut self, may_cache: bool) {
+        self.words(if may_cache { "may cache" } else { "may not cache" });
+    }
+
+    pub fn station(&mut self, client: usize) {
+        self.words("station ");
+        self.count(client);
+    }
+
+    fn file(&mut self, file: usize) {
+        self.words(" file ");
+        self.count(file);
+    }
+
+    fn block(&mut self, place: Place) {
+        self.file(place.file);
+        self.words(" block ");
+        self.count(place.block);
+    }
+
+    fn mode(&mut self, mode: Mode) {
+        self.words(match mode {
+            Mode::Read => " for read",
+            Mode::Write => " for write",
+        });
+    }
+
+    /// Numbers, each after a space, or " none".
+    pub fn list(&mut self, numbers: impl IntoIterator<Item = usize>) {
+        let mut empty = true;
+        for number in numbers {
+            empty = false;
+            self.byte(b' ');
+            self.count(number);
+        }
+        if empty {
+            self.words(" none");
+        }
+    }
+
+    pub fn words(&mut self, words: &str) {
+        self.bytes(words.as_bytes());
+    }
+
+    pub fn count(&mut self, number: usize) {
+        self.number(number as u64);
+    }
+}

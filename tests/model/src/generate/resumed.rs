@@ -1,0 +1,16 @@
+//! A run that goes on from an image, of a service in which every client has closed and flushed.
+
+use super::{closing_time, session_from};
+use crate::{Document01, Service, replay_from};
+
+/// The reports and the end of the recovery, and after them a session up to its close; in one of three runs a line SET,
+/// which is no step there, comes first. The service takes all this after a crash.
+pub fn resumed_run(service: &mut Service, seed: u64, lines: usize) -> Vec<u8> {
+    let mut text = if seed.is_multiple_of(3) { "SET 8 32 4\n".to_string() } else { String::new() };
+    text.extend((0..service.sizes().clients).map(|client| format!("RP {client}\n")));
+    text.push_str("EN\n");
+    replay_from::<Document01>(service, &[b"XX\n", text.as_bytes()].concat(), &mut ());
+    let session = session_from(service.clone(), seed, lines);
+    replay_from::<Document01>(service, &session, &mut ());
+    [text.into_bytes(), session, closing_time(service)].concat()
+}
