@@ -73,8 +73,8 @@ fn write_lines() -> bool {
           \x20 G LATEST PREVIOUS PERMISSION         the open is granted\n\
           \x20 W C:KIND ..                          the open waits for these callbacks:\n\
           \x20                                      1 write-back, 2 invalidate, 3 both\n\
-          \x20 A [C LATEST PREVIOUS PERMISSION]     answered; if it was the last answer, the\n\
-          \x20                                      open of client C is granted\n\
+          \x20 A N [C LATEST PREVIOUS PERMISSION]   answered, N blocks sent; if it was the last\n\
+          \x20                                      answer, the open of client C is granted\n\
           \x20 V VALUE                              the value read\n\
           \x20 K                                    done\n\
           \x20 N NUMBER                             refused, and why\n\

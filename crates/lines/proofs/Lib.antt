@@ -4,3 +4,4 @@ pub mod Reaching
 pub mod Telling
 pub mod FirstLine
 pub mod Playing
+pub mod Passing

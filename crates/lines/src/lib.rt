@@ -1,4 +1,5 @@
 // The loop over a buffer: its whole lines played from a service, and their reply lines written.
+mod idle;
 mod lines;
 
 pub use lines::Progress;

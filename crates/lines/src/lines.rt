@@ -4,6 +4,7 @@ ghost use Prim.Native.Nat.{_≤_};
 ghost use lib.ListN.{length};
 ghost use Rattle.lines.specs.Telling.{canTell};
 ghost use Rattle.lines.specs.Lines.{lineProgress, linesWritten};
+use crate::idle::knows_all;
 use access::access_block;
 use decision::MAX_CLIENTS;
 use decision::MAX_FILES;
@@ -22,8 +23,8 @@ use stepfile::Setting;
 use table::Recovery;
 use table::Sweep;
 use table::Table;
-use table::crashed_files;
 use writer::LINE_ROOM;
+use writer::write_plain;
 use writer::write_reply;
 
 // How far a buffer was played.
@@ -75,6 +76,8 @@ pub fn play_lines(
     let mut copies = service.copies;
     let mut held = service.held;
     let mut dirty = service.dirty;
+    // The files that a crash and a report would leave as they are, as far as is known.
+    let mut idle = [false; MAX_FILES];
     let mut number = first;
     let mut used: usize = 0;
     let mut to: usize = 0;
@@ -115,6 +118,7 @@ pub fn play_lines(
                     copies = fresh_copies;
                     held = fresh_held;
                     dirty = fresh_dirty;
+                    idle = [false; MAX_FILES];
                     to = write_reply(out, to, line, Reply::Done, [0; MAX_CLIENTS]);
                 }
                 Setting::OutOfRange => {
@@ -153,6 +157,7 @@ pub fn play_lines(
                 let sides_after = after.sides;
                 let reply = done.reply;
                 let calls = done.calls;
+                idle[f] = false;
                 files[f] = entry_after;
                 clients[f] = sides_after;
                 to = write_reply(out, to, line, reply, calls);
@@ -172,7 +177,7 @@ pub fn play_lines(
                     &mut held,
                     &mut dirty,
                 );
-                to = write_reply(out, to, line, reply, [0; MAX_CLIENTS]);
+                to = write_plain(out, to, line, reply);
             }
             Class::OnTable => {
                 let recovery = Recovery {
@@ -184,15 +189,27 @@ pub fn play_lines(
                 match sweep {
                     Sweep::Stay => {}
                     Sweep::Crash => {
-                        files = crashed_files(files, sizes);
+                        let mut f = 0;
+                        while f < sizes.files {
+                            if !idle[f] {
+                                let entry = files[f];
+                                let sides = clients[f];
+                                let after = entry.crashed(sizes.clients);
+                                files[f] = after;
+                                idle[f] = knows_all(after, sides);
+                            }
+                            f += 1;
+                        }
                     }
                     Sweep::Report { client } => {
                         let mut f = 0;
                         while f < sizes.files {
-                            let entry = files[f];
-                            let sides = clients[f];
-                            let after = entry.reported(client, sides.side(client));
-                            files[f] = after;
+                            if !idle[f] {
+                                let entry = files[f];
+                                let sides = clients[f];
+                                let after = entry.reported(client, sides.side(client));
+                                files[f] = after;
+                            }
                             f += 1;
                         }
                     }

@@ -3,7 +3,7 @@ ghost use Prim.Native.Nat.{_+_, _≤_};
 ghost use mathlib.Core.Path.{_≡_};
 ghost use mathlib.Core.Bool.{cond};
 ghost use mathlib.Core.List.{[], _∷_};
-ghost use lib.ListN.{length};
+ghost use lib.ListN.{length, replicate};
 ghost use Rattle.decision.specs.Sizes.{maxClients};
 ghost use Rattle.decision.specs.Callback.{callIf, orderedCalls};
 ghost use Rattle.protocol.specs.Reply.{grantValues, letterOf};
@@ -39,6 +39,71 @@ pub fn write_reply(
         return at;
     }
     put_line(out, at, number, reply, calls)
+}
+
+// The same of a reply without callbacks; those of reads and writes go the shortest way.
+pub fn write_plain(out: &mut [u8], at: usize, number: u64, reply: Reply) -> usize
+    ensures { λ r. ⌜ WroteIfRoom lineRoom (now (out .entry)) at (lineText number reply (replicate maxClients 0))
+        (now (out .exit)) r ⌝ }
+    ensures { λ r. ⌜ r ≤ at + lineRoom ⌝ }
+{
+    if out.len() < LINE_ROOM {
+        return at;
+    }
+    if out.len() - LINE_ROOM < at {
+        return at;
+    }
+    put_plain(out, at, number, reply)
+}
+
+fn put_plain(out: &mut [u8], at: usize, number: u64, reply: Reply) -> usize
+    requires { ⌜ at + lineRoom ≤ length (now out) ⌝ }
+    ensures { λ r. ⌜ Wrote (now (out .entry)) at (lineText number reply (replicate maxClients 0)) (now (out .exit)) r ⌝ }
+    ensures { λ r. ⌜ r ≤ at + lineRoom ⌝ }
+{
+    match reply {
+        Reply::Value(value) => put_value(out, at, number, value),
+        Reply::Refused(refusal) => put_refused(out, at, number, refusal),
+        Reply::Done => put_done(out, at, number),
+        Reply::Granted(_) => put_line(out, at, number, reply, [0; MAX_CLIENTS]),
+        Reply::Waiting => put_line(out, at, number, reply, [0; MAX_CLIENTS]),
+        Reply::Answered(_) => put_line(out, at, number, reply, [0; MAX_CLIENTS]),
+        Reply::AnsweredGrant(_, _, _) => put_line(out, at, number, reply, [0; MAX_CLIENTS]),
+    }
+}
+
+fn put_value(out: &mut [u8], at: usize, number: u64, value: u64) -> usize
+    requires { ⌜ at + lineRoom ≤ length (now out) ⌝ }
+    ensures { λ r. ⌜ Wrote (now (out .entry)) at (lineText number (Reply.Value value) (replicate maxClients 0))
+        (now (out .exit)) r ⌝ }
+    ensures { λ r. ⌜ r ≤ at + lineRoom ⌝ }
+{
+    let letter = put_decimal(out, at, number);
+    let fields = put_letter(out, letter, b'V');
+    let feed = put_argument(out, fields, value);
+    put_byte(out, feed, b'\n')
+}
+
+fn put_refused(out: &mut [u8], at: usize, number: u64, refusal: u8) -> usize
+    requires { ⌜ at + lineRoom ≤ length (now out) ⌝ }
+    ensures { λ r. ⌜ Wrote (now (out .entry)) at (lineText number (Reply.Refused refusal) (replicate maxClients 0))
+        (now (out .exit)) r ⌝ }
+    ensures { λ r. ⌜ r ≤ at + lineRoom ⌝ }
+{
+    let letter = put_decimal(out, at, number);
+    let fields = put_letter(out, letter, b'N');
+    let feed = put_argument(out, fields, refusal as u64);
+    put_byte(out, feed, b'\n')
+}
+
+fn put_done(out: &mut [u8], at: usize, number: u64) -> usize
+    requires { ⌜ at + lineRoom ≤ length (now out) ⌝ }
+    ensures { λ r. ⌜ Wrote (now (out .entry)) at (lineText number Reply.Done (replicate maxClients 0)) (now (out .exit)) r ⌝ }
+    ensures { λ r. ⌜ r ≤ at + lineRoom ⌝ }
+{
+    let letter = put_decimal(out, at, number);
+    let feed = put_letter(out, letter, b'K');
+    put_byte(out, feed, b'\n')
 }
 
 fn put_line(out: &mut [u8], at: usize, number: u64, reply: Reply, calls: [u8; MAX_CLIENTS]) -> usize

@@ -2,23 +2,29 @@
 -- class by class, and `Playing` carries from line to line. Assumes nothing.
 mod Points
 mod Safe
-use Prim.Native.Nat.{ℕ}
-use mathlib.Core.Path.{_≡_, sym, ap, ap₂, _∙_}
+use Prim.Native.Nat.{ℕ, _<_}
+use mathlib.Core.Path.{_≡_, refl, sym, ap, ap₂, _∙_}
+use mathlib.Core.Bool.{Bool, true, false, not, true≢false, false≢true}
+use mathlib.Core.Logic.{⊎-elim}
 use mathlib.Core.List.{List}
 use denote.Ref.{now}
-use Rattle.decision.proofs.Storing.{stored-none, stored-more, not-yet}
+use Rattle.decision.specs.Sizes.{maxClients}
+use Rattle.decision.proofs.Storing.{Stored, stored-none, stored-more, not-yet}
 use Rattle.protocol.specs.declared.client.ClientFile.{ClientFile}
+use Rattle.protocol.specs.declared.client.Sides.{Sides}
+use Rattle.protocol.specs.Client.{sideOf}
 use Rattle.protocol.specs.declared.entry.Entry.{Entry}
 use Rattle.protocol.specs.declared.reply.Reply.the-variants.{Done}
-use Rattle.protocol.specs.Entry.{reportedEntry}
+use Rattle.protocol.specs.Entry.{crashedEntry, reportedEntry}
 use Rattle.file.specs.FileStep.{noCalls}
-use Rattle.table.specs.TableStep.{noEntry}
+use Rattle.table.specs.TableStep.{noEntry, entryOf, sidesIn}
 use Rattle.service.specs.declared.service.Service.{Service}
 use Rattle.service.proofs.Arms.Result.{file-result, block-result, table-result}
 use Rattle.stepfile.specs.declared.setting.Setting.{Setting}
 use Rattle.stepfile.specs.Setting.{settingOf}
 use Rattle.stepfile.specs.Played.{refusedWith, setOutcome, outcomeOf}
 use Rattle.lines.proofs.Reaching.{LineAt}
+use Rattle.lines.proofs.Passing.{Rests, none-idle, not-idle, idle-if, still-idle, stored-skip, crashed-again}
 use Rattle.lines.proofs.FirstLine.{late-line, set-line, line-bytes}
 use Rattle.lines.specs.Telling.{Reach}
 use Rattle.lines.specs.Lines.{playing, progressOf}
@@ -26,6 +32,8 @@ use Rattle.lines.proofs.Telling.{none-yet, stops-full, stops-whole}
 use Rattle.lines.proofs.lines.play_lines.Proof.Points.{
   Inv-loop2,
   μ-loop2,
+  Inv-loop3,
+  μ-loop3,
   Inv-loop,
   μ-loop,
   stands,
@@ -49,13 +57,15 @@ use Rattle.lines.proofs.lines.play_lines.Proof.Points.{
   step-is,
   class-is,
   entries,
+  resting,
+  rest-then,
 }
 use Rattle.lines.proofs.lines.play_lines.Proof.Safe as safe
 use Rattle.lines.proofs.lines.play_lines.Statement.{statement}
 use Rattle.lines.proofs.lines.play_lines.Tie as tie
 
 -- a first line that is no step gets the outcome of its setting
-chosen : (c : tie.After-read-setting Inv-loop2 μ-loop2 Inv-loop μ-loop) (x : Setting) (l : List ℕ)
+chosen : (c : tie.After-read-setting Inv-loop2 μ-loop2 Inv-loop3 μ-loop3 Inv-loop μ-loop) (x : Setting) (l : List ℕ)
     → (let line = c .before .before .before .before .before in
     LineAt (input₀ (before-line line)) (before-line line .loop .used) l (next line)
     → c .read-setting .result ≡ x
@@ -65,12 +75,12 @@ chosen c x l at is =
     set-line (settable₀ at-line) (stands at-line) (at-line .loop .number) l _ x (c .before .before .before .enum-told2 .given .1) (c .before .before .if2 .left)
     (sym is ∙ c .read-setting .ensures ∙ ap settingOf (line-bytes (input₀ at-line) (at-line .loop .used) (next (c .before .before .before .before .before)) l at))
 
-loop-holds : tie.Need-loop-holds Inv-loop2 μ-loop2 Inv-loop μ-loop
+loop-holds : tie.Need-loop-holds Inv-loop2 μ-loop2 Inv-loop3 μ-loop3 Inv-loop μ-loop
 loop-holds c =
     let a = c .before .before .before .before .before .before .before .before .before .before .before .before .before .args in
-    (none-yet (playing (a .settable)) (a .service) (a .first) (now (a .input)) (now (a .out)), c .before .before .before .before .before .before .before .before .before .in-force .ensures .0)
+    (none-yet (playing (a .settable)) (a .service) (a .first) (now (a .input)) (now (a .out)), (c .before .before .before .before .before .before .before .before .before .in-force .ensures .0, none-idle 64 _ (a .service .server .table .files) (a .service .clients)))
 
-loop-again : tie.Need-loop-again Inv-loop2 μ-loop2 Inv-loop μ-loop
+loop-again : tie.Need-loop-again Inv-loop2 μ-loop2 Inv-loop3 μ-loop3 Inv-loop μ-loop
 loop-again c =
     let line = c .before .before .before .before .before .before .before in
     let l = before-line line .loop in (
@@ -81,7 +91,7 @@ loop-again c =
       l .inv .1,
     )
 
-loop-again-2 : tie.Need-loop-again-2 Inv-loop2 μ-loop2 Inv-loop μ-loop
+loop-again-2 : tie.Need-loop-again-2 Inv-loop2 μ-loop2 Inv-loop3 μ-loop3 Inv-loop μ-loop
 loop-again-2 c =
     let line = c .before .before .before .before .before .before .before .before .before .before .before .before .before .before .before .before .before .before .before .before .before .before .before .before in
     let fresh = c .before .before .before .before .before .before .before .before .before .before .before .before .before .before .before .new in (
@@ -91,10 +101,10 @@ loop-again-2 c =
           ∙ chosen (c .before .before .before .before .before .before .before .before .before .before .before .before .before .before .before .before .before .before .before) _ text at (c .before .before .before .before .before .before .before .before .before .before .before .before .before .before .before .before .before .setting .given .1))
           (c .before .before .write-reply2 .ensures .0)
           (c .before .before .write-reply2 .ensures .1),
-      c .before .before .before .before .in-force2 .ensures .0,
+      (c .before .before .before .before .in-force2 .ensures .0, none-idle 64 _ (fresh .result .server .table .files) (fresh .result .clients)),
     )
 
-loop-again-3 : tie.Need-loop-again-3 Inv-loop2 μ-loop2 Inv-loop μ-loop
+loop-again-3 : tie.Need-loop-again-3 Inv-loop2 μ-loop2 Inv-loop3 μ-loop3 Inv-loop μ-loop
 loop-again-3 c =
     let line = c .before .before .before .before .before .before .before .before .before .before .before in (
       replies line (refusedWith (stands (before-line line)) 19) _ _ (λ text at. chosen (c .before .before .before .before .before .before) _ text at (c .before .before .before .before .enum-told3 .given .1))
@@ -103,7 +113,7 @@ loop-again-3 c =
       before-line line .loop .inv .1,
     )
 
-loop-again-4 : tie.Need-loop-again-4 Inv-loop2 μ-loop2 Inv-loop μ-loop
+loop-again-4 : tie.Need-loop-again-4 Inv-loop2 μ-loop2 Inv-loop3 μ-loop3 Inv-loop μ-loop
 loop-again-4 c =
     let line = c .before .before .before .before .before .before .before .before .before .before .before in (
       replies line (refusedWith (stands (before-line line)) 1) _ _ (λ text at. chosen (c .before .before .before .before .before .before) _ text at (c .before .before .before .before .enum-told4 .given .1))
@@ -112,19 +122,21 @@ loop-again-4 c =
       before-line line .loop .inv .1,
     )
 
-loop-again-5 : tie.Need-loop-again-5 Inv-loop2 μ-loop2 Inv-loop μ-loop
+loop-again-5 : tie.Need-loop-again-5 Inv-loop2 μ-loop2 Inv-loop3 μ-loop3 Inv-loop μ-loop
 loop-again-5 c =
     let told = c .before .before .before .before .before .before .before .before .before .before .before .before .before .before .before .before .before .before in
+    let l = at-line told .loop in
+    let done = c .before .before .before .before .before .before .before .before .step .result in
     let s = stands (at-line told) in
     let is =
     file-result s (step-of told) _ (in-force (at-line told)) (c .before .before .before .before .before .before .before .before .before .before .before .before .before .before .before .before .class2 .given .0 .0) (c .before .before .before .before .before .before .before .before .step .result) _ _ _ _
     (class-is told ∙ c .before .before .before .before .before .before .before .before .before .before .before .before .before .before .before .before .class2 .given .1)
     (c .before .before .before .before .before .before .before .before .step .ensures) in (
       replies (line-of told) _ _ _ (λ text at. is ∙ step-is told text) (c .before .before .write-reply5 .ensures .0) (c .before .before .write-reply5 .ensures .1),
-      in-force (at-line told),
+      (in-force (at-line told), not-idle (l .idle) (l .sizes .clients) (l .files) (l .clients) (resting (at-line told)) _ (done .file .entry) (done .file .sides)),
     )
 
-loop-again-6 : tie.Need-loop-again-6 Inv-loop2 μ-loop2 Inv-loop μ-loop
+loop-again-6 : tie.Need-loop-again-6 Inv-loop2 μ-loop2 Inv-loop3 μ-loop3 Inv-loop μ-loop
 loop-again-6 c =
     let told = c .before .before .before .before .before .before .before .before .before .before .before .before .before .before in
     let s = stands (at-line told) in
@@ -133,19 +145,93 @@ loop-again-6 c =
     (c .before .before .before .before .access-block .result) _ _ _ _
     (class-is told ∙ c .before .before .before .before .before .before .before .before .before .before .before .before .class3 .given .1)
     (c .before .before .before .before .access-block .ensures) in (
-      replies (line-of told) _ _ _ (λ text at. is ∙ step-is told text) (c .before .before .write-reply6 .ensures .0) (c .before .before .write-reply6 .ensures .1),
-      in-force (at-line told),
+      replies (line-of told) _ _ _ (λ text at. is ∙ step-is told text) (c .before .before .write-plain .ensures .0) (c .before .before .write-plain .ensures .1),
+      (in-force (at-line told), resting (at-line told)),
     )
 
-loop2-again : tie.Need-loop2-again Inv-loop2 μ-loop2 Inv-loop μ-loop
-loop2-again c =
-    let turn = c .before .before .before .before .before .before .loop2 in
-    stored-more (turn .inv) (c .before .before .before .before .if3 .taken)
-    (c .reported2 .ensures
-    ∙ ap₂ (λ (e : Entry) (own : ClientFile). reportedEntry e (c .before .before .before .before .before .before .before .before .sweep .given .0 .0) own) (not-yet noEntry (turn .inv))
-    (c .before .side .ensures))
+-- the entry of a file that rests is left
+crash-leaves : (n : ℕ) (files₀ files : List Entry) (m f : ℕ) (s : Sides)
+    → Stored m (λ k. k) (λ k. crashedEntry n (entryOf files₀ k)) files₀ files f
+    → Rests n (entryOf files f) s
+    → crashedEntry n (entryOf files₀ f) ≡ entryOf files f
+crash-leaves n files₀ files m f s h rests = ap (crashedEntry n) (sym (not-yet noEntry h)) ∙ rests .crashes
 
-loop-again-7 : tie.Need-loop-again-7 Inv-loop2 μ-loop2 Inv-loop μ-loop
+report-leaves : (n : ℕ) (files₀ files : List Entry) (clients : List Sides) (i m f : ℕ)
+    → Stored m (λ k. k) (λ k. reportedEntry (entryOf files₀ k) i (sideOf (sidesIn clients k) i)) files₀ files f
+    → i < maxClients
+    → Rests n (entryOf files f) (sidesIn clients f)
+    → reportedEntry (entryOf files₀ f) i (sideOf (sidesIn clients f) i) ≡ entryOf files f
+report-leaves n files₀ files clients i m f h there rests =
+    ap (λ (e : Entry). reportedEntry e i (sideOf (sidesIn clients f) i)) (sym (not-yet noEntry h)) ∙ rests .reports i there
+
+-- a crashed entry rests if it knows all
+crashed-rests : (n : ℕ) (e after : Entry) (s : Sides) → after ≡ crashedEntry n e
+    → ((i : ℕ) → i < maxClients → reportedEntry after i (sideOf s i) ≡ after)
+    → Rests n after s
+crashed-rests n e after s is knows =
+    record { crashes = ap (crashedEntry n) is ∙ crashed-again n e ∙ sym is; reports = knows }
+
+set-flag : (t : Bool) → not t ≡ false → t ≡ true
+set-flag true e = refl
+set-flag false e = absurd (true≢false e)
+
+unset-flag : (t : Bool) → not t ≡ true → t ≡ false
+unset-flag true e = absurd (false≢true e)
+unset-flag false e = refl
+
+loop2-again : tie.Need-loop2-again Inv-loop2 μ-loop2 Inv-loop3 μ-loop3 Inv-loop μ-loop
+loop2-again c =
+    let l = at-line (c .before .before .before .before .before .before .before .before .before) .loop in
+    let n = l .sizes .clients in
+    let turn = c .before .before .before .loop2 in
+    let f = turn .f in
+    let more = c .before .if3 .taken in
+    ⊎-elim
+    (λ w.
+    rw (w .5, w .6) (
+      stored-more (turn .inv .0) more (w .3 .ensures ∙ ap (crashedEntry n) (not-yet noEntry (turn .inv .0))),
+      idle-if (turn .idle) n (turn .files) (l .clients) (turn .inv .1) f (w .3 .result) (w .4 .result)
+          (λ e. crashed-rests n (entryOf (turn .files) f) (w .3 .result) (sidesIn (l .clients) f) (w .3 .ensures) (w .4 .ensures e)),
+    ))
+    (λ w.
+    rw (w .1, w .2) (
+      stored-skip (turn .inv .0) more
+          (λ h.
+          crash-leaves n (l .files) (turn .files) (l .sizes .files) f (sidesIn (l .clients) f) (turn .inv .0)
+          (turn .inv .1 f (set-flag _ (w .0 .left)) h)),
+      turn .inv .1,
+    ))
+    (c .if4 .came)
+
+loop3-again : tie.Need-loop3-again Inv-loop2 μ-loop2 Inv-loop3 μ-loop3 Inv-loop μ-loop
+loop3-again c =
+    let l = at-line (c .before .before .before .before .before .before .before .before .before .before) .loop in
+    let n = l .sizes .clients in
+    let turn = c .before .before .before .loop3 in
+    let f = turn .f in
+    let more = c .before .if5 .taken in
+    let client = c .before .before .before .before .before .sweep .given .0 .0 in
+    let there : client < maxClients =
+    rw (c .before .before .before .before .before .sweep .given .1) at (c .before .before .before .before .before .before .before .step2 .ensures .1) in
+    ⊎-elim
+    (λ w.
+    rw (w .5) (
+      stored-more (turn .inv .0) more
+          (w .4 .ensures
+          ∙ ap₂ (λ (e : Entry) (own : ClientFile). reportedEntry e client own) (not-yet noEntry (turn .inv .0)) (w .3 .ensures)),
+      still-idle (l .idle) n (turn .files) (l .clients) (turn .inv .1) f (w .4 .result) (unset-flag _ (w .0 .taken)),
+    ))
+    (λ w.
+    rw (w .1) (
+      stored-skip (turn .inv .0) more
+          (λ h.
+          report-leaves n (l .files) (turn .files) (l .clients) client (l .sizes .files) f (turn .inv .0) there
+          (turn .inv .1 f (set-flag _ (w .0 .left)) h)),
+      turn .inv .1,
+    ))
+    (c .if6 .came)
+
+loop-again-7 : tie.Need-loop-again-7 Inv-loop2 μ-loop2 Inv-loop3 μ-loop3 Inv-loop μ-loop
 loop-again-7 c =
     let told = c .before .before .before .before .before .before .before .before .before .before in
     let s = stands (at-line told) in
@@ -154,15 +240,15 @@ loop-again-7 c =
     (class-is told ∙ c .before .before .before .before .before .before .before .before .enum-told5 .given .1)
     (c .before .before .before .before .before .before .before .step2 .ensures .0)
     (entries (c .before .before .before .before .before .before)) in (
-      replies (line-of told) _ _ _ (λ text at. is ∙ step-is told text) (c .before .before .write-reply7 .ensures .0) (c .before .before .write-reply7 .ensures .1),
-      in-force (at-line told),
+      replies (line-of told) _ _ _ (λ text at. is ∙ step-is told text) (c .before .before .write-reply6 .ensures .0) (c .before .before .write-reply6 .ensures .1),
+      (in-force (at-line told), rest-then (c .before .before .before .before .before .before)),
     )
 
 -- how far it went, in the words of the contract
 as-progress : {r r′ : Reach Service} {P : Type 0} → (r ≡ r′) × P → (progressOf r ≡ progressOf r′) × P
 as-progress w = (ap progressOf (w .0), w .1)
 
-returns : tie.Need-returns Inv-loop2 μ-loop2 Inv-loop μ-loop
+returns : tie.Need-returns Inv-loop2 μ-loop2 Inv-loop3 μ-loop3 Inv-loop μ-loop
 returns c =
     let at = c .before .before in
     let l = at .loop in
@@ -170,7 +256,7 @@ returns c =
     (stops-full (playing (settable₀ at)) (service₀ at) (first₀ at) (input₀ at) (out₀ at) (stands at) (l .number) (l .used) (l .to) (l .out) (reached at)
     (sym (c .before .can-tell .ensures) ∙ c .if1 .left))
 
-returns-2 : tie.Need-returns-2 Inv-loop2 μ-loop2 Inv-loop μ-loop
+returns-2 : tie.Need-returns-2 Inv-loop2 μ-loop2 Inv-loop3 μ-loop3 Inv-loop μ-loop
 returns-2 c =
     let at = c .before .before .before .before .before in
     let l = at .loop in
@@ -184,6 +270,8 @@ play-lines-spec =
     (tie.spec
     Inv-loop2
     μ-loop2
+    Inv-loop3
+    μ-loop3
     Inv-loop
     μ-loop
     (λ c κs. tt)
@@ -224,6 +312,7 @@ play-lines-spec =
     safe.mul-sides
     safe.array-copy-out-sides
     safe.step-requires
+    safe.array-write-idle
     safe.mul-files
     safe.array-set-from-files
     safe.mul-clients
@@ -245,20 +334,34 @@ play-lines-spec =
     safe.step-requires-2
     safe.enum-told-6
     safe.enum-told-7
-    safe.crashed-files-requires
-    safe.enum-known-sweep
-    (λ c. stored-none)
+    (λ c. (stored-none, resting (at-line (c .before .before .before .before .before))))
+    safe.array-read-if4
     safe.mul-entry-2
     safe.array-copy-out-entry-2
     safe.mul-sides-3
     safe.array-copy-out-sides-3
-    (λ c κs. tt)
-    safe.reported-requires
+    safe.crashed-requires
     safe.mul-files-2
     safe.array-set-from-files-2
+    (λ c κs. tt)
+    safe.array-write-idle-2
     safe.add-f
     safe.loop2-less
     loop2-again
+    safe.enum-known-sweep
+    (λ c. (stored-none, resting (at-line (c .before .before .before .before .before .before))))
+    safe.array-read-if6
+    safe.mul-entry-3
+    safe.array-copy-out-entry-3
+    safe.mul-sides-4
+    safe.array-copy-out-sides-4
+    (λ c κs. tt)
+    safe.reported-requires
+    safe.mul-files-3
+    safe.array-set-from-files-3
+    safe.add-f-2
+    safe.loop3-less
+    loop3-again
     (λ c κs. tt)
     (λ c. fewer (c .before .before .before .before .before .before .before .before .before .before .before .before .before .before))
     loop-again-7

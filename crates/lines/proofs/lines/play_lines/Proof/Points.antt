@@ -13,7 +13,8 @@ use Rattle.decision.proofs.InForce.{in-force-permitted}
 use Rattle.decision.proofs.Storing.{Stored, stored-all}
 use Rattle.protocol.specs.declared.step.Step.{Step}
 use Rattle.protocol.specs.Step.{classOf}
-use Rattle.protocol.specs.Entry.{reportedEntry}
+use Rattle.protocol.specs.declared.entry.Entry.{Entry}
+use Rattle.protocol.specs.Entry.{crashedEntry, reportedEntry}
 use Rattle.protocol.specs.Client.{sideOf}
 use Rattle.table.specs.declared.recovery.Sweep.{Sweep}
 use Rattle.table.specs.TableStep.{entryOf, sidesIn}
@@ -33,31 +34,41 @@ use Rattle.lines.proofs.Reaching.{LineAt}
 use Rattle.lines.specs.Lines.{playing}
 use Rattle.lines.proofs.Telling.{ReadLine, read-line, Reached, one-more, same-length}
 use Rattle.lines.proofs.Playing.{replied}
+use Rattle.lines.proofs.Passing.{Idle}
 use Rattle.lines.proofs.lines.play_lines.Tie as tie
 
--- a report's turn through the entries: those before the file are stored
+-- a crash's turn through the entries: those before the file are stored, and the files that rest are known
 abbrev pub Inv-loop2 : tie.InvT-loop2
-Inv-loop2 settable first input out given sizes files₀ recovering blocks clients copies held dirty number used to next line at done client f₀ files f =
+Inv-loop2 settable first input out given sizes files₀ recovering blocks clients copies held dirty idle₀ number used to next line at done f₀ files idle f =
+    Stored (sizes .files) (λ k. k) (λ k. crashedEntry (sizes .clients) (entryOf files₀ k)) files₀ files f × Idle idle (sizes .clients) files clients
+
+abbrev pub μ-loop2 : tie.MeasureT-loop2
+μ-loop2 settable first input out given sizes files₀ recovering blocks clients copies held dirty idle₀ number used to next line at done f₀ files idle f = sizes .files - f
+
+-- a report's turn, likewise
+abbrev pub Inv-loop3 : tie.InvT-loop3
+Inv-loop3 settable first input out given sizes files₀ recovering blocks clients copies held dirty idle number used to next line at done client f₀ files f =
     Stored (sizes .files) (λ k. k) (λ k. reportedEntry (entryOf files₀ k) client (sideOf (sidesIn clients k) client)) files₀
     files
     f
+    × Idle idle (sizes .clients) files clients
 
-abbrev pub μ-loop2 : tie.MeasureT-loop2
-μ-loop2 settable first input out given sizes files₀ recovering blocks clients copies held dirty number used to next line at done client f₀ files f = sizes .files - f
+abbrev pub μ-loop3 : tie.MeasureT-loop3
+μ-loop3 settable first input out given sizes files₀ recovering blocks clients copies held dirty idle number used to next line at done client f₀ files f = sizes .files - f
 
--- the lines before this one are replied to, and the sizes are those in force
+-- the lines before this one are replied to, the sizes are those in force, and the files that rest are known
 abbrev pub Inv-loop : tie.InvT-loop
-Inv-loop settable first input out₀ given₀ sizes₀ files₀ recovering₀ reported₀ blocks₀ clients₀ copies₀ held₀ dirty₀ number₀ used₀ to₀ out given sizes files recovering reported blocks clients copies held dirty number used to =
+Inv-loop settable first input out₀ given₀ sizes₀ files₀ recovering₀ reported₀ blocks₀ clients₀ copies₀ held₀ dirty₀ idle₀ number₀ used₀ to₀ out given sizes files recovering reported blocks clients copies held dirty idle number used to =
     Reached (playing settable) (serviceOf given₀ files₀ recovering₀ reported₀ blocks₀ clients₀ copies₀ held₀ dirty₀) first input out₀
     (serviceOf given files recovering reported blocks clients copies held dirty) number used to out
-    × (sizes ≡ inForce given)
+    × ((sizes ≡ inForce given) × Idle idle (sizes .clients) files clients)
 
 abbrev pub μ-loop : tie.MeasureT-loop
-μ-loop settable first input out₀ given₀ sizes₀ files₀ recovering₀ reported₀ blocks₀ clients₀ copies₀ held₀ dirty₀ number₀ used₀ to₀ out given sizes files recovering reported blocks clients copies held dirty number used to = length input - used
+μ-loop settable first input out₀ given₀ sizes₀ files₀ recovering₀ reported₀ blocks₀ clients₀ copies₀ held₀ dirty₀ idle₀ number₀ used₀ to₀ out given sizes files recovering reported blocks clients copies held dirty idle number used to = length input - used
 
 -- Before a line, or the end.
 abbrev pub AtLoop : Type 0
-AtLoop = tie.At-loop Inv-loop2 μ-loop2 Inv-loop μ-loop
+AtLoop = tie.At-loop Inv-loop2 μ-loop2 Inv-loop3 μ-loop3 Inv-loop μ-loop
 
 module _ (c : AtLoop) where
   -- the service as this turn of the loop finds it
@@ -89,14 +100,17 @@ module _ (c : AtLoop) where
   kept-length = same-length (playing settable₀) service₀ first₀ input₀ out₀ stands (c .loop .number) (c .loop .used) (c .loop .to) (c .loop .out) reached
 
   pub in-force : c .loop .sizes ≡ sizesOf stands
-  in-force = c .loop .inv .1
+  in-force = c .loop .inv .1 .0
+
+  pub resting : Idle (c .loop .idle) (c .loop .sizes .clients) (c .loop .files) (c .loop .clients)
+  resting = c .loop .inv .1 .1
 
   pub permitted : Permitted (c .loop .sizes)
   permitted = subst Permitted (sym in-force) (in-force-permitted (c .loop .given))
 
 -- A line is read.
 abbrev pub LineRead : Type 0
-LineRead = tie.After-known-told Inv-loop2 μ-loop2 Inv-loop μ-loop
+LineRead = tie.After-known-told Inv-loop2 μ-loop2 Inv-loop3 μ-loop3 Inv-loop μ-loop
 
 module _ (c : LineRead) where
   abbrev pub before-line : AtLoop
@@ -140,7 +154,7 @@ module _ (c : LineRead) where
 
 -- A step is read, and its class is told.
 abbrev pub StepRead : Type 0
-StepRead = tie.After-class Inv-loop2 μ-loop2 Inv-loop μ-loop
+StepRead = tie.After-class Inv-loop2 μ-loop2 Inv-loop3 μ-loop3 Inv-loop μ-loop
 
 module _ (c : StepRead) where
   abbrev pub line-of : LineRead
@@ -159,7 +173,7 @@ module _ (c : StepRead) where
   class-is = sym (c .class .ensures)
 
 -- the entries, once a step on the table has gone through them
-pub entries : (c : tie.At-match5-came Inv-loop2 μ-loop2 Inv-loop μ-loop)
+pub entries : (c : tie.At-match5-came Inv-loop2 μ-loop2 Inv-loop3 μ-loop3 Inv-loop μ-loop)
     → (let l = at-line (c .before .before .before .before) .loop in
     c .match5 .files ≡ filesAfter (l .sizes) (c .before .step2 .result .sweep) (l .files) (l .clients))
 entries c =
@@ -170,6 +184,23 @@ entries c =
     ⊎-elim
     (λ w. w .2 ∙ sweeps _ (w .1 .given .1))
     (⊎-elim
-    (λ w. w .3 ∙ w .2 .ensures ∙ sweeps _ (w .1 .given .1))
-    (λ w. w .6 ∙ stored-all (w .3 .inv) (w .5 .left) ∙ sweeps _ (w .1 .given .1)))
+    (λ w. w .5 ∙ stored-all (w .2 .inv .0) (w .4 .left) ∙ sweeps _ (w .1 .given .1))
+    (λ w. w .6 ∙ stored-all (w .3 .inv .0) (w .5 .left) ∙ sweeps _ (w .1 .given .1)))
+    (c .match5 .came)
+
+-- and the files that rest then
+pub rest-then : (c : tie.At-match5-came Inv-loop2 μ-loop2 Inv-loop3 μ-loop3 Inv-loop μ-loop)
+    → (let l = at-line (c .before .before .before .before) .loop in
+    Idle (c .match5 .idle) (l .sizes .clients) (c .match5 .files) (l .clients))
+rest-then c =
+    let l = at-line (c .before .before .before .before) .loop in
+    let moved : (idle : List Bool) (files : List Entry) → c .match5 .files ≡ files → c .match5 .idle ≡ idle
+    → Idle idle (l .sizes .clients) files (l .clients)
+    → Idle (c .match5 .idle) (l .sizes .clients) (c .match5 .files) (l .clients) =
+    λ idle files e d rests.
+    subst (λ (i : List Bool). Idle i (l .sizes .clients) (c .match5 .files) (l .clients)) (sym d)
+    (subst (λ (x : List Entry). Idle idle (l .sizes .clients) x (l .clients)) (sym e) rests) in
+    ⊎-elim
+    (λ w. moved _ _ (w .2) (w .3) (resting (at-line (c .before .before .before .before))))
+    (⊎-elim (λ w. moved _ _ (w .5) (w .6) (w .2 .inv .1)) (λ w. moved _ _ (w .6) (w .7) (w .3 .inv .1)))
     (c .match5 .came)
