@@ -1,5 +1,5 @@
--- Explaining the whole lines of a buffer: where that stops, and what it leaves. The Bool `fresh` says whether the session
--- began with the fresh service: a first line may choose its sizes then.
+-- Explaining the whole lines of a buffer: where that stops, and what it leaves. The Bool `fresh` says whether the
+-- session began with the fresh service: a first line may choose its sizes then.
 use Prim.Native.Nat.{ℕ}
 use mathlib.Core.Bool.{Bool}
 use mathlib.Core.List.{List}

@@ -1,5 +1,5 @@
--- A run of the explainer: the turns of one session, over an input that comes in pieces; and the whole output for a whole
--- input.
+-- A run of the explainer: the turns of one session, over an input that comes in pieces; and the whole output for a
+-- whole input.
 use Prim.Native.Nat.{ℕ}
 use mathlib.Core.Bool.{Bool, true}
 use mathlib.Core.List.{List, _++_}

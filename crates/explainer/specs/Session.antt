@@ -1,5 +1,5 @@
--- The explainer's session: it begins with the fresh service, whose sizes line 1 may choose, or with a given one, and with
--- nothing noted.
+-- The explainer's session: it begins with the fresh service, whose sizes line 1 may choose, or with a given one, and
+-- with nothing noted.
 use Prim.Native.Nat.{ℕ}
 use mathlib.Core.Bool.{Bool, true, false}
 use mathlib.Core.List.{List}

@@ -1,5 +1,5 @@
-// The explained file: a turn explains a buffer and leaves what is left of it for the next, and a session of turns goes from
-// the first byte of an input to its picture.
+// The explained file: a turn explains a buffer and leaves what is left of it for the next, and a session of turns goes
+// from the first byte of an input to its picture.
 mod session;
 mod turn;
 

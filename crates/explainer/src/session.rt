@@ -1,5 +1,5 @@
-// A session: one input, explained from a fresh service or a given one to the picture, turn by turn. The program only reads
-// before a turn and writes what the turn left in the output buffer.
+// A session: one input, explained from a fresh service or a given one to the picture, turn by turn. The program only
+// reads before a turn and writes what the turn left in the output buffer.
 ghost use mathlib.Core.Path.{_≡_};
 ghost use Prim.Native.Nat.{_≤_};
 ghost use lib.ListN.{length};

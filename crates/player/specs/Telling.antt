@@ -1,5 +1,5 @@
--- A session: one input from its first byte to its end, told turn by turn, for any kind of state. The program reads, lets
--- the session take a turn, and writes what the turn left in the output buffer; all else is decided here.
+-- A session: one input from its first byte to its end, told turn by turn, for any kind of state. The program reads,
+-- lets the session take a turn, and writes what the turn left in the output buffer; all else is decided here.
 use Prim.Native.Nat.{ℕ, _+_, _≤_, _<_}
 use mathlib.Core.Path.{_≡_}
 use mathlib.Core.Bool.{Bool, false, cond, not, _&&_, _||_}

@@ -1,5 +1,5 @@
--- A turn: the bytes that fill a buffer are told, for any kind of state, and what is left of them moves to its start. And
--- the player's turn, where the Bool `settable` says whether a first line may choose the sizes.
+-- A turn: the bytes that fill a buffer are told, for any kind of state, and what is left of them moves to its start.
+-- And the player's turn, where the Bool `settable` says whether a first line may choose the sizes.
 use Prim.Native.Nat.{ℕ, _+_, _-_}
 use mathlib.Core.Bool.{Bool, cond, not, _&&_}
 use mathlib.Core.List.{List}
