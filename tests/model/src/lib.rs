@@ -28,6 +28,7 @@ mod sizes;
 mod state;
 mod step;
 mod text;
+mod verdict;
 
 pub use callbacks::{Callbacks, Kind};
 pub use client::{Client, ClientFile, Copies, copy_kept};
@@ -46,6 +47,7 @@ pub use service::Service;
 pub use sizes::{Settings, Sizes};
 pub use state::State;
 pub use step::{Mode, Step};
+pub use verdict::verdict;
 
 /// The most clients that a service can have (document 01: stations).
 pub const CLIENTS: usize = 8;

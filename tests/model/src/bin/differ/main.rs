@@ -6,7 +6,7 @@ use std::process::{Command, ExitCode};
 
 use model::check::{Breach, Cuts, Demand3, Difference, Tally, shown};
 use model::generate::{FileKind, step_file};
-use model::{Document01, process, replay};
+use model::{Document01, process, replay, verdict};
 use options::Options;
 
 fn main() -> ExitCode {
@@ -17,16 +17,7 @@ fn main() -> ExitCode {
             return ExitCode::from(2);
         }
     };
-    match compare_all(&options) {
-        Ok(summary) => {
-            println!("{summary}");
-            ExitCode::SUCCESS
-        }
-        Err(finding) => {
-            println!("{finding}");
-            ExitCode::FAILURE
-        }
-    }
+    verdict(compare_all(&options))
 }
 
 /// What has been compared so far.

@@ -15,6 +15,7 @@ use std::fs;
 use std::io::{Read, Write, stdin, stdout};
 use std::process::ExitCode;
 
+use model::verdict;
 use options::{Options, USAGE};
 use sample::Sample;
 
@@ -22,30 +23,16 @@ fn main() -> ExitCode {
     let words: Vec<String> = args().skip(1).collect();
     let words: Vec<&str> = words.iter().map(String::as_str).collect();
     match words[..] {
-        ["faults"] => told(faults::try_all()),
+        ["faults"] => verdict(faults::try_all()),
         ["explain", name] => explain(name, None),
         ["explain", name, "--read-image", image] => explain(name, Some(image)),
         _ => match Options::of(&words) {
-            Ok(options) => told(compare::with_program(&options)),
+            Ok(options) => verdict(compare::with_program(&options)),
             Err(problem) => {
                 eprintln!("explains: {problem}\n{USAGE}");
                 ExitCode::from(2)
             }
         },
-    }
-}
-
-/// A summary, or what was found.
-fn told(result: Result<String, String>) -> ExitCode {
-    match result {
-        Ok(summary) => {
-            println!("{summary}");
-            ExitCode::SUCCESS
-        }
-        Err(finding) => {
-            println!("{finding}");
-            ExitCode::FAILURE
-        }
     }
 }
 

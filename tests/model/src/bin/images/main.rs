@@ -51,6 +51,7 @@ use std::process::ExitCode;
 
 use model::generate::seeds;
 use model::images::Judge;
+use model::verdict;
 
 const USAGE: &str = "usage: images [--seeds A..B] --judge PROGRAM [WORD..] | images judge [FAULT] | images faults";
 
@@ -61,17 +62,17 @@ fn main() -> ExitCode {
     let words: Vec<String> = args().skip(1).collect();
     let words: Vec<&str> = words.iter().map(String::as_str).collect();
     match words[..] {
-        ["--judge", program, ref words @ ..] => told(compare::with_program(program, words, SEEDS)),
+        ["--judge", program, ref words @ ..] => verdict(compare::with_program(program, words, SEEDS)),
         ["--seeds", range, "--judge", program, ref words @ ..] => match seeds(range) {
-            Some(seeds) => told(compare::with_program(program, words, seeds)),
+            Some(seeds) => verdict(compare::with_program(program, words, seeds)),
             None => usage(),
         },
         ["judge"] => judge(Judge::model()),
         ["judge", name] => match faults::named(name) {
             Some(fault) => judge(Judge::new(&|service, bytes| fault.read_image(service, bytes))),
-            None => told(Err(format!("there is no {name}"))),
+            None => verdict(Err(format!("there is no {name}"))),
         },
-        ["faults"] => told(faults::try_all()),
+        ["faults"] => verdict(faults::try_all()),
         _ => usage(),
     }
 }
@@ -79,20 +80,6 @@ fn main() -> ExitCode {
 fn usage() -> ExitCode {
     eprintln!("{USAGE}");
     ExitCode::from(2)
-}
-
-/// A summary, or what was found.
-fn told(result: Result<String, String>) -> ExitCode {
-    match result {
-        Ok(summary) => {
-            println!("{summary}");
-            ExitCode::SUCCESS
-        }
-        Err(finding) => {
-            println!("{finding}");
-            ExitCode::FAILURE
-        }
-    }
 }
 
 fn judge(judge: Judge) -> ExitCode {
