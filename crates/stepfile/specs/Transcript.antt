@@ -22,7 +22,10 @@ BreaksLine a = (b : List ℕ) → lines (a ++ b) ≡ lines a ++ lines b
 
 -- what is said of the lines from state s on, the first of them numbered n; a line's number may count for what it does
 unfoldable pub transcript {ℓ} :
-    {S : Type ℓ} → (S → ℕ → List ℕ → List ℕ) → (S → ℕ → List ℕ → S) → S → ℕ → List (List ℕ) → List ℕ
+    {S : Type ℓ}
+    → (S → ℕ → List ℕ → List ℕ)
+    → (S → ℕ → List ℕ → S)
+    → S → ℕ → List (List ℕ) → List ℕ
 transcript say next s n [] = []
 transcript say next s n (l ∷ ls) = say s n l ++ transcript say next (next s n l) (n + 1) ls
 
