@@ -11,6 +11,7 @@ use Rattle.decision.specs.declared.state.FileState.the-variants.{Closed,
 use Rattle.decision.specs.declared.state.FileState.the-variants.{MultReaders, OneWriter, WriteShared}
 use Rattle.decision.specs.declared.state.Property.{Property}
 use Rattle.decision.specs.declared.state.Property.the-variants.{Open, Uncached, Writing}
+use Rattle.decision.specs.declared.state.Tallies.{Tallies}
 use Rattle.decision.specs.Lists.{count}
 use Rattle.records.specs.Record.{notOpen, isOpen}
 
@@ -39,6 +40,10 @@ tally n r p = count n (λ i. has p (r i))
 
 abbrev pub others : ℕ → (ℕ → ClientRecord) → Property → ℕ → ℕ
 others n r p i = count n (λ j. not (eqb j i) && has p (r j))
+
+-- the tallies of the n clients, as the code counts them in one pass
+abbrev pub talliesOf : ℕ → (ℕ → ClientRecord) → Tallies
+talliesOf n r = record { «open» = tally n r Open; uncached = tally n r Uncached; writing = tally n r Writing }
 
 -- "0 CLOSED: none open, no last writer. 1 CLOSED_DIRTY: none open, a last writer. 6 WRITE_SHARED: some open station
 -- may not cache.

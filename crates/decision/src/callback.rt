@@ -1,6 +1,6 @@
 // The callbacks that an open causes, from the state of the file.
 ghost use mathlib.Core.Path.{_≡_};
-ghost use mathlib.Core.Bool.{false, cond};
+ghost use mathlib.Core.Bool.{Bool, true, false, cond};
 ghost use Prim.Native.Nat.{_≤_};
 ghost use lib.ListN.{replicate};
 ghost use Rattle.records.specs.Record.{notOpen};
@@ -70,6 +70,9 @@ pub fn callbacks_due(
         return calls;
     }
     let state = state_of(records, clients, last);
+    if calls_nobody(state, mode) {
+        return calls;
+    }
     let mut i = 0;
     while i < clients {
         let called = records[i];
@@ -78,4 +81,16 @@ pub fn callbacks_due(
         i += 1;
     }
     calls
+}
+
+// Whether an open in the mode calls nobody in the state, whoever is there. It may call nobody otherwise too.
+fn calls_nobody(state: FileState, mode: Mode) -> bool
+    ensures { λ r. ⌜ (r ≡ true → (called : ClientRecord) (last : Bool) → callbackKind state mode called last ≡ 0) ⌝ }
+{
+    match state {
+        FileState::Closed => true,
+        FileState::OneReader => !mode.is_write(),
+        FileState::MultReaders => !mode.is_write(),
+        _ => false,
+    }
 }

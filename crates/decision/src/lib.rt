@@ -21,8 +21,6 @@ pub use sizes::MAX_PLACES;
 pub use sizes::Sizes;
 pub use state::FileState;
 pub use state::Property;
-pub use state::count_clients;
-pub use state::count_others;
 pub use state::has;
 pub use state::one_if;
 pub use state::record_of;

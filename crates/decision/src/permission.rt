@@ -6,9 +6,10 @@ ghost use Rattle.decision.specs.State.{recordIn};
 ghost use Rattle.decision.specs.Permission.{permissionAtGrant};
 use crate::sizes::MAX_CLIENTS;
 use crate::state::Property;
-use crate::state::count_clients;
-use crate::state::count_others;
+use crate::state::has;
+use crate::state::one_if;
 use crate::state::record_of;
+use crate::state::tallies_of;
 use records::ClientRecord;
 use records::Mode;
 
@@ -25,8 +26,10 @@ pub fn permission_at_grant(
     if own.keeps_permission(mode) {
         return own.caching;
     }
-    let written = 0 < count_others(records, clients, Property::Writing, opener);
-    let shared = mode.is_write() & (0 < count_others(records, clients, Property::Open, opener));
-    let uncached = 0 < count_clients(records, clients, Property::Uncached);
+    let counted = tallies_of(records, clients);
+    let among = opener < clients;
+    let written = one_if(among & has(own, Property::Writing)) < counted.writing;
+    let shared = mode.is_write() & (one_if(among & has(own, Property::Open)) < counted.open);
+    let uncached = 0 < counted.uncached;
     !(written | shared | uncached)
 }

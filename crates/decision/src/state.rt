@@ -4,7 +4,7 @@ ghost use mathlib.Core.Bool.{cond};
 ghost use Prim.Native.Nat.{_≤_};
 ghost use lib.ListN.{set};
 ghost use Rattle.decision.specs.Sizes.{maxClients};
-ghost use Rattle.decision.specs.State.{codeOf, recordIn, has, tally, others, stateOf};
+ghost use Rattle.decision.specs.State.{codeOf, recordIn, has, talliesOf, stateOf};
 use crate::sizes::MAX_CLIENTS;
 use records::ClientRecord;
 
@@ -86,44 +86,52 @@ pub fn one_if(holds: bool) -> usize
     if holds { 1 } else { 0 }
 }
 
-// How many of the clients have the property.
-pub fn count_clients(
-    records: [ClientRecord; MAX_CLIENTS],
-    clients: usize,
-    property: Property,
-) -> usize
+// How many clients are open, open without permission to cache, and open with writers.
+pub struct Tallies {
+    pub open: usize,
+    pub uncached: usize,
+    pub writing: usize,
+}
+
+// The tallies of the clients. The usual number of them is told apart, so that the compiler unrolls its loop.
+pub fn tallies_of(records: [ClientRecord; MAX_CLIENTS], clients: usize) -> Tallies
     requires { ⌜ clients ≤ maxClients ⌝ }
-    ensures { λ r. ⌜ r ≡ tally clients (recordIn records) property ⌝ }
+    ensures { λ r. ⌜ r ≡ talliesOf clients (recordIn records) ⌝ }
 {
-    let mut count: usize = 0;
+    if clients == MAX_CLIENTS {
+        return tallies_up_to(records, MAX_CLIENTS);
+    }
+    tallies_up_to(records, clients)
+}
+
+fn tallies_up_to(records: [ClientRecord; MAX_CLIENTS], clients: usize) -> Tallies
+    requires { ⌜ clients ≤ maxClients ⌝ }
+    ensures { λ r. ⌜ r ≡ talliesOf clients (recordIn records) ⌝ }
+{
+    let mut open: usize = 0;
+    let mut uncached: usize = 0;
+    let mut writing: usize = 0;
     let mut i = 0;
     while i < clients {
         let counted = records[i];
-        count += one_if(has(counted, property));
+        open += one_if(has(counted, Property::Open));
+        uncached += one_if(has(counted, Property::Uncached));
+        writing += one_if(has(counted, Property::Writing));
         i += 1;
     }
-    count
-}
-
-// How many of the clients other than this one have the property.
-pub fn count_others(
-    records: [ClientRecord; MAX_CLIENTS],
-    clients: usize,
-    property: Property,
-    client: usize,
-) -> usize
-    requires { ⌜ clients ≤ maxClients ⌝ }
-    ensures { λ r. ⌜ r ≡ others clients (recordIn records) property client ⌝ }
-{
-    let without = with_record(records, client, ClientRecord::not_open());
-    count_clients(without, clients, property)
+    Tallies {
+        open,
+        uncached,
+        writing,
+    }
 }
 
 pub fn state_of(records: [ClientRecord; MAX_CLIENTS], clients: usize, last: u8) -> FileState
     requires { ⌜ clients ≤ maxClients ⌝ }
     ensures { λ r. ⌜ r ≡ stateOf clients (recordIn records) last ⌝ }
 {
-    let open = count_clients(records, clients, Property::Open);
+    let counted = tallies_of(records, clients);
+    let open = counted.open;
     match open {
         0 => {
             if (last as usize) < clients {
@@ -132,9 +140,9 @@ pub fn state_of(records: [ClientRecord; MAX_CLIENTS], clients: usize, last: u8) 
                 FileState::Closed
             }
         }
-        1 => one_open(records, clients, last),
+        1 => one_open(records, clients, last, counted),
         _ => {
-            if 0 < count_clients(records, clients, Property::Uncached) {
+            if 0 < counted.uncached {
                 FileState::WriteShared
             } else {
                 FileState::MultReaders
@@ -144,15 +152,20 @@ pub fn state_of(records: [ClientRecord; MAX_CLIENTS], clients: usize, last: u8) 
 }
 
 // The state of a file that one client has open.
-fn one_open(records: [ClientRecord; MAX_CLIENTS], clients: usize, last: u8) -> FileState
-    requires { ⌜ clients ≤ maxClients ⌝ }
-    requires { ⌜ tally clients (recordIn records) Property.Open ≡ 1 ⌝ }
+fn one_open(
+    records: [ClientRecord; MAX_CLIENTS],
+    clients: usize,
+    last: u8,
+    counted: Tallies,
+) -> FileState
+    requires { ⌜ counted ≡ talliesOf clients (recordIn records) ⌝ }
+    requires { ⌜ counted .«open» ≡ 1 ⌝ }
     ensures { λ r. ⌜ r ≡ stateOf clients (recordIn records) last ⌝ }
 {
-    if 0 < count_clients(records, clients, Property::Uncached) {
+    if 0 < counted.uncached {
         return FileState::WriteShared;
     }
-    if 0 < count_clients(records, clients, Property::Writing) {
+    if 0 < counted.writing {
         return FileState::OneWriter;
     }
     if clients <= last as usize {

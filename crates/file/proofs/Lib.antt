@@ -1,4 +1,5 @@
 -- The laws behind the steps on one file.
+pub mod Sides
 pub mod Leaves
 pub mod Leaving
 pub mod Opening

@@ -1,2 +1,3 @@
 -- The steps on one file.
 pub mod FileStep
+pub mod Own

@@ -5,3 +5,5 @@ pub mod Telling
 pub mod FirstLine
 pub mod Playing
 pub mod Passing
+pub mod InRows
+pub mod OnFile

@@ -5,14 +5,19 @@ ghost use lib.ListN.{length};
 ghost use Rattle.lines.specs.Telling.{canTell};
 ghost use Rattle.lines.specs.Lines.{lineProgress, linesWritten};
 use crate::idle::knows_all;
+use crate::rows::rows_of;
+use crate::rows::sides_of;
 use access::access_block;
 use decision::MAX_CLIENTS;
 use decision::MAX_FILES;
+use file::OwnFile;
 use file::SharedFile;
 use protocol::Class;
 use protocol::NO_STEP;
 use protocol::OUT_OF_RANGE;
 use protocol::Reply;
+use protocol::Sides;
+use protocol::Step;
 use reader::read_at;
 use reader::read_setting;
 use service::Server;
@@ -72,7 +77,8 @@ pub fn play_lines(
     let mut recovering = table.recovering;
     let mut reported = table.reported;
     let mut blocks = server.blocks;
-    let mut clients = service.clients;
+    let clients = service.clients;
+    let mut rows = rows_of(clients);
     let mut copies = service.copies;
     let mut held = service.held;
     let mut dirty = service.dirty;
@@ -114,7 +120,7 @@ pub fn play_lines(
                     recovering = fresh_table.recovering;
                     reported = fresh_reported;
                     blocks = fresh_blocks;
-                    clients = fresh_clients;
+                    rows = rows_of(fresh_clients);
                     copies = fresh_copies;
                     held = fresh_held;
                     dirty = fresh_dirty;
@@ -140,31 +146,107 @@ pub fn play_lines(
         match class {
             Class::OnFile { file } => {
                 let f = file % MAX_FILES;
-                let entry = files[f];
-                let sides = clients[f];
-                let shared = SharedFile { entry, sides };
-                let done = shared.step(
-                    sizes,
-                    recovering,
-                    step,
-                    &mut blocks,
-                    &mut copies,
-                    &mut held,
-                    &mut dirty,
-                );
-                let after = done.file;
-                let entry_after = after.entry;
-                let sides_after = after.sides;
-                let reply = done.reply;
-                let calls = done.calls;
-                idle[f] = false;
-                files[f] = entry_after;
-                clients[f] = sides_after;
-                to = write_reply(out, to, line, reply, calls);
+                match step {
+                    Step::Open { mode, client, file } => {
+                        let entry = files[f];
+                        let side = rows[f][client % MAX_CLIENTS];
+                        let own = OwnFile { entry, own: side };
+                        let done = own.open(
+                            sizes,
+                            recovering,
+                            mode,
+                            client,
+                            file,
+                            &mut blocks,
+                            &mut copies,
+                            &mut held,
+                            &mut dirty,
+                        );
+                        let after = done.file;
+                        let entry_after = after.entry;
+                        let side_after = after.own;
+                        let reply = done.reply;
+                        let calls = done.calls;
+                        idle[f] = false;
+                        files[f] = entry_after;
+                        rows[f][client % MAX_CLIENTS] = side_after;
+                        to = write_reply(out, to, line, reply, calls);
+                    }
+                    Step::Close { mode, client, file } => {
+                        let entry = files[f];
+                        let side = rows[f][client % MAX_CLIENTS];
+                        let own = OwnFile { entry, own: side };
+                        let done = own.close(sizes, recovering, mode, client, file, &dirty);
+                        let after = done.file;
+                        let entry_after = after.entry;
+                        let side_after = after.own;
+                        let reply = done.reply;
+                        let calls = done.calls;
+                        idle[f] = false;
+                        files[f] = entry_after;
+                        rows[f][client % MAX_CLIENTS] = side_after;
+                        to = write_reply(out, to, line, reply, calls);
+                    }
+                    Step::Flush {
+                        client,
+                        file,
+                        block,
+                    } => {
+                        let entry = files[f];
+                        let side = rows[f][client % MAX_CLIENTS];
+                        let own = OwnFile { entry, own: side };
+                        let done = own.flush(
+                            sizes,
+                            recovering,
+                            client,
+                            file,
+                            block,
+                            &mut blocks,
+                            &mut copies,
+                            &mut held,
+                            &mut dirty,
+                        );
+                        let after = done.file;
+                        let entry_after = after.entry;
+                        let side_after = after.own;
+                        let reply = done.reply;
+                        let calls = done.calls;
+                        idle[f] = false;
+                        files[f] = entry_after;
+                        rows[f][client % MAX_CLIENTS] = side_after;
+                        to = write_reply(out, to, line, reply, calls);
+                    }
+                    Step::Answer { client, file } => {
+                        let entry = files[f];
+                        let row = rows[f];
+                        let sides = Sides { of: row };
+                        let shared = SharedFile { entry, sides };
+                        let done = shared.answer(
+                            sizes,
+                            recovering,
+                            client,
+                            file,
+                            &mut blocks,
+                            &mut copies,
+                            &mut held,
+                            &mut dirty,
+                        );
+                        let after = done.file;
+                        let entry_after = after.entry;
+                        let sides_after = after.sides;
+                        let row_after = sides_after.of;
+                        let reply = done.reply;
+                        let calls = done.calls;
+                        idle[f] = false;
+                        files[f] = entry_after;
+                        rows[f] = row_after;
+                        to = write_reply(out, to, line, reply, calls);
+                    }
+                    _ => {}
+                }
             }
             Class::OnBlock { client, file } => {
-                let sides = clients[file % MAX_FILES];
-                let own = sides.of[client % MAX_CLIENTS];
+                let own = rows[file % MAX_FILES][client % MAX_CLIENTS];
                 let has_reported = reported[client % MAX_CLIENTS];
                 let reply = access_block(
                     sizes,
@@ -193,7 +275,8 @@ pub fn play_lines(
                         while f < sizes.files {
                             if !idle[f] {
                                 let entry = files[f];
-                                let sides = clients[f];
+                                let row = rows[f];
+                                let sides = Sides { of: row };
                                 let after = entry.crashed(sizes.clients);
                                 files[f] = after;
                                 idle[f] = knows_all(after, sides);
@@ -206,8 +289,8 @@ pub fn play_lines(
                         while f < sizes.files {
                             if !idle[f] {
                                 let entry = files[f];
-                                let sides = clients[f];
-                                let after = entry.reported(client, sides.side(client));
+                                let own = rows[f][client % MAX_CLIENTS];
+                                let after = entry.reported(client, own);
                                 files[f] = after;
                             }
                             f += 1;
@@ -234,7 +317,7 @@ pub fn play_lines(
                 },
                 blocks,
             },
-            clients,
+            clients: sides_of(rows),
             copies,
             held,
             dirty,

@@ -1,14 +1,14 @@
 -- Reading a number at an offset, a byte at a time: what the grammar gives at a byte that is known. Assumes nothing.
 use Prim.Native.Nat.{ℕ, _+_, _-_, _*_, _^_, _≤_, _<_}
-use mathlib.Core.Path.{_≡_, _∙_}
-use mathlib.Core.Bool.{false}
+use mathlib.Core.Path.{_≡_, _∙_, ap}
+use mathlib.Core.Bool.{true, false}
 use mathlib.Core.List.{List}
 use native.Mathlib.Omega.{arith}
-use lib.Dec.{eqb}
+use lib.Dec.{eqb, leb}
 use lib.ListN.{length, getD, drop, drop-of-length-le}
-use borrow.Author.Tests.{eq-eqb, ne-eqb}
-use Rattle.stepfile.specs.Grammar.{found, nothing, digitsOn, numeral, argument}
-use Rattle.records.proofs.Choosing.{when, unless}
+use borrow.Author.Tests.{eq-eqb, ne-eqb, eqb-true, eqb-false, leb-true}
+use Rattle.stepfile.specs.Grammar.{found, nothing, isDigit, digitsOn, numeral, argument}
+use Rattle.records.proofs.Choosing.{when, unless, and-left, and-right, split}
 use Rattle.stepfile.proofs.Digits.{at-offset, digit, below-digit, above-digit, other, over, more}
 
 below-zero : (b : ℕ) → b < 48 → eqb b 48 ≡ false
@@ -16,6 +16,13 @@ below-zero b h = ne-eqb b 48 (omega arith)
 
 above-zero : (b : ℕ) → 48 < b → eqb b 48 ≡ false
 above-zero b h = ne-eqb b 48 (omega arith)
+
+-- a byte that is a digit
+pub digit-low : (b : ℕ) → isDigit b ≡ true → 48 ≤ b
+digit-low b e = leb-true 48 b (and-left (leb 48 b) (leb b 57) e)
+
+pub digit-high : (b : ℕ) → isDigit b ≡ true → b ≤ 57
+digit-high b e = leb-true b 57 (and-right (leb 48 b) (leb b 57) e)
 
 module _ (s : List ℕ) (i : ℕ) where
   -- the digits end with the bytes, or before a byte that is no digit
@@ -28,6 +35,9 @@ module _ (s : List ℕ) (i : ℕ) where
 
   pub digits-above : (v : ℕ) → i < length s → 57 < getD s i 0 → digitsOn v (drop i s) ≡ found v (drop i s)
   digits-above v h b = rw (at-offset s i h) (other v _ _ (above-digit _ b))
+
+  digits-end : (v : ℕ) → i < length s → isDigit (getD s i 0) ≡ false → digitsOn v (drop i s) ≡ found v (drop i s)
+  digits-end v h e = rw (at-offset s i h) (other v _ _ e)
 
   -- a digit more
   pub digits-over : (v : ℕ) → i < length s → 48 ≤ getD s i 0 → getD s i 0 ≤ 57 → 2 ^ 64 ≤ v * 10 + (getD s i 0 - 48)
@@ -75,6 +85,47 @@ module _ (s : List ℕ) (i : ℕ) where
   pub argument-space : i < length s → getD s i 0 ≡ 32 → argument (drop i s) ≡ numeral (drop (i + 1) s)
   unfolding argument
   argument-space h e = rw (at-offset s i h) (when _ _ (eq-eqb _ 32 e))
+
+-- a short number: j is the offset after i, and k the one after j
+module _ (s : List ℕ) (i j : ℕ) (next : i + 1 ≡ j) (is : isDigit (getD s i 0) ≡ true) where
+  one-digit : j < length s → isDigit (getD s j 0) ≡ false → numeral (drop i s) ≡ found (getD s i 0 - 48) (drop j s)
+  one-digit h end =
+      split (eqb (getD s i 0) 48)
+      (λ z.
+      let zero = eqb-true (getD s i 0) 48 z in
+      let none : 0 ≡ getD s i 0 - 48 = omega arith in
+      numeral-zero s i (omega arith) zero ∙ rw next (ap (λ v. found v (drop j s)) none))
+      (λ z.
+      numeral-digit s i (omega arith) (eqb-false (getD s i 0) 48 z) (digit-low _ is) (digit-high _ is)
+      ∙ rw next (digits-end s j _ h end))
+
+  two-digits : (k : ℕ) → j + 1 ≡ k → k < length s → (getD s i 0 ≡ 48 → ⊥) → isDigit (getD s j 0) ≡ true
+      → isDigit (getD s k 0) ≡ false
+      → numeral (drop i s) ≡ found ((getD s i 0 - 48) * 10 + (getD s j 0 - 48)) (drop k s)
+  two-digits k after h some more end =
+      let first = getD s i 0 - 48 in
+      let second = getD s j 0 - 48 in
+      let high = digit-high (getD s i 0) is in
+      let high₂ = digit-high (getD s j 0) more in
+      let on : digitsOn first (drop (i + 1) s) ≡ digitsOn (first * 10 + second) (drop (j + 1) s) =
+      rw next (digits-more s j first (omega arith) (digit-low _ more) high₂ (omega arith)) in
+      numeral-digit s i (omega arith) some (digit-low _ is) high
+      ∙ on
+      ∙ rw after (digits-end s k _ h end)
+
+-- one or two digits after a space
+module _ (s : List ℕ) (i : ℕ) (space : getD s i 0 ≡ 32) (is : isDigit (getD s (i + 1) 0) ≡ true) where
+  pub argument-one : i + 3 ≤ length s → isDigit (getD s (i + 2) 0) ≡ false
+      → argument (drop i s) ≡ found (getD s (i + 1) 0 - 48) (drop (i + 2) s)
+  argument-one h end =
+      argument-space s i (omega arith) space ∙ one-digit s (i + 1) (i + 2) (omega arith) is (omega arith) end
+
+  pub argument-two : i + 4 ≤ length s → (getD s (i + 1) 0 ≡ 48 → ⊥) → isDigit (getD s (i + 2) 0) ≡ true
+      → isDigit (getD s (i + 3) 0) ≡ false
+      → argument (drop i s) ≡ found ((getD s (i + 1) 0 - 48) * 10 + (getD s (i + 2) 0 - 48)) (drop (i + 3) s)
+  argument-two h some more end =
+      argument-space s i (omega arith) space
+      ∙ two-digits s (i + 1) (i + 2) (omega arith) is (i + 3) (omega arith) (omega arith) some more end
 
 -- the code's tests for a number that grows too large: w is the digit d
 pub past-tenth : (v d : ℕ) → 1844674407370955161 < v → 2 ^ 64 ≤ v * 10 + d

@@ -1,7 +1,8 @@
 // The numbers of a step, read where they stand in the input.
 ghost use mathlib.Core.Path.{_≡_};
-ghost use lib.ListN.{drop};
-ghost use Rattle.stepfile.specs.Grammar.{digitsOn, numeral, argument};
+ghost use Prim.Native.Nat.{ℕ, _+_, _≤_};
+ghost use lib.ListN.{length, drop};
+ghost use Rattle.stepfile.specs.Grammar.{isDigit, digitsOn, numeral, argument};
 ghost use Rattle.reader.specs.Offsets.{numberIn};
 
 // What reading a number at an offset finds.
@@ -44,6 +45,66 @@ fn numeral_at(s: &[u8], at: usize) -> Number
         return Number::Missing;
     }
     digits_from(s, at + 1, wide(first - b'0'))
+}
+
+// A space and a number of one digit, read with no test of the length. What is missing may still be a number.
+pub fn digit_at(s: &[u8], at: usize) -> Number
+    requires { ⌜ at + 3 ≤ length (now s) ⌝ }
+    ensures { λ r. ⌜ ((r ≡ Number.Missing → ⊥) → argument (drop at (now (s .entry))) ≡ numberIn (now (s .entry)) r) ⌝ }
+    ensures { λ r. ⌜ ((value next : ℕ) → r ≡ Number.Is value next → next ≡ at + 2) ⌝ }
+{
+    if s[at] != b' ' {
+        return Number::Missing;
+    }
+    let digit = s[at + 1];
+    if !is_digit(digit) {
+        return Number::Missing;
+    }
+    if is_digit(s[at + 2]) {
+        return Number::Missing;
+    }
+    Number::Is {
+        value: wide(digit - b'0'),
+        next: at + 2,
+    }
+}
+
+// The same of one or two digits.
+pub fn two_digits_at(s: &[u8], at: usize) -> Number
+    requires { ⌜ at + 4 ≤ length (now s) ⌝ }
+    ensures { λ r. ⌜ ((r ≡ Number.Missing → ⊥) → argument (drop at (now (s .entry))) ≡ numberIn (now (s .entry)) r) ⌝ }
+    ensures { λ r. ⌜ ((value next : ℕ) → r ≡ Number.Is value next → next ≤ at + 3) ⌝ }
+{
+    if s[at] != b' ' {
+        return Number::Missing;
+    }
+    let first = s[at + 1];
+    if !is_digit(first) {
+        return Number::Missing;
+    }
+    let second = s[at + 2];
+    if !is_digit(second) {
+        return Number::Is {
+            value: wide(first - b'0'),
+            next: at + 2,
+        };
+    }
+    if first == b'0' {
+        return Number::Missing;
+    }
+    if is_digit(s[at + 3]) {
+        return Number::Missing;
+    }
+    Number::Is {
+        value: wide(first - b'0') * 10 + wide(second - b'0'),
+        next: at + 3,
+    }
+}
+
+fn is_digit(byte: u8) -> bool
+    ensures { λ r. ⌜ r ≡ isDigit byte ⌝ }
+{
+    (b'0' <= byte) & (byte <= b'9')
 }
 
 // The largest number that another digit can follow, and the largest number.

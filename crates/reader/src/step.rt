@@ -1,12 +1,15 @@
 // A step, read where it stands in the input: its word and its numbers.
 ghost use mathlib.Core.Path.{_≡_};
+ghost use mathlib.Core.List.{List};
 ghost use Prim.Native.Nat.{ℕ, _+_, _*_, _≤_};
 ghost use lib.ListN.{length, getD, drop};
-ghost use Rattle.stepfile.specs.Grammar.{Shape, taking, one, two, three, four, shaped};
+ghost use Rattle.stepfile.specs.Grammar.{Shape, whole, taking, one, shaped, found, onward};
 ghost use Rattle.stepfile.specs.Grammar.{step as stepOn};
-ghost use Rattle.reader.specs.Offsets.{pairIn, tripleIn, begunIn};
+ghost use Rattle.reader.specs.Offsets.{numberIn, pairIn, tripleIn, begunIn};
 use crate::number::Number;
 use crate::number::argument_at;
+use crate::number::digit_at;
+use crate::number::two_digits_at;
 use crate::number::wide;
 use protocol::Step;
 use records::Mode;
@@ -40,7 +43,59 @@ const RP: u64 = 0x5250;
 
 const EN: u64 = 0x454e;
 
+// The room that a short step is given, up to its value: a word, three numbers of at most two digits with a space
+// before each, and the byte that follows.
+const SHORT_ROOM: usize = 12;
+
+// A step at an offset. Nearly all are short; what is not read as a short one is read number by number.
 pub fn step_at(s: &[u8], at: usize) -> Begun
+    ensures { λ r. ⌜ stepOn (drop at (now (s .entry))) ≡ begunIn (now (s .entry)) r ⌝ }
+{
+    if s.len() < SHORT_ROOM {
+        return long_at(s, at);
+    }
+    if s.len() - SHORT_ROOM < at {
+        return long_at(s, at);
+    }
+    let short = short_at(s, at);
+    if let Begun::Missing = short {
+        return long_at(s, at);
+    }
+    short
+}
+
+// A step whose client and block have one digit and whose file has at most two, read with no test of the length. What
+// is missing may still be a step.
+fn short_at(s: &[u8], at: usize) -> Begun
+    requires { ⌜ at + 12 ≤ length (now s) ⌝ }
+    ensures { λ r. ⌜ ((r ≡ Begun.Missing → ⊥) → stepOn (drop at (now (s .entry))) ≡ begunIn (now (s .entry)) r) ⌝ }
+{
+    let from = at + 2;
+    let word = word_at(s, at);
+    match word {
+        OR => open_of(Mode::Read, short_pair_at(s, from)),
+        OW => open_of(Mode::Write, short_pair_at(s, from)),
+        CR => close_of(Mode::Read, short_pair_at(s, from)),
+        CW => close_of(Mode::Write, short_pair_at(s, from)),
+        AN => answer_of(short_pair_at(s, from)),
+        RD => read_of(short_triple_at(s, from)),
+        FL => flush_of(short_triple_at(s, from)),
+        WR => write_from(s, short_triple_at(s, from)),
+        XX => Begun::Is {
+            step: Step::Crash,
+            next: from,
+        },
+        RP => report_of(digit_at(s, from)),
+        EN => Begun::Is {
+            step: Step::End,
+            next: from,
+        },
+        _ => Begun::Missing,
+    }
+}
+
+// Any step.
+fn long_at(s: &[u8], at: usize) -> Begun
     ensures { λ r. ⌜ stepOn (drop at (now (s .entry))) ≡ begunIn (now (s .entry)) r ⌝ }
 {
     if s.len() < 2 {
@@ -52,19 +107,19 @@ pub fn step_at(s: &[u8], at: usize) -> Begun
     let from = at + 2;
     let word = word_at(s, at);
     match word {
-        OR => open_from(s, from, Mode::Read),
-        OW => open_from(s, from, Mode::Write),
-        CR => close_from(s, from, Mode::Read),
-        CW => close_from(s, from, Mode::Write),
-        AN => answer_from(s, from),
-        RD => read_from(s, from),
-        FL => flush_from(s, from),
-        WR => write_from(s, from),
+        OR => open_of(Mode::Read, pair_at(s, from)),
+        OW => open_of(Mode::Write, pair_at(s, from)),
+        CR => close_of(Mode::Read, pair_at(s, from)),
+        CW => close_of(Mode::Write, pair_at(s, from)),
+        AN => answer_of(pair_at(s, from)),
+        RD => read_of(triple_at(s, from)),
+        FL => flush_of(triple_at(s, from)),
+        WR => write_from(s, triple_at(s, from)),
         XX => Begun::Is {
             step: Step::Crash,
             next: from,
         },
-        RP => report_from(s, from),
+        RP => report_of(argument_at(s, from)),
         EN => Begun::Is {
             step: Step::End,
             next: from,
@@ -81,10 +136,11 @@ fn word_at(s: &[u8], at: usize) -> u64
     wide(s[at]) * 256 + wide(s[at + 1])
 }
 
-fn open_from(s: &[u8], at: usize, mode: Mode) -> Begun
-    ensures { λ r. ⌜ shaped (two (Step.Open mode)) (drop at (now (s .entry))) ≡ begunIn (now (s .entry)) r ⌝ }
+// The step that the numbers after its word make.
+fn open_of(mode: Mode, numbers: Pair) -> Begun
+    ensures { λ r. ⌜ ((s : List ℕ) → pairIn s (λ a b. whole (Step.Open mode a b)) numbers ≡ begunIn s r) ⌝ }
 {
-    let Pair::Are { client, file, next } = pair_at(s, at) else {
+    let Pair::Are { client, file, next } = numbers else {
         return Begun::Missing;
     };
     Begun::Is {
@@ -93,10 +149,10 @@ fn open_from(s: &[u8], at: usize, mode: Mode) -> Begun
     }
 }
 
-fn close_from(s: &[u8], at: usize, mode: Mode) -> Begun
-    ensures { λ r. ⌜ shaped (two (Step.Close mode)) (drop at (now (s .entry))) ≡ begunIn (now (s .entry)) r ⌝ }
+fn close_of(mode: Mode, numbers: Pair) -> Begun
+    ensures { λ r. ⌜ ((s : List ℕ) → pairIn s (λ a b. whole (Step.Close mode a b)) numbers ≡ begunIn s r) ⌝ }
 {
-    let Pair::Are { client, file, next } = pair_at(s, at) else {
+    let Pair::Are { client, file, next } = numbers else {
         return Begun::Missing;
     };
     Begun::Is {
@@ -105,10 +161,10 @@ fn close_from(s: &[u8], at: usize, mode: Mode) -> Begun
     }
 }
 
-fn answer_from(s: &[u8], at: usize) -> Begun
-    ensures { λ r. ⌜ shaped (two Step.Answer) (drop at (now (s .entry))) ≡ begunIn (now (s .entry)) r ⌝ }
+fn answer_of(numbers: Pair) -> Begun
+    ensures { λ r. ⌜ ((s : List ℕ) → pairIn s (λ a b. whole (Step.Answer a b)) numbers ≡ begunIn s r) ⌝ }
 {
-    let Pair::Are { client, file, next } = pair_at(s, at) else {
+    let Pair::Are { client, file, next } = numbers else {
         return Begun::Missing;
     };
     Begun::Is {
@@ -117,15 +173,15 @@ fn answer_from(s: &[u8], at: usize) -> Begun
     }
 }
 
-fn read_from(s: &[u8], at: usize) -> Begun
-    ensures { λ r. ⌜ shaped (three Step.Read) (drop at (now (s .entry))) ≡ begunIn (now (s .entry)) r ⌝ }
+fn read_of(numbers: Triple) -> Begun
+    ensures { λ r. ⌜ ((s : List ℕ) → tripleIn s (λ a b c. whole (Step.Read a b c)) numbers ≡ begunIn s r) ⌝ }
 {
     let Triple::Are {
         client,
         file,
         block,
         next,
-    } = triple_at(s, at)
+    } = numbers
     else {
         return Begun::Missing;
     };
@@ -139,15 +195,15 @@ fn read_from(s: &[u8], at: usize) -> Begun
     }
 }
 
-fn flush_from(s: &[u8], at: usize) -> Begun
-    ensures { λ r. ⌜ shaped (three Step.Flush) (drop at (now (s .entry))) ≡ begunIn (now (s .entry)) r ⌝ }
+fn flush_of(numbers: Triple) -> Begun
+    ensures { λ r. ⌜ ((s : List ℕ) → tripleIn s (λ a b c. whole (Step.Flush a b c)) numbers ≡ begunIn s r) ⌝ }
 {
     let Triple::Are {
         client,
         file,
         block,
         next,
-    } = triple_at(s, at)
+    } = numbers
     else {
         return Begun::Missing;
     };
@@ -161,15 +217,17 @@ fn flush_from(s: &[u8], at: usize) -> Begun
     }
 }
 
-fn write_from(s: &[u8], at: usize) -> Begun
-    ensures { λ r. ⌜ shaped (four Step.Write) (drop at (now (s .entry))) ≡ begunIn (now (s .entry)) r ⌝ }
+// The value follows the other numbers.
+fn write_from(s: &[u8], numbers: Triple) -> Begun
+    ensures { λ r. ⌜ tripleIn (now (s .entry)) (λ a b c. one (Step.Write a b c)) numbers
+        ≡ begunIn (now (s .entry)) r ⌝ }
 {
     let Triple::Are {
         client,
         file,
         block,
         next,
-    } = triple_at(s, at)
+    } = numbers
     else {
         return Begun::Missing;
     };
@@ -187,10 +245,11 @@ fn write_from(s: &[u8], at: usize) -> Begun
     }
 }
 
-fn report_from(s: &[u8], at: usize) -> Begun
-    ensures { λ r. ⌜ shaped (one Step.Report) (drop at (now (s .entry))) ≡ begunIn (now (s .entry)) r ⌝ }
+fn report_of(number: Number) -> Begun
+    ensures { λ r. ⌜ ((s : List ℕ)
+        → onward (numberIn s number) (λ a rest. found (Step.Report a) rest) ≡ begunIn s r) ⌝ }
 {
-    let Number::Is { value, next } = argument_at(s, at) else {
+    let Number::Is { value, next } = number else {
         return Begun::Missing;
     };
     Begun::Is {
@@ -236,6 +295,34 @@ fn pair_at(s: &[u8], at: usize) -> Pair
     }
 }
 
+// A client of one digit and a file of at most two.
+fn short_pair_at(s: &[u8], at: usize) -> Pair
+    requires { ⌜ at + 6 ≤ length (now s) ⌝ }
+    ensures { λ r. ⌜ ((f : ℕ → ℕ → Shape) → (r ≡ Pair.Missing → ⊥)
+        → shaped (taking (λ a. taking (f a))) (drop at (now (s .entry))) ≡ pairIn (now (s .entry)) f r) ⌝ }
+    ensures { λ r. ⌜ ((a b next : ℕ) → r ≡ Pair.Are a b next → next ≤ at + 5) ⌝ }
+{
+    let Number::Is {
+        value: client,
+        next,
+    } = digit_at(s, at)
+    else {
+        return Pair::Missing;
+    };
+    let Number::Is {
+        value: file,
+        next: past,
+    } = two_digits_at(s, next)
+    else {
+        return Pair::Missing;
+    };
+    Pair::Are {
+        client: client as usize,
+        file: file as usize,
+        next: past,
+    }
+}
+
 // A client, a file and a block, and the offset past them.
 pub enum Triple {
     Are {
@@ -256,6 +343,27 @@ fn triple_at(s: &[u8], at: usize) -> Triple
         return Triple::Missing;
     };
     let Number::Is { value, next: past } = argument_at(s, next) else {
+        return Triple::Missing;
+    };
+    Triple::Are {
+        client,
+        file,
+        block: value as usize,
+        next: past,
+    }
+}
+
+// A client and a block of one digit and a file of at most two.
+fn short_triple_at(s: &[u8], at: usize) -> Triple
+    requires { ⌜ at + 8 ≤ length (now s) ⌝ }
+    ensures { λ r. ⌜ ((f : ℕ → ℕ → ℕ → Shape) → (r ≡ Triple.Missing → ⊥)
+        → shaped (taking (λ a. taking (λ b. taking (f a b)))) (drop at (now (s .entry)))
+        ≡ tripleIn (now (s .entry)) f r) ⌝ }
+{
+    let Pair::Are { client, file, next } = short_pair_at(s, at) else {
+        return Triple::Missing;
+    };
+    let Number::Is { value, next: past } = digit_at(s, next) else {
         return Triple::Missing;
     };
     Triple::Are {

@@ -1,10 +1,11 @@
 -- `one_open` meets its contract: with one client open, the tests come in the order of the states. Assumes nothing.
-use mathlib.Core.Path.{_≡_}
+use mathlib.Core.Path.{_≡_, ap}
 use mathlib.Core.Bool.{cond, _&&_}
 use lib.Dec.{ltb}
 use borrow.Author.Tests.{lt-ltb, le-ltb}
 use borrow.Author.Needs.{needs}
 use Rattle.decision.specs.declared.state.FileState.the-variants.{OneReader, OneReaderDirty}
+use Rattle.decision.specs.declared.state.Tallies.{Tallies}
 use Rattle.records.specs.Record.{isOpen}
 use Rattle.decision.specs.State.{recordIn, stateOf}
 use Rattle.decision.proofs.state.one_open.Statement.{statement}
@@ -12,17 +13,26 @@ use Rattle.decision.proofs.state.one_open.Tie as tie
 
 returns : tie.Need-returns
 unfolding stateOf
-returns c = rw (c .before .before .pre .1, ← c .before .count-clients .ensures, lt-ltb _ _ (c .if1 .taken))
+returns c =
+    let (told, one) = c .before .before .pre in
+    rw (
+      ← ap (λ (t : Tallies). t .«open») told,
+      one,
+      ← ap (λ (t : Tallies). t .uncached) told,
+      lt-ltb _ _ (c .if1 .taken),
+    )
 
 returns-2 : tie.Need-returns-2
 unfolding stateOf
 returns-2 c =
     let b = c .before .before in
+    let (told, one) = b .before .before .pre in
     rw (
-      b .before .before .pre .1,
-      ← b .before .count-clients .ensures,
+      ← ap (λ (t : Tallies). t .«open») told,
+      one,
+      ← ap (λ (t : Tallies). t .uncached) told,
       le-ltb _ _ (b .if1 .left),
-      ← c .before .count-clients2 .ensures,
+      ← ap (λ (t : Tallies). t .writing) told,
       lt-ltb _ _ (c .if2 .taken),
     )
 
@@ -34,11 +44,13 @@ a-reader : (c : tie.Else2)
 unfolding stateOf
 a-reader c =
     let b = c .before .before in
+    let (told, one) = b .before .before .pre in
     rw (
-      b .before .before .pre .1,
-      ← b .before .count-clients .ensures,
+      ← ap (λ (t : Tallies). t .«open») told,
+      one,
+      ← ap (λ (t : Tallies). t .uncached) told,
       le-ltb _ _ (b .if1 .left),
-      ← c .before .count-clients2 .ensures,
+      ← ap (λ (t : Tallies). t .writing) told,
       le-ltb _ _ (c .if2 .left),
     )
 
@@ -71,9 +83,7 @@ pub one-open-spec : {M : Type 1} → statement M
 one-open-spec =
     tie.close
     (tie.spec
-    (search needs)
     returns
-    (search needs)
     returns-2
     returns-3
     (search needs)

@@ -2,24 +2,27 @@
 -- class by class, and `Playing` carries from line to line. Assumes nothing.
 mod Points
 mod Safe
-use Prim.Native.Nat.{ℕ, _<_}
-use mathlib.Core.Path.{_≡_, refl, sym, ap, ap₂, _∙_}
+use Prim.Native.Nat.{ℕ, _%_, _≤_, _<_}
+use mathlib.Core.Path.{_≡_, refl, sym, ap, ap₂, subst, _∙_}
 use mathlib.Core.Bool.{Bool, true, false, not, true≢false, false≢true}
 use mathlib.Core.Logic.{⊎-elim}
-use mathlib.Core.List.{List}
+use mathlib.Core.List.{List, []}
+use native.Mathlib.Nat.{mod-eq-of-lt}
+use lib.ListN.{length, getD}
 use denote.Ref.{now}
 use Rattle.decision.specs.Sizes.{maxClients}
 use Rattle.decision.proofs.Storing.{Stored, stored-none, stored-more, not-yet}
 use Rattle.protocol.specs.declared.client.ClientFile.{ClientFile}
 use Rattle.protocol.specs.declared.client.Sides.{Sides}
-use Rattle.protocol.specs.Client.{sideOf}
+use Rattle.protocol.specs.Client.{noClient, sideOf}
 use Rattle.protocol.specs.declared.entry.Entry.{Entry}
 use Rattle.protocol.specs.declared.reply.Reply.the-variants.{Done}
 use Rattle.protocol.specs.Entry.{crashedEntry, reportedEntry}
 use Rattle.file.specs.FileStep.{noCalls}
 use Rattle.table.specs.TableStep.{noEntry, entryOf, sidesIn}
 use Rattle.service.specs.declared.service.Service.{Service}
-use Rattle.service.proofs.Arms.Result.{file-result, block-result, table-result}
+use Rattle.service.proofs.Parts.{serviceOf}
+use Rattle.service.proofs.Arms.Result.{block-result, table-result}
 use Rattle.stepfile.specs.declared.setting.Setting.{Setting}
 use Rattle.stepfile.specs.Setting.{settingOf}
 use Rattle.stepfile.specs.Played.{refusedWith, setOutcome, outcomeOf}
@@ -27,7 +30,10 @@ use Rattle.lines.proofs.Reaching.{LineAt}
 use Rattle.lines.proofs.Passing.{Rests, none-idle, not-idle, idle-if, still-idle, stored-skip, crashed-again}
 use Rattle.lines.proofs.FirstLine.{late-line, set-line, line-bytes}
 use Rattle.lines.specs.Telling.{Reach}
-use Rattle.lines.specs.Lines.{playing, progressOf}
+use Rattle.lines.specs.Lines.{playing, progressOf, lineProgress, linesWritten}
+use Rattle.lines.specs.Rows.{sidesOf}
+use Rattle.lines.proofs.InRows.{row-at, row-set, side-at, from-rows}
+use Rattle.lines.proofs.OnFile.{own-not-idle, own-result, answer-result, not-on-file}
 use Rattle.lines.proofs.Telling.{none-yet, stops-full, stops-whole}
 use Rattle.lines.proofs.lines.play_lines.Proof.Points.{
   Inv-loop2,
@@ -39,6 +45,7 @@ use Rattle.lines.proofs.lines.play_lines.Proof.Points.{
   stands,
   settable₀,
   service₀,
+  given-is,
   first₀,
   input₀,
   out₀,
@@ -77,8 +84,8 @@ chosen c x l at is =
 
 loop-holds : tie.Need-loop-holds Inv-loop2 μ-loop2 Inv-loop3 μ-loop3 Inv-loop μ-loop
 loop-holds c =
-    let a = c .before .before .before .before .before .before .before .before .before .before .before .before .before .args in
-    (none-yet (playing (a .settable)) (a .service) (a .first) (now (a .input)) (now (a .out)), (c .before .before .before .before .before .before .before .before .before .in-force .ensures .0, none-idle 64 _ (a .service .server .table .files) (a .service .clients)))
+    let a = c .before .before .before .before .before .before .before .before .before .before .before .before .before .before .args in
+    (none-yet (playing (a .settable)) _ (a .first) (now (a .input)) (now (a .out)), (c .before .before .before .before .before .before .before .before .before .before .in-force .ensures .0, none-idle 64 _ (a .service .server .table .files) (sidesOf (c .before .before .before .rows-of .result))))
 
 loop-again : tie.Need-loop-again Inv-loop2 μ-loop2 Inv-loop3 μ-loop3 Inv-loop μ-loop
 loop-again c =
@@ -93,15 +100,38 @@ loop-again c =
 
 loop-again-2 : tie.Need-loop-again-2 Inv-loop2 μ-loop2 Inv-loop3 μ-loop3 Inv-loop μ-loop
 loop-again-2 c =
-    let line = c .before .before .before .before .before .before .before .before .before .before .before .before .before .before .before .before .before .before .before .before .before .before .before .before in
-    let fresh = c .before .before .before .before .before .before .before .before .before .before .before .before .before .before .before .new in (
-      replies line (record { service = fresh .result; reply = Done; calls = noCalls }) _ _
+    let line = c .before .before .before .before .before .before .before .before .before .before .before .before .before .before .before .before .before .before .before .before .before .before .before .before .before in
+    let fresh = c .before .before .before .before .before .before .before .before .before .before .before .before .before .before .before .before .new in
+    let rows-then : sidesOf (c .before .before .before .before .rows-of2 .result) ≡ fresh .result .clients =
+    ap sidesOf (c .before .before .before .before .rows-of2 .ensures) ∙ from-rows (fresh .result .clients) in (
+      replies line
+          (record {
+            service =
+                let s = fresh .result in
+                let t = s .server .table in
+                serviceOf (s .sizes) (t .files) (t .recovering) (t .reported) (s .server .blocks) (sidesOf (c .before .before .before .before .rows-of2 .result))
+                (s .copies) (s .held) (s .dirty);
+            reply = Done;
+            calls = noCalls;
+          })
+          _ _
           (λ text at.
-          ap (λ (s : Service). record { service = s; reply = Done; calls = noCalls }) (fresh .ensures .0)
-          ∙ chosen (c .before .before .before .before .before .before .before .before .before .before .before .before .before .before .before .before .before .before .before) _ text at (c .before .before .before .before .before .before .before .before .before .before .before .before .before .before .before .before .before .setting .given .1))
+          ap
+          (λ (sides : List Sides).
+          record {
+            service =
+                let s = fresh .result in
+                let t = s .server .table in
+                serviceOf (s .sizes) (t .files) (t .recovering) (t .reported) (s .server .blocks) sides (s .copies) (s .held) (s .dirty);
+            reply = Done;
+            calls = noCalls;
+          })
+          rows-then
+          ∙ ap (λ (s : Service). record { service = s; reply = Done; calls = noCalls }) (fresh .ensures .0)
+          ∙ chosen (c .before .before .before .before .before .before .before .before .before .before .before .before .before .before .before .before .before .before .before .before) _ text at (c .before .before .before .before .before .before .before .before .before .before .before .before .before .before .before .before .before .before .setting .given .1))
           (c .before .before .write-reply2 .ensures .0)
           (c .before .before .write-reply2 .ensures .1),
-      (c .before .before .before .before .in-force2 .ensures .0, none-idle 64 _ (fresh .result .server .table .files) (fresh .result .clients)),
+      (c .before .before .before .before .before .in-force2 .ensures .0, none-idle 64 _ (fresh .result .server .table .files) (sidesOf (c .before .before .before .before .rows-of2 .result))),
     )
 
 loop-again-3 : tie.Need-loop-again-3 Inv-loop2 μ-loop2 Inv-loop3 μ-loop3 Inv-loop μ-loop
@@ -124,27 +154,89 @@ loop-again-4 c =
 
 loop-again-5 : tie.Need-loop-again-5 Inv-loop2 μ-loop2 Inv-loop3 μ-loop3 Inv-loop μ-loop
 loop-again-5 c =
-    let told = c .before .before .before .before .before .before .before .before .before .before .before .before .before .before .before .before .before .before in
+    let told = c .before .before .before .before .before .before .before .before .before .before .before .before .before .before .before .before .before .before .before .before .before in
     let l = at-line told .loop in
-    let done = c .before .before .before .before .before .before .before .before .step .result in
-    let s = stands (at-line told) in
+    let done = c .before .before .before .before .before .before .before .before .«open» in
+    let given = c .before .before .before .before .before .before .before .before .before .before .before .before .before .before .before .before .step .given in
+    let client = given .0 .1 .0 in
+    let f = c .before .before .before .before .before .before .before .before .before .before .before .before .before .before .before .before .before .before .before .class2 .given .0 .0 % 64 in
     let is =
-    file-result s (step-of told) _ (in-force (at-line told)) (c .before .before .before .before .before .before .before .before .before .before .before .before .before .before .before .before .class2 .given .0 .0) (c .before .before .before .before .before .before .before .before .step .result) _ _ _ _
-    (class-is told ∙ c .before .before .before .before .before .before .before .before .before .before .before .before .before .before .before .before .class2 .given .1)
-    (c .before .before .before .before .before .before .before .before .step .ensures) in (
+    own-result (stands (at-line told)) (step-of told) _ (in-force (at-line told)) (c .before .before .before .before .before .before .before .before .before .before .before .before .before .before .before .before .before .before .before .class2 .given .0 .0) client (l .rows) _ (given .1) (done .result) _ _ _ _ refl
+    (class-is told ∙ c .before .before .before .before .before .before .before .before .before .before .before .before .before .before .before .before .before .before .before .class2 .given .1)
+    (done .ensures) in (
       replies (line-of told) _ _ _ (λ text at. is ∙ step-is told text) (c .before .before .write-reply5 .ensures .0) (c .before .before .write-reply5 .ensures .1),
-      (in-force (at-line told), not-idle (l .idle) (l .sizes .clients) (l .files) (l .clients) (resting (at-line told)) _ (done .file .entry) (done .file .sides)),
+      (in-force (at-line told), own-not-idle (l .idle) (l .sizes .clients) (l .files) (l .rows) (resting (at-line told)) f (client % 8) (done .result .file .entry) (done .result .file .own)),
     )
 
 loop-again-6 : tie.Need-loop-again-6 Inv-loop2 μ-loop2 Inv-loop3 μ-loop3 Inv-loop μ-loop
 loop-again-6 c =
-    let told = c .before .before .before .before .before .before .before .before .before .before .before .before .before .before in
-    let s = stands (at-line told) in
+    let told = c .before .before .before .before .before .before .before .before .before .before .before .before .before .before .before .before .before .before in
+    let l = at-line told .loop in
+    let done = c .before .before .before .before .before .before .before .before .close in
+    let given = c .before .before .before .before .before .before .before .before .before .before .before .before .before .step2 .given in
+    let client = given .0 .1 .0 in
+    let f = c .before .before .before .before .before .before .before .before .before .before .before .before .before .before .before .before .class2 .given .0 .0 % 64 in
     let is =
-    block-result s (step-of told) _ (in-force (at-line told)) (c .before .before .before .before .before .before .before .before .before .before .before .before .class3 .given .0 .0) (c .before .before .before .before .before .before .before .before .before .before .before .before .class3 .given .0 .1 .0)
+    own-result (stands (at-line told)) (step-of told) _ (in-force (at-line told)) (c .before .before .before .before .before .before .before .before .before .before .before .before .before .before .before .before .class2 .given .0 .0) client (l .rows) _ (given .1) (done .result) _ _ _ _ refl
+    (class-is told ∙ c .before .before .before .before .before .before .before .before .before .before .before .before .before .before .before .before .class2 .given .1)
+    (λ t own. done .ensures t (l .blocks) (l .copies) (l .held) own) in (
+      replies (line-of told) _ _ _ (λ text at. is ∙ step-is told text) (c .before .before .write-reply6 .ensures .0) (c .before .before .write-reply6 .ensures .1),
+      (in-force (at-line told), own-not-idle (l .idle) (l .sizes .clients) (l .files) (l .rows) (resting (at-line told)) f (client % 8) (done .result .file .entry) (done .result .file .own)),
+    )
+
+loop-again-7 : tie.Need-loop-again-7 Inv-loop2 μ-loop2 Inv-loop3 μ-loop3 Inv-loop μ-loop
+loop-again-7 c =
+    let told = c .before .before .before .before .before .before .before .before .before .before .before .before .before .before .before .before .before .before .before .before .before in
+    let l = at-line told .loop in
+    let done = c .before .before .before .before .before .before .before .before .flush in
+    let given = c .before .before .before .before .before .before .before .before .before .before .before .before .before .before .before .before .step3 .given in
+    let client = given .0 .0 in
+    let f = c .before .before .before .before .before .before .before .before .before .before .before .before .before .before .before .before .before .before .before .class2 .given .0 .0 % 64 in
+    let is =
+    own-result (stands (at-line told)) (step-of told) _ (in-force (at-line told)) (c .before .before .before .before .before .before .before .before .before .before .before .before .before .before .before .before .before .before .before .class2 .given .0 .0) client (l .rows) _ (given .1) (done .result) _ _ _ _ refl
+    (class-is told ∙ c .before .before .before .before .before .before .before .before .before .before .before .before .before .before .before .before .before .before .before .class2 .given .1)
+    (done .ensures) in (
+      replies (line-of told) _ _ _ (λ text at. is ∙ step-is told text) (c .before .before .write-reply7 .ensures .0) (c .before .before .write-reply7 .ensures .1),
+      (in-force (at-line told), own-not-idle (l .idle) (l .sizes .clients) (l .files) (l .rows) (resting (at-line told)) f (client % 8) (done .result .file .entry) (done .result .file .own)),
+    )
+
+loop-again-8 : tie.Need-loop-again-8 Inv-loop2 μ-loop2 Inv-loop3 μ-loop3 Inv-loop μ-loop
+loop-again-8 c =
+    let told = c .before .before .before .before .before .before .before .before .before .before .before .before .before .before .before .before .before .before .before .before .before .before in
+    let l = at-line told .loop in
+    let done = c .before .before .before .before .before .before .before .before .before .answer in
+    let f = c .before .before .before .before .before .before .before .before .before .before .before .before .before .before .before .before .before .before .before .before .class2 .given .0 .0 % 64 in
+    let is =
+    answer-result (stands (at-line told)) (step-of told) _ (in-force (at-line told)) (c .before .before .before .before .before .before .before .before .before .before .before .before .before .before .before .before .before .before .before .before .class2 .given .0 .0) (l .rows) _ (c .before .before .before .before .before .before .before .before .before .before .before .before .before .before .before .before .before .step4 .given .1) (done .result) _ _ _ _ refl
+    (class-is told ∙ c .before .before .before .before .before .before .before .before .before .before .before .before .before .before .before .before .before .before .before .before .class2 .given .1)
+    (done .ensures) in (
+      replies (line-of told) _ _ _ (λ text at. is ∙ step-is told text) (c .before .before .write-reply8 .ensures .0) (c .before .before .write-reply8 .ensures .1),
+      (
+        in-force (at-line told),
+        rw (row-set (l .rows) f (done .result .file .sides .of))
+            (not-idle (l .idle) (l .sizes .clients) (l .files) (sidesOf (l .rows)) (resting (at-line told)) f (done .result .file .entry) (done .result .file .sides)),
+      ),
+    )
+
+-- a step of another kind is not of this class
+loop-less-9 : tie.Need-loop-less-9 Inv-loop2 μ-loop2 Inv-loop3 μ-loop3 Inv-loop μ-loop
+loop-less-9 c = absurd (not-on-file (step-of (c .before .before .before .before)) _ (c .match5 .keys5) (class-is (c .before .before .before .before) ∙ c .before .before .class2 .given .1))
+
+loop-again-9 : tie.Need-loop-again-9 Inv-loop2 μ-loop2 Inv-loop3 μ-loop3 Inv-loop μ-loop
+loop-again-9 c = absurd (not-on-file (step-of (c .before .before .before .before)) _ (c .match5 .keys5) (class-is (c .before .before .before .before) ∙ c .before .before .class2 .given .1))
+
+loop-again-10 : tie.Need-loop-again-10 Inv-loop2 μ-loop2 Inv-loop3 μ-loop3 Inv-loop μ-loop
+loop-again-10 c =
+    let told = c .before .before .before .before .before .before .before .before .before .before .before .before .before in
+    let l = at-line told .loop in
+    let s = stands (at-line told) in
+    let client = c .before .before .before .before .before .before .before .before .before .before .before .class3 .given .0 .0 in
+    let file = c .before .before .before .before .before .before .before .before .before .before .before .class3 .given .0 .1 .0 in
+    let is =
+    block-result s (step-of told) _ (in-force (at-line told)) client file
     (c .before .before .before .before .access-block .result) _ _ _ _
-    (class-is told ∙ c .before .before .before .before .before .before .before .before .before .before .before .before .class3 .given .1)
-    (c .before .before .before .before .access-block .ensures) in (
+    (class-is told ∙ c .before .before .before .before .before .before .before .before .before .before .before .class3 .given .1)
+    (rw (side-at (l .rows) (file % 64) (client % 8)) at (c .before .before .before .before .access-block .ensures)) in (
       replies (line-of told) _ _ _ (λ text at. is ∙ step-is told text) (c .before .before .write-plain .ensures .0) (c .before .before .write-plain .ensures .1),
       (in-force (at-line told), resting (at-line told)),
     )
@@ -185,19 +277,22 @@ loop2-again c =
     let n = l .sizes .clients in
     let turn = c .before .before .before .loop2 in
     let f = turn .f in
+    let sides = sidesIn (sidesOf (l .rows)) f in
     let more = c .before .if3 .taken in
     ⊎-elim
     (λ w.
     rw (w .5, w .6) (
       stored-more (turn .inv .0) more (w .3 .ensures ∙ ap (crashedEntry n) (not-yet noEntry (turn .inv .0))),
-      idle-if (turn .idle) n (turn .files) (l .clients) (turn .inv .1) f (w .3 .result) (w .4 .result)
-          (λ e. crashed-rests n (entryOf (turn .files) f) (w .3 .result) (sidesIn (l .clients) f) (w .3 .ensures) (w .4 .ensures e)),
+      idle-if (turn .idle) n (turn .files) (sidesOf (l .rows)) (turn .inv .1) f (w .3 .result) (w .4 .result)
+          (λ e.
+          crashed-rests n (entryOf (turn .files) f) (w .3 .result) sides (w .3 .ensures)
+          (rw (row-at (l .rows) f) (w .4 .ensures e))),
     ))
     (λ w.
     rw (w .1, w .2) (
       stored-skip (turn .inv .0) more
           (λ h.
-          crash-leaves n (l .files) (turn .files) (l .sizes .files) f (sidesIn (l .clients) f) (turn .inv .0)
+          crash-leaves n (l .files) (turn .files) (l .sizes .files) f sides (turn .inv .0)
           (turn .inv .1 f (set-flag _ (w .0 .left)) h)),
       turn .inv .1,
     ))
@@ -212,57 +307,69 @@ loop3-again c =
     let more = c .before .if5 .taken in
     let client = c .before .before .before .before .before .sweep .given .0 .0 in
     let there : client < maxClients =
-    rw (c .before .before .before .before .before .sweep .given .1) at (c .before .before .before .before .before .before .before .step2 .ensures .1) in
+    rw (c .before .before .before .before .before .sweep .given .1) at (c .before .before .before .before .before .before .before .step5 .ensures .1) in
+    let side : getD (getD (l .rows) f []) (client % 8) noClient ≡ sideOf (sidesIn (sidesOf (l .rows)) f) client =
+    side-at (l .rows) f (client % 8) ∙ ap (sideOf (sidesIn (sidesOf (l .rows)) f)) (mod-eq-of-lt there) in
     ⊎-elim
     (λ w.
-    rw (w .5) (
+    rw (w .4) (
       stored-more (turn .inv .0) more
-          (w .4 .ensures
-          ∙ ap₂ (λ (e : Entry) (own : ClientFile). reportedEntry e client own) (not-yet noEntry (turn .inv .0)) (w .3 .ensures)),
-      still-idle (l .idle) n (turn .files) (l .clients) (turn .inv .1) f (w .4 .result) (unset-flag _ (w .0 .taken)),
+          (w .3 .ensures
+          ∙ ap₂ (λ (e : Entry) (own : ClientFile). reportedEntry e client own) (not-yet noEntry (turn .inv .0)) side),
+      still-idle (l .idle) n (turn .files) (sidesOf (l .rows)) (turn .inv .1) f (w .3 .result) (unset-flag _ (w .0 .taken)),
     ))
     (λ w.
     rw (w .1) (
       stored-skip (turn .inv .0) more
           (λ h.
-          report-leaves n (l .files) (turn .files) (l .clients) client (l .sizes .files) f (turn .inv .0) there
+          report-leaves n (l .files) (turn .files) (sidesOf (l .rows)) client (l .sizes .files) f (turn .inv .0) there
           (turn .inv .1 f (set-flag _ (w .0 .left)) h)),
       turn .inv .1,
     ))
     (c .if6 .came)
 
-loop-again-7 : tie.Need-loop-again-7 Inv-loop2 μ-loop2 Inv-loop3 μ-loop3 Inv-loop μ-loop
-loop-again-7 c =
+loop-again-11 : tie.Need-loop-again-11 Inv-loop2 μ-loop2 Inv-loop3 μ-loop3 Inv-loop μ-loop
+loop-again-11 c =
     let told = c .before .before .before .before .before .before .before .before .before .before in
     let s = stands (at-line told) in
     let is =
-    table-result s (step-of told) _ (in-force (at-line told)) (c .before .before .before .before .before .before .before .step2 .result) _
+    table-result s (step-of told) _ (in-force (at-line told)) (c .before .before .before .before .before .before .before .step5 .result) _
     (class-is told ∙ c .before .before .before .before .before .before .before .before .enum-told5 .given .1)
-    (c .before .before .before .before .before .before .before .step2 .ensures .0)
+    (c .before .before .before .before .before .before .before .step5 .ensures .0)
     (entries (c .before .before .before .before .before .before)) in (
-      replies (line-of told) _ _ _ (λ text at. is ∙ step-is told text) (c .before .before .write-reply6 .ensures .0) (c .before .before .write-reply6 .ensures .1),
+      replies (line-of told) _ _ _ (λ text at. is ∙ step-is told text) (c .before .before .write-reply9 .ensures .0) (c .before .before .write-reply9 .ensures .1),
       (in-force (at-line told), rest-then (c .before .before .before .before .before .before)),
     )
 
--- how far it went, in the words of the contract
+-- how far it went, in the words of the contract: r is the reach, and sides are those of the rows
+abbrev Promised : tie.At-loop Inv-loop2 μ-loop2 Inv-loop3 μ-loop3 Inv-loop μ-loop → Service → Type 0
+Promised at s =
+    let l = at .loop in
+    (record { service = stands at; number = l .number; used = l .used; written = l .to } ≡ lineProgress (settable₀ at) s (first₀ at) (input₀ at) (out₀ at))
+    × ((l .out ≡ linesWritten (settable₀ at) s (first₀ at) (input₀ at) (out₀ at)) × (l .to ≤ length (out₀ at)))
+
 as-progress : {r r′ : Reach Service} {P : Type 0} → (r ≡ r′) × P → (progressOf r ≡ progressOf r′) × P
 as-progress w = (ap progressOf (w .0), w .1)
 
-returns : tie.Need-returns Inv-loop2 μ-loop2 Inv-loop3 μ-loop3 Inv-loop μ-loop
-returns c =
+stopped : (c : tie.Joined1 Inv-loop2 μ-loop2 Inv-loop3 μ-loop3 Inv-loop μ-loop) → Promised (c .before .before) (service₀ (c .before .before))
+stopped c =
     let at = c .before .before in
     let l = at .loop in
+    ⊎-elim
+    (λ w.
     as-progress
     (stops-full (playing (settable₀ at)) (service₀ at) (first₀ at) (input₀ at) (out₀ at) (stands at) (l .number) (l .used) (l .to) (l .out) (reached at)
-    (sym (c .before .can-tell .ensures) ∙ c .if1 .left))
-
-returns-2 : tie.Need-returns-2 Inv-loop2 μ-loop2 Inv-loop3 μ-loop3 Inv-loop μ-loop
-returns-2 c =
-    let at = c .before .before .before .before .before in
-    let l = at .loop in
+    (sym (c .before .can-tell .ensures) ∙ w .left)))
+    (λ w.
     as-progress
     (stops-whole (playing (settable₀ at)) (service₀ at) (first₀ at) (input₀ at) (out₀ at) (stands at) (l .number) (l .used) (l .to) (l .out) (reached at)
-    (sym (c .before .before .read-at .ensures) ∙ c .enum-told .given .1))
+    (sym (w .1 .ensures) ∙ w .3 .given .1)))
+    (c .if1 .came)
+
+returns : tie.Need-returns Inv-loop2 μ-loop2 Inv-loop3 μ-loop3 Inv-loop μ-loop
+returns c =
+    let at = c .before .before .before in
+    rw (c .sides-of .ensures) (subst (Promised at) (given-is at) (stopped (c .before)))
 
 pub play-lines-spec : {M : Type 1} → statement M
 play-lines-spec =
@@ -274,6 +381,7 @@ play-lines-spec =
     μ-loop3
     Inv-loop
     μ-loop
+    (λ c κs. tt)
     (λ c κs. tt)
     loop-holds
     (λ c κs. tt)
@@ -295,11 +403,12 @@ play-lines-spec =
     (λ c κs. tt)
     (λ c κs. tt)
     (λ c κs. tt)
+    (λ c κs. tt)
     safe.enum-told-3
     (λ c κs. tt)
     safe.enum-told-4
     (λ c κs. tt)
-    (λ c. fewer (c .before .before .before .before .before .before .before .before .before .before .before .before .before .before .before .before .before .before .before .before .before .before .before .before))
+    (λ c. fewer (c .before .before .before .before .before .before .before .before .before .before .before .before .before .before .before .before .before .before .before .before .before .before .before .before .before))
     loop-again-2
     (λ c. fewer (c .before .before .before .before .before .before .before .before .before .before .before))
     loop-again-3
@@ -307,65 +416,122 @@ play-lines-spec =
     loop-again-4
     (λ c κs. tt)
     safe.enum-known-class
+    safe.enum-known-step
     safe.mul-entry
     safe.array-copy-out-entry
-    safe.mul-sides
-    safe.array-copy-out-sides
-    safe.step-requires
+    safe.mul-side
+    safe.mul-side-2
+    safe.index-1-side
+    safe.index-2-side
+    safe.open-requires
     safe.array-write-idle
     safe.mul-files
     safe.array-set-from-files
-    safe.mul-clients
-    safe.array-set-from-clients
+    safe.mul-side-after
+    safe.mul-side-after-2
+    safe.index-1-side-after
+    safe.index-2-side-after
+    (λ c κs. tt)
+    (λ c. fewer (c .before .before .before .before .before .before .before .before .before .before .before .before .before .before .before .before .before .before .before .before .before .before .before .before .before))
+    loop-again-5
+    safe.enum-known-step-2
+    safe.mul-entry-2
+    safe.array-copy-out-entry-2
+    safe.mul-side-3
+    safe.mul-side-4
+    safe.index-1-side-2
+    safe.index-2-side-2
+    safe.close-requires
+    safe.array-write-idle-2
+    safe.mul-files-2
+    safe.array-set-from-files-2
+    safe.mul-side-after-3
+    safe.mul-side-after-4
+    safe.index-1-side-after-2
+    safe.index-2-side-after-2
     (λ c κs. tt)
     (λ c. fewer (c .before .before .before .before .before .before .before .before .before .before .before .before .before .before .before .before .before .before .before .before .before .before))
-    loop-again-5
+    loop-again-6
+    safe.enum-known-step-3
+    safe.mul-entry-3
+    safe.array-copy-out-entry-3
+    safe.mul-side-5
+    safe.mul-side-6
+    safe.index-1-side-3
+    safe.index-2-side-3
+    safe.flush-requires
+    safe.array-write-idle-3
+    safe.mul-files-3
+    safe.array-set-from-files-3
+    safe.mul-side-after-5
+    safe.mul-side-after-6
+    safe.index-1-side-after-3
+    safe.index-2-side-after-3
+    (λ c κs. tt)
+    (λ c. fewer (c .before .before .before .before .before .before .before .before .before .before .before .before .before .before .before .before .before .before .before .before .before .before .before .before .before))
+    loop-again-7
+    safe.enum-known-step-4
+    safe.mul-entry-4
+    safe.array-copy-out-entry-4
+    safe.mul-row
+    safe.array-copy-out-row
+    safe.answer-requires
+    safe.array-write-idle-4
+    safe.mul-files-4
+    safe.array-set-from-files-4
+    safe.mul-rows
+    safe.array-set-from-rows
+    (λ c κs. tt)
+    (λ c. fewer (c .before .before .before .before .before .before .before .before .before .before .before .before .before .before .before .before .before .before .before .before .before .before .before .before .before .before))
+    loop-again-8
+    loop-less-9
+    loop-again-9
     safe.enum-known-class-2
-    safe.mul-sides-2
-    safe.array-copy-out-sides-2
     safe.mul-own
-    safe.element-copy-out-own
+    safe.mul-own-2
+    safe.index-1-own
+    safe.index-2-own
     safe.array-read-has-reported
     safe.access-block-requires
     (λ c κs. tt)
-    (λ c. fewer (c .before .before .before .before .before .before .before .before .before .before .before .before .before .before .before .before .before .before))
-    loop-again-6
+    (λ c. fewer (c .before .before .before .before .before .before .before .before .before .before .before .before .before .before .before .before .before))
+    loop-again-10
     safe.enum-told-5
-    safe.step-requires-2
+    safe.step-requires
     safe.enum-told-6
     safe.enum-told-7
     (λ c. (stored-none, resting (at-line (c .before .before .before .before .before))))
     safe.array-read-if4
-    safe.mul-entry-2
-    safe.array-copy-out-entry-2
-    safe.mul-sides-3
-    safe.array-copy-out-sides-3
+    safe.mul-entry-5
+    safe.array-copy-out-entry-5
+    safe.mul-row-2
+    safe.array-copy-out-row-2
     safe.crashed-requires
-    safe.mul-files-2
-    safe.array-set-from-files-2
+    safe.mul-files-5
+    safe.array-set-from-files-5
     (λ c κs. tt)
-    safe.array-write-idle-2
+    safe.array-write-idle-5
     safe.add-f
     safe.loop2-less
     loop2-again
     safe.enum-known-sweep
     (λ c. (stored-none, resting (at-line (c .before .before .before .before .before .before))))
     safe.array-read-if6
-    safe.mul-entry-3
-    safe.array-copy-out-entry-3
-    safe.mul-sides-4
-    safe.array-copy-out-sides-4
-    (λ c κs. tt)
+    safe.mul-entry-6
+    safe.array-copy-out-entry-6
+    safe.mul-own-3
+    safe.mul-own-4
+    safe.index-1-own-2
+    safe.index-2-own-2
     safe.reported-requires
-    safe.mul-files-3
-    safe.array-set-from-files-3
+    safe.mul-files-6
+    safe.array-set-from-files-6
     safe.add-f-2
     safe.loop3-less
     loop3-again
     (λ c κs. tt)
     (λ c. fewer (c .before .before .before .before .before .before .before .before .before .before .before .before .before .before))
-    loop-again-7
-    (λ c. kept-length (c .before .before))
-    returns
-    (λ c. kept-length (c .before .before .before .before .before))
-    returns-2)
+    loop-again-11
+    (λ c κs. tt)
+    (λ c. kept-length (c .before .before .before))
+    returns)

@@ -1,130 +1,33 @@
--- `step_at` meets its contract: the two bytes as one number are the word, or none of the words. Assumes nothing.
-use Prim.Native.Nat.{ℕ, _+_, _*_, _<_, _≤_}
-use mathlib.Core.Path.{_≡_, _∙_}
-use mathlib.Core.List.{List}
-use native.Mathlib.Omega.{arith}
-use lib.Dec.{lit<}
-use lib.ListN.{length, drop}
+-- `step_at` meets its contract: a short step, or what any step gives. Assumes nothing.
 use borrow.Author.Needs.{needs}
-use denote.Ref.{now}
-use Rattle.stepfile.specs.Grammar.{shapeOf, shaped, step}
-use Rattle.reader.proofs.Words.{step-short, step-word, step-unknown}
+use Rattle.reader.proofs.Shapes.{begun-is}
 use Rattle.reader.proofs.step.step_at.Statement.{statement}
 use Rattle.reader.proofs.step.step_at.Tie as tie
 
--- where the word is read
-abbrev S : tie.After-word-at → List ℕ
-S c = now (c .before .before .before .before .args .s)
-
-abbrev At : tie.After-word-at → ℕ
-At c = c .before .before .before .before .args .at
-
-room : (c : tie.After-word-at) → At c + 2 ≤ length (S c)
-room c = omega (arith, c .before .if2 .left, c .before .before .if1 .left)
-
-word : (c : tie.After-word-at) (p q : ℕ) → q < 256 → c .word-at .result ≡ p * 256 + q
-    → step (drop (At c) (S c)) ≡ shaped (shapeOf p q) (drop (At c + 2) (S c))
-word c p q small e =
-    step-word (S c) (At c) _ (room c) (c .word-at .ensures) p q small (c .before .before .before .shared-slice-known .given (At c + 1) .fits) e
-
 returns : tie.Need-returns
-returns c =
-    let a = c .before .before .args in
-    step-short (now (a .s)) (a .at) (omega (arith, c .if1 .taken))
+returns c = c .long-at .ensures
 
 returns-2 : tie.Need-returns-2
-returns-2 c =
-    let a = c .before .before .before .args in
-    step-short (now (a .s)) (a .at) (omega (arith, c .if2 .taken))
+returns-2 c = c .long-at2 .ensures
 
--- OR
 returns-3 : tie.Need-returns-3
-unfolding shapeOf
-returns-3 c = word (c .before .before) 79 82 (lit< tt) (c .before .match .keys1) ∙ c .open-from .ensures
+returns-3 c = c .long-at3 .ensures
 
--- OW
 returns-4 : tie.Need-returns-4
-unfolding shapeOf
-returns-4 c = word (c .before .before) 79 87 (lit< tt) (c .before .match .keys2) ∙ c .open-from2 .ensures
-
--- CR
-returns-5 : tie.Need-returns-5
-unfolding shapeOf
-returns-5 c = word (c .before .before) 67 82 (lit< tt) (c .before .match .keys3) ∙ c .close-from .ensures
-
--- CW
-returns-6 : tie.Need-returns-6
-unfolding shapeOf
-returns-6 c = word (c .before .before) 67 87 (lit< tt) (c .before .match .keys4) ∙ c .close-from2 .ensures
-
--- AN
-returns-7 : tie.Need-returns-7
-unfolding shapeOf
-returns-7 c = word (c .before .before) 65 78 (lit< tt) (c .before .match .keys5) ∙ c .answer-from .ensures
-
--- RD
-returns-8 : tie.Need-returns-8
-unfolding shapeOf
-returns-8 c = word (c .before .before) 82 68 (lit< tt) (c .before .match .keys6) ∙ c .read-from .ensures
-
--- FL
-returns-9 : tie.Need-returns-9
-unfolding shapeOf
-returns-9 c = word (c .before .before) 70 76 (lit< tt) (c .before .match .keys7) ∙ c .flush-from .ensures
-
--- WR
-returns-10 : tie.Need-returns-10
-unfolding shapeOf
-returns-10 c = word (c .before .before) 87 82 (lit< tt) (c .before .match .keys8) ∙ c .write-from .ensures
-
--- XX
-returns-11 : tie.Need-returns-11
-unfolding shapeOf shaped
-returns-11 c = word (c .before) 88 88 (lit< tt) (c .match .keys9)
-
--- RP
-returns-12 : tie.Need-returns-12
-unfolding shapeOf
-returns-12 c = word (c .before .before) 82 80 (lit< tt) (c .before .match .keys10) ∙ c .report-from .ensures
-
--- EN
-returns-13 : tie.Need-returns-13
-unfolding shapeOf shaped
-returns-13 c = word (c .before) 69 78 (lit< tt) (c .match .keys11)
-
-returns-14 : tie.Need-returns-14
-returns-14 c =
-    let r = c .match .rest in
-    step-unknown (S (c .before)) (At (c .before)) _ (room (c .before)) (c .before .word-at .ensures)
-    (r .0 .0 .0 .0 .0 .0 .0 .0 .0 .0 .1, (r .0 .0 .0 .0 .0 .0 .0 .0 .0 .1, (r .0 .0 .0 .0 .0 .0 .0 .0 .1, (r .0 .0 .0 .0 .0 .0 .0 .1, (r .0 .0 .0 .0 .0 .0 .1, (r .0 .0 .0 .0 .0 .1, (r .0 .0 .0 .0 .1, (r .0 .0 .0 .1, (r .0 .0 .1, (r .0 .1, (r .1, tt)))))))))))
+returns-4 c = c .before .before .short-at .ensures (begun-is _ _ _ (c .enum-told2 .given .1))
 
 pub step-at-spec : {M : Type 1} → statement M
 step-at-spec =
     tie.close
     (tie.spec
+    (search needs)
     returns
+    (search needs)
     (search needs)
     returns-2
     (search needs)
     (search needs)
     (search needs)
-    (search needs)
-    (search needs)
-    (search needs)
-    (search needs)
-    (search needs)
-    (search needs)
-    (search needs)
-    (search needs)
     returns-3
-    returns-4
-    returns-5
-    returns-6
-    returns-7
-    returns-8
-    returns-9
-    returns-10
-    returns-11
-    returns-12
-    returns-13
-    returns-14)
+    (search needs)
+    returns-4)

@@ -6,21 +6,19 @@ use Rattle.reader.proofs.step.write_from.Statement.{statement}
 use Rattle.reader.proofs.step.write_from.Tie as tie
 
 returns : tie.Need-returns
-returns c = triple-missing _ _ _ _ (c .before .before .triple-at .ensures) (c .enum-told .given .1)
+returns c = triple-missing _ _ _ (c .enum-told .given .1)
 
 returns-2 : tie.Need-returns-2
 returns-2 c =
     let fourth = c .before .before in
-    let triple = fourth .before .before in
-    triple-there _ _ _ _ (triple .before .before .triple-at .ensures) _ _ _ _ (triple .client .given .1)
+    triple-there _ _ _ _ _ _ _ (fourth .before .before .numbers .given .1)
     ∙ number-missing _ _ _ _ (fourth .argument-at .ensures) (c .enum-told2 .given .1)
 
 returns-3 : tie.Need-returns-3
 returns-3 c =
     let value = c .before in
     let fourth = value .before .before in
-    let triple = fourth .before .before in
-    triple-there _ _ _ _ (triple .before .before .triple-at .ensures) _ _ _ _ (triple .client .given .1)
+    triple-there _ _ _ _ _ _ _ (fourth .before .before .numbers .given .1)
     ∙ number-there _ _ _ _ (fourth .argument-at .ensures) _ _ (value .value .given .1)
     ∙ whole-there _ _
 
@@ -28,7 +26,6 @@ pub write-from-spec : {M : Type 1} → statement M
 write-from-spec =
     tie.close
     (tie.spec
-    (search needs)
     (search needs)
     (search needs)
     returns

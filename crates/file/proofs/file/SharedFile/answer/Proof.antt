@@ -1,15 +1,21 @@
 -- `answer` meets its contract: refused, answered, or answered with the waiting open granted. Assumes nothing.
-use Prim.Native.Nat.{ℕ, _<_}
-use mathlib.Core.Path.{_≡_, refl, ap, _∙_}
+use Prim.Native.Nat.{ℕ, _%_, _<_}
+use mathlib.Core.Path.{_≡_, refl, sym, ap, _∙_}
+use native.Mathlib.Nat.{mod-eq-of-lt}
 use native.Mathlib.Omega.{arith}
 use denote.Ref.{now}
 use Rattle.decision.specs.Sizes.{maxClients, maxFiles, firstCell}
+use Rattle.protocol.specs.declared.entry.Entry.{Entry}
+use Rattle.protocol.specs.declared.reply.Reply.the-variants.{AnsweredGrant}
 use Rattle.protocol.specs.Client.{withSide, answeredClient}
 use Rattle.protocol.specs.Refusal.{answerTests}
 use Rattle.blocks.specs.Stores.{Stores, lent, sentBlocks}
-use Rattle.file.specs.FileStep.{FileAfter, answered as answeredFile}
+use Rattle.file.specs.FileStep.{FileAfter, granted, answered as answeredFile}
 use Rattle.protocol.proofs.Tested.{named}
-use Rattle.file.proofs.Leaves.{leaves-as, leaves-refused}
+use Rattle.file.specs.declared.file.SharedFile.{SharedFile}
+use Rattle.file.specs.declared.own.OwnFile.{OwnFile}
+use Rattle.file.specs.Own.{ownOf}
+use Rattle.file.proofs.Leaves.{leaves-as, leaves-refused, leaves-own}
 use Rattle.blocks.proofs.Wrapped.{wrapped-cell, wrapped-place}
 use Rattle.file.proofs.Leaving.{answered, sent-blocks}
 use Rattle.file.proofs.Answering.{answer-step, someone-waits, answer-waits, answer-grants}
@@ -133,33 +139,68 @@ returns-2 c =
 grant-requires : tie.Need-grant-requires
 grant-requires c κs = start (accepted (c .before .before .before)) .pre .clients
 
+-- The last client has answered: the open that waits is there to be granted.
+module _ (c : tie.After-grant) where
+  abbrev last : tie.After-calls-out
+  last = c .before .before
+
+  abbrev answer : tie.After-with-side
+  answer = last .before .before
+
+  abbrev file-then : SharedFile
+  file-then = record { entry = answer .before .before .answered .result; sides = answer .with-side .result }
+
+  waiter-there : file-then .entry .waiter < start (accepted answer) .args .sizes .clients
+  waiter-there =
+      let r = accepted answer .before .answer-refusal in
+      let a = start (accepted answer) .args in
+      let same : file-then .entry .waiter ≡ a .self .entry .waiter =
+      ap (λ (e : Entry). e .waiter) (answer .before .before .answered .ensures) in
+      omega (
+        arith,
+        same,
+        someone-waits (a .sizes) (a .recovering) (a .self) (before (accepted answer)) (a .client) (a .file) (r .result) (r .ensures)
+            (accepted answer .if1 .left),
+      )
+
+  unwrapped : file-then .entry .waiter % maxClients ≡ file-then .entry .waiter
+  unwrapped = mod-eq-of-lt (omega (arith, waiter-there, start (accepted answer) .pre .clients))
+
 granted-requires : tie.Need-granted-requires
 granted-requires c κs =
-    let p = c .before .before .before .before .before .before .before .before in
-    let r = accepted p .before .answer-refusal in
-    let a = start (accepted p) .args in (
-      start (accepted p) .pre,
+    let p = c .before .before .before .before .before in
+    let r = accepted (answer p) .before .answer-refusal in
+    let a = start (accepted (answer p)) .args in (
+      start (accepted (answer p)) .pre,
       (
-        rw (p .before .before .answered .ensures)
-            (someone-waits (a .sizes) (a .recovering) (a .self) (before (accepted p)) (a .client) (a .file) (r .result) (r .ensures)
-            (accepted p .if1 .left)),
-        named (a .sizes) (a .client) (a .file) (r .result) _ (r .ensures) (accepted p .if1 .left) .1,
+        waiter-there p,
+        named (a .sizes) (a .client) (a .file) (r .result) _ (r .ensures) (accepted (answer p) .if1 .left) .1,
       ),
     )
 
 returns-3 : tie.Need-returns-3
 returns-3 c =
-    let granting = c .before .before .before .before .before in
+    let own-point = c .before .before .before .before .before .before in
+    let granting = own-point .before in
     let counted = granting .before .before in
     let p = counted .before .before in
     let r = accepted p .before .answer-refusal in
     let a = start (accepted p) .args in
+    let here = unwrapped granting in
+    let is = own-point .own .ensures ∙ ap (ownOf (file-then granting)) here in
     leaves-as _ _ _ _ _ _ _
     (answer-grants (a .sizes) (a .recovering) (a .self) (before (accepted p)) (a .client) (a .file) (r .result) (r .ensures)
     (accepted p .if1 .left) (kind p) (blocks-point p .answer-blocks .result) (counted .calls-out .result) _ _
     (call-point p .call-to .ensures) (file-left p) (stores-left p .1) (sent p) (counted .calls-out .ensures)
     (granting .grant .result) (granting .before .if2 .left) (granting .grant .ensures))
-    (c .granted .ensures)
+    (rw (c .with .ensures, here)
+    (leaves-own (file-then granting) (file-then granting .entry .waiter) (own-point .own .result)
+    (λ (x : SharedFile).
+    granted (a .sizes) (a .file) x (stores-left p .0) (file-then granting .entry .waiter) (file-then granting .entry .mode)
+    (granting .grant .result)
+    (AnsweredGrant (blocks-point p .answer-blocks .result) (file-then granting .entry .waiter) (granting .grant .result)))
+    _ _ _ _ _ is
+    (c .before .granted .ensures (file-then granting .sides) (ap (λ (o : OwnFile). o .own) (sym is)))))
 
 pub answer-spec : {M : Type 1} → statement M
 answer-spec =
@@ -181,5 +222,7 @@ answer-spec =
     returns-2
     (search needs)
     grant-requires
+    (search needs)
     granted-requires
+    (search needs)
     returns-3)

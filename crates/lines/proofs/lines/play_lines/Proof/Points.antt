@@ -11,6 +11,7 @@ use denote.Ref.{now}
 use Rattle.decision.specs.Sizes.{Permitted, inForce}
 use Rattle.decision.proofs.InForce.{in-force-permitted}
 use Rattle.decision.proofs.Storing.{Stored, stored-all}
+use Rattle.protocol.specs.declared.client.Sides.{Sides}
 use Rattle.protocol.specs.declared.step.Step.{Step}
 use Rattle.protocol.specs.Step.{classOf}
 use Rattle.protocol.specs.declared.entry.Entry.{Entry}
@@ -32,39 +33,41 @@ use Rattle.stepfile.specs.Played.{outcomeOf}
 use Rattle.writer.specs.Buffer.{WroteIfRoom, lineRoom}
 use Rattle.lines.proofs.Reaching.{LineAt}
 use Rattle.lines.specs.Lines.{playing}
+use Rattle.lines.specs.Rows.{sidesOf}
 use Rattle.lines.proofs.Telling.{ReadLine, read-line, Reached, one-more, same-length}
 use Rattle.lines.proofs.Playing.{replied}
 use Rattle.lines.proofs.Passing.{Idle}
+use Rattle.lines.proofs.InRows.{from-rows}
 use Rattle.lines.proofs.lines.play_lines.Tie as tie
 
 -- a crash's turn through the entries: those before the file are stored, and the files that rest are known
 abbrev pub Inv-loop2 : tie.InvT-loop2
-Inv-loop2 settable first input out given sizes files₀ recovering blocks clients copies held dirty idle₀ number used to next line at done f₀ files idle f =
-    Stored (sizes .files) (λ k. k) (λ k. crashedEntry (sizes .clients) (entryOf files₀ k)) files₀ files f × Idle idle (sizes .clients) files clients
+Inv-loop2 settable first input out given sizes files₀ recovering blocks rows copies held dirty idle₀ number used to next line at done f₀ files idle f =
+    Stored (sizes .files) (λ k. k) (λ k. crashedEntry (sizes .clients) (entryOf files₀ k)) files₀ files f × Idle idle (sizes .clients) files (sidesOf rows)
 
 abbrev pub μ-loop2 : tie.MeasureT-loop2
-μ-loop2 settable first input out given sizes files₀ recovering blocks clients copies held dirty idle₀ number used to next line at done f₀ files idle f = sizes .files - f
+μ-loop2 settable first input out given sizes files₀ recovering blocks rows copies held dirty idle₀ number used to next line at done f₀ files idle f = sizes .files - f
 
 -- a report's turn, likewise
 abbrev pub Inv-loop3 : tie.InvT-loop3
-Inv-loop3 settable first input out given sizes files₀ recovering blocks clients copies held dirty idle number used to next line at done client f₀ files f =
-    Stored (sizes .files) (λ k. k) (λ k. reportedEntry (entryOf files₀ k) client (sideOf (sidesIn clients k) client)) files₀
+Inv-loop3 settable first input out given sizes files₀ recovering blocks rows copies held dirty idle number used to next line at done client f₀ files f =
+    Stored (sizes .files) (λ k. k) (λ k. reportedEntry (entryOf files₀ k) client (sideOf (sidesIn (sidesOf rows) k) client)) files₀
     files
     f
-    × Idle idle (sizes .clients) files clients
+    × Idle idle (sizes .clients) files (sidesOf rows)
 
 abbrev pub μ-loop3 : tie.MeasureT-loop3
-μ-loop3 settable first input out given sizes files₀ recovering blocks clients copies held dirty idle number used to next line at done client f₀ files f = sizes .files - f
+μ-loop3 settable first input out given sizes files₀ recovering blocks rows copies held dirty idle number used to next line at done client f₀ files f = sizes .files - f
 
 -- the lines before this one are replied to, the sizes are those in force, and the files that rest are known
 abbrev pub Inv-loop : tie.InvT-loop
-Inv-loop settable first input out₀ given₀ sizes₀ files₀ recovering₀ reported₀ blocks₀ clients₀ copies₀ held₀ dirty₀ idle₀ number₀ used₀ to₀ out given sizes files recovering reported blocks clients copies held dirty idle number used to =
-    Reached (playing settable) (serviceOf given₀ files₀ recovering₀ reported₀ blocks₀ clients₀ copies₀ held₀ dirty₀) first input out₀
-    (serviceOf given files recovering reported blocks clients copies held dirty) number used to out
-    × ((sizes ≡ inForce given) × Idle idle (sizes .clients) files clients)
+Inv-loop settable first input out₀ given₀ sizes₀ files₀ recovering₀ reported₀ blocks₀ rows₀ copies₀ held₀ dirty₀ idle₀ number₀ used₀ to₀ out given sizes files recovering reported blocks rows copies held dirty idle number used to =
+    Reached (playing settable) (serviceOf given₀ files₀ recovering₀ reported₀ blocks₀ (sidesOf rows₀) copies₀ held₀ dirty₀) first input out₀
+    (serviceOf given files recovering reported blocks (sidesOf rows) copies held dirty) number used to out
+    × ((sizes ≡ inForce given) × Idle idle (sizes .clients) files (sidesOf rows))
 
 abbrev pub μ-loop : tie.MeasureT-loop
-μ-loop settable first input out₀ given₀ sizes₀ files₀ recovering₀ reported₀ blocks₀ clients₀ copies₀ held₀ dirty₀ idle₀ number₀ used₀ to₀ out given sizes files recovering reported blocks clients copies held dirty idle number used to = length input - used
+μ-loop settable first input out₀ given₀ sizes₀ files₀ recovering₀ reported₀ blocks₀ rows₀ copies₀ held₀ dirty₀ idle₀ number₀ used₀ to₀ out given sizes files recovering reported blocks rows copies held dirty idle number used to = length input - used
 
 -- Before a line, or the end.
 abbrev pub AtLoop : Type 0
@@ -75,23 +78,39 @@ module _ (c : AtLoop) where
   abbrev pub stands : Service
   stands =
       let l = c .loop in
-      serviceOf (l .given) (l .files) (l .recovering) (l .reported) (l .blocks) (l .clients) (l .copies) (l .held) (l .dirty)
+      serviceOf (l .given) (l .files) (l .recovering) (l .reported) (l .blocks) (sidesOf (l .rows)) (l .copies) (l .held) (l .dirty)
 
-  -- what the caller gave
+  abbrev pub start : tie.Start Inv-loop2 μ-loop2 Inv-loop3 μ-loop3 Inv-loop μ-loop
+  start = c .before .before .before .before .before .before .before .before .before .before .before .before .before .before .before
+
+  -- the service that the caller gave, with the sides in rows, and what else the caller gave
   abbrev pub service₀ : Service
-  service₀ = c .before .before .before .before .before .before .before .before .before .before .before .before .before .before .args .service
+  service₀ =
+      let s = start .args .service in
+      let t = s .server .table in
+      serviceOf (s .sizes) (t .files) (t .recovering) (t .reported) (s .server .blocks) (sidesOf (c .before .before .before .before .rows-of .result))
+      (s .copies) (s .held) (s .dirty)
+
+  pub given-is : service₀ ≡ start .args .service
+  given-is =
+      let s = start .args .service in
+      let t = s .server .table in
+      ap
+      (λ (sides : List Sides).
+      serviceOf (s .sizes) (t .files) (t .recovering) (t .reported) (s .server .blocks) sides (s .copies) (s .held) (s .dirty))
+      (ap sidesOf (c .before .before .before .before .rows-of .ensures) ∙ from-rows (s .clients))
 
   abbrev pub first₀ : ℕ
-  first₀ = c .before .before .before .before .before .before .before .before .before .before .before .before .before .before .args .first
+  first₀ = start .args .first
 
   abbrev pub settable₀ : Bool
-  settable₀ = c .before .before .before .before .before .before .before .before .before .before .before .before .before .before .args .settable
+  settable₀ = start .args .settable
 
   abbrev pub input₀ : List ℕ
-  input₀ = now (c .before .before .before .before .before .before .before .before .before .before .before .before .before .before .args .input)
+  input₀ = now (start .args .input)
 
   abbrev pub out₀ : List ℕ
-  out₀ = now (c .before .before .before .before .before .before .before .before .before .before .before .before .before .before .args .out)
+  out₀ = now (start .args .out)
 
   pub reached : Reached (playing settable₀) service₀ first₀ input₀ out₀ stands (c .loop .number) (c .loop .used) (c .loop .to) (c .loop .out)
   reached = c .loop .inv .0
@@ -102,7 +121,7 @@ module _ (c : AtLoop) where
   pub in-force : c .loop .sizes ≡ sizesOf stands
   in-force = c .loop .inv .1 .0
 
-  pub resting : Idle (c .loop .idle) (c .loop .sizes .clients) (c .loop .files) (c .loop .clients)
+  pub resting : Idle (c .loop .idle) (c .loop .sizes .clients) (c .loop .files) (sidesOf (c .loop .rows))
   resting = c .loop .inv .1 .1
 
   pub permitted : Permitted (c .loop .sizes)
@@ -173,34 +192,34 @@ module _ (c : StepRead) where
   class-is = sym (c .class .ensures)
 
 -- the entries, once a step on the table has gone through them
-pub entries : (c : tie.At-match5-came Inv-loop2 μ-loop2 Inv-loop3 μ-loop3 Inv-loop μ-loop)
+pub entries : (c : tie.At-match6-came Inv-loop2 μ-loop2 Inv-loop3 μ-loop3 Inv-loop μ-loop)
     → (let l = at-line (c .before .before .before .before) .loop in
-    c .match5 .files ≡ filesAfter (l .sizes) (c .before .step2 .result .sweep) (l .files) (l .clients))
+    c .match6 .files ≡ filesAfter (l .sizes) (c .before .step5 .result .sweep) (l .files) (sidesOf (l .rows)))
 entries c =
     let l = at-line (c .before .before .before .before) .loop in
-    let sweeps : (t : Sweep) → c .before .step2 .result .sweep ≡ t → filesAfter (l .sizes) t (l .files) (l .clients)
-    ≡ filesAfter (l .sizes) (c .before .step2 .result .sweep) (l .files) (l .clients) =
-    λ t e. sym (ap (λ (t : Sweep). filesAfter (l .sizes) t (l .files) (l .clients)) e) in
+    let sweeps : (t : Sweep) → c .before .step5 .result .sweep ≡ t → filesAfter (l .sizes) t (l .files) (sidesOf (l .rows))
+    ≡ filesAfter (l .sizes) (c .before .step5 .result .sweep) (l .files) (sidesOf (l .rows)) =
+    λ t e. sym (ap (λ (t : Sweep). filesAfter (l .sizes) t (l .files) (sidesOf (l .rows))) e) in
     ⊎-elim
     (λ w. w .2 ∙ sweeps _ (w .1 .given .1))
     (⊎-elim
     (λ w. w .5 ∙ stored-all (w .2 .inv .0) (w .4 .left) ∙ sweeps _ (w .1 .given .1))
     (λ w. w .6 ∙ stored-all (w .3 .inv .0) (w .5 .left) ∙ sweeps _ (w .1 .given .1)))
-    (c .match5 .came)
+    (c .match6 .came)
 
 -- and the files that rest then
-pub rest-then : (c : tie.At-match5-came Inv-loop2 μ-loop2 Inv-loop3 μ-loop3 Inv-loop μ-loop)
+pub rest-then : (c : tie.At-match6-came Inv-loop2 μ-loop2 Inv-loop3 μ-loop3 Inv-loop μ-loop)
     → (let l = at-line (c .before .before .before .before) .loop in
-    Idle (c .match5 .idle) (l .sizes .clients) (c .match5 .files) (l .clients))
+    Idle (c .match6 .idle) (l .sizes .clients) (c .match6 .files) (sidesOf (l .rows)))
 rest-then c =
     let l = at-line (c .before .before .before .before) .loop in
-    let moved : (idle : List Bool) (files : List Entry) → c .match5 .files ≡ files → c .match5 .idle ≡ idle
-    → Idle idle (l .sizes .clients) files (l .clients)
-    → Idle (c .match5 .idle) (l .sizes .clients) (c .match5 .files) (l .clients) =
+    let moved : (idle : List Bool) (files : List Entry) → c .match6 .files ≡ files → c .match6 .idle ≡ idle
+    → Idle idle (l .sizes .clients) files (sidesOf (l .rows))
+    → Idle (c .match6 .idle) (l .sizes .clients) (c .match6 .files) (sidesOf (l .rows)) =
     λ idle files e d rests.
-    subst (λ (i : List Bool). Idle i (l .sizes .clients) (c .match5 .files) (l .clients)) (sym d)
-    (subst (λ (x : List Entry). Idle idle (l .sizes .clients) x (l .clients)) (sym e) rests) in
+    subst (λ (i : List Bool). Idle i (l .sizes .clients) (c .match6 .files) (sidesOf (l .rows))) (sym d)
+    (subst (λ (x : List Entry). Idle idle (l .sizes .clients) x (sidesOf (l .rows))) (sym e) rests) in
     ⊎-elim
     (λ w. moved _ _ (w .2) (w .3) (resting (at-line (c .before .before .before .before))))
     (⊎-elim (λ w. moved _ _ (w .5) (w .6) (w .2 .inv .1)) (λ w. moved _ _ (w .6) (w .7) (w .3 .inv .1)))
-    (c .match5 .came)
+    (c .match6 .came)

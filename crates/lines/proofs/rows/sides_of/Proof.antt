@@ -1,0 +1,43 @@
+-- `sides_of` meets its contract: after f files their sides are stored. Assumes nothing.
+use Prim.Native.Nat.{_-_}
+use mathlib.Core.Path.{refl, _∙_}
+use mathlib.Core.List.{List, []}
+use lib.ListN.{getD, replicate, length-replicate}
+use borrow.Author.Needs.{needs}
+use Rattle.decision.proofs.Storing.{Stored, stored-none, stored-more, stored-all}
+use Rattle.protocol.specs.declared.client.ClientFile.{ClientFile}
+use Rattle.protocol.specs.declared.client.Sides.{Sides}
+use Rattle.lines.proofs.InRows.{stored-map}
+use Rattle.lines.proofs.rows.sides_of.Statement.{statement}
+use Rattle.lines.proofs.rows.sides_of.Tie as tie
+
+abbrev Inv-loop : tie.InvT-loop
+Inv-loop rows clients₀ f₀ clients f = Stored 64 (λ k. k) (λ k. record { of = getD rows k [] }) clients₀ clients f
+
+abbrev μ-loop : tie.MeasureT-loop
+μ-loop rows clients₀ f₀ clients f = 64 - f
+
+loop-again : tie.Need-loop-again Inv-loop μ-loop
+loop-again c = stored-more (c .before .before .loop .inv) (c .before .loop-test .taken) refl
+
+returns : tie.Need-returns Inv-loop μ-loop
+returns c =
+    stored-all (c .before .loop .inv) (c .loop-test .left)
+    ∙ stored-map (λ (row : List ClientFile). record { of = row }) 64 [] (c .before .before .before .args .t1) _ (c .before .before .before .good .0 .1 .0 .1) (length-replicate {A = Sides} 64 (record { of = replicate 8 (c .before .before .none .result) }))
+
+pub sides-of-spec : {M : Type 1} → statement M
+sides-of-spec =
+    tie.close
+    (tie.spec
+    Inv-loop
+    μ-loop
+    (λ c κs. tt)
+    (λ c. stored-none)
+    (search needs)
+    (search needs)
+    (search needs)
+    (search needs)
+    (search needs)
+    (search needs)
+    loop-again
+    returns)
