@@ -1,14 +1,14 @@
 -- Storing: `stored n place v l` is the list l with v k stored at place k for each k below n. Its laws, and a loop that
 -- stores one by one. Assumes nothing.
 use Prim.Native.Nat.{ℕ, zero, suc, _+_, _≤_, _<_}
-use mathlib.Core.Path.{_≡_, refl, ap, _∙_}
+use mathlib.Core.Path.{_≡_, refl, sym, ap, _∙_}
 use mathlib.Core.List.{List}
 use mathlib.Core.Logic.{_≢_, ⊎-elim}
 use native.Mathlib.Nat.{eq-or-lt-of-le, le-of-suc-le-suc}
 use native.Mathlib.Numerals.{add-one}
 use native.Mathlib.Omega.{arith}
 use lib.ListN.{length, getD, set, length-set}
-use lib.Seq.{getD-set-same, getD-set-other, set-getD}
+use lib.Seq.{getD-set-same, getD-set-other, set-getD, ext-getD}
 use Rattle.decision.specs.Lists.{stored}
 
 module _ {ℓ} {A : Type ℓ} where
@@ -60,6 +60,16 @@ module _ {ℓ} {A : Type ℓ} where
       getD-set-other (stored n place v l) (place n) (place i) (v n) d (off n less (omega arith))
       ∙ getD-stored n place v l d i less r (λ k a b. off k a (omega arith)))
       (eq-or-lt-of-le (le-of-suc-le-suc h))
+
+-- all that a list has, stored in its place
+pub stored-whole {ℓ} : {A : Type ℓ} (n : ℕ) (d : A) (l l₀ : List A) → length l ≡ n → length l₀ ≡ n
+    → stored n (λ k. k) (λ k. getD l k d) l₀ ≡ l
+stored-whole n d l l₀ long long₀ =
+    let size : length (stored n (λ k. k) (λ k. getD l k d) l₀) ≡ n = length-stored n (λ k. k) (λ k. getD l k d) l₀ ∙ long₀ in
+    ext-getD d (stored n (λ k. k) (λ k. getD l k d) l₀) l (size ∙ sym long)
+    (λ i h.
+    let below : i < n = omega (arith, h, size) in
+    getD-stored n (λ k. k) (λ k. getD l k d) l₀ d i below (omega (arith, below, long₀)) (λ k a b e. omega (arith, a, e)))
 
 -- The invariant of a loop that stores up to n: i values are stored into l₀, which gives l.
 pub record Stored {ℓ} {A : Type ℓ} (n : ℕ) (place : ℕ → ℕ) (v : ℕ → A) (l₀ l : List A) (i : ℕ) : Type ℓ where

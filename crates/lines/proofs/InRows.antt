@@ -1,13 +1,11 @@
 -- Lists with a function at each element: what stands in one, what is stored in one, and the sides in rows and back.
 -- Assumes nothing.
-use Prim.Native.Nat.{ℕ, zero, suc, _<_}
-use mathlib.Core.Path.{_≡_, refl, sym, ap, ap₂, _∙_}
+use Prim.Native.Nat.{ℕ, zero, suc}
+use mathlib.Core.Path.{_≡_, refl, sym, ap, _∙_}
 use mathlib.Core.List.{List, [], _∷_, map}
-use native.Mathlib.Omega.{arith}
 use lib.ListN.{length, getD, set}
-use lib.Seq.{ext-getD}
 use Rattle.decision.specs.Lists.{stored}
-use Rattle.decision.proofs.Storing.{length-stored, getD-stored}
+use Rattle.decision.proofs.Storing.{stored-agree, stored-whole}
 use Rattle.protocol.specs.declared.client.ClientFile.{ClientFile}
 use Rattle.protocol.specs.declared.client.Sides.{Sides}
 use Rattle.protocol.specs.Client.{noClient, sideOf}
@@ -33,13 +31,8 @@ module _ {A B : Type 0} (g : A → B) where
   pub stored-map : (n : ℕ) (d : A) (l : List A) (l₀ : List B) → length l ≡ n → length l₀ ≡ n
       → stored n (λ k. k) (λ k. g (getD l k d)) l₀ ≡ map g l
   stored-map n d l l₀ long long₀ =
-      let v : ℕ → B = λ k. g (getD l k d) in
-      let size : length (stored n (λ k. k) v l₀) ≡ n = length-stored n (λ k. k) v l₀ ∙ long₀ in
-      ext-getD (g d) (stored n (λ k. k) v l₀) (map g l) (size ∙ sym long ∙ sym (length-map l))
-      (λ i h.
-      let below : i < n = omega (arith, h, size) in
-      getD-stored n (λ k. k) v l₀ (g d) i below (omega (arith, below, long₀)) (λ k a b e. omega (arith, a, e))
-      ∙ sym (getD-map l i d))
+      stored-agree n (λ k. k) (λ k. g (getD l k d)) (λ k. getD (map g l) k (g d)) l₀ (λ k h. sym (getD-map l k d))
+      ∙ stored-whole n (g d) (map g l) l₀ (length-map l ∙ long) long₀
 
 -- the sides of a file, and another row for one
 pub row-at : (rows : List (List ClientFile)) (f : ℕ) → sidesIn (sidesOf rows) f ≡ record { of = getD rows f [] }

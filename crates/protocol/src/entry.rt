@@ -274,8 +274,19 @@ pub fn count_calls(calls: [u8; MAX_CLIENTS], clients: usize) -> usize
     count
 }
 
-// The callbacks that were out, with these in place of the clients'.
-fn with_calls(
+// The callbacks that were out, with these in place of the clients'. Where all the places are the clients', they are these.
+fn with_calls(out: [u8; MAX_CLIENTS], clients: usize, calls: [u8; MAX_CLIENTS]) -> [u8; MAX_CLIENTS]
+    requires { ⌜ clients ≤ maxClients ⌝ }
+    ensures { λ r. ⌜ r ≡ stored clients (λ i. i) (λ i. getD calls i 0) out ⌝ }
+{
+    if clients == MAX_CLIENTS {
+        return calls;
+    }
+    with_calls_up_to(out, clients, calls)
+}
+
+// The same, one client after the other.
+fn with_calls_up_to(
     mut out: [u8; MAX_CLIENTS],
     clients: usize,
     calls: [u8; MAX_CLIENTS],
