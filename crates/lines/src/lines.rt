@@ -146,6 +146,8 @@ pub fn play_lines(
         match class {
             Class::OnFile { file } => {
                 let f = file % MAX_FILES;
+                // An arm for each kind, and not one call for all: so the entry goes from the call to its place with no
+                // stop in memory.
                 match step {
                     Step::Open { mode, client, file } => {
                         let entry = files[f];

@@ -21,6 +21,7 @@ use Rattle.protocol.specs.Entry.{crashedEntry, reportedEntry}
 use Rattle.file.specs.FileStep.{noCalls}
 use Rattle.table.specs.TableStep.{noEntry, entryOf, sidesIn}
 use Rattle.service.specs.declared.service.Service.{Service}
+use Rattle.service.specs.declared.outcome.Outcome.{Outcome}
 use Rattle.service.proofs.Parts.{serviceOf}
 use Rattle.service.proofs.Arms.Result.{block-result, table-result}
 use Rattle.stepfile.specs.declared.setting.Setting.{Setting}
@@ -84,8 +85,13 @@ chosen c x l at is =
 
 loop-holds : tie.Need-loop-holds Inv-loop2 μ-loop2 Inv-loop3 μ-loop3 Inv-loop μ-loop
 loop-holds c =
-    let a = c .before .before .before .before .before .before .before .before .before .before .before .before .before .before .args in
-    (none-yet (playing (a .settable)) _ (a .first) (now (a .input)) (now (a .out)), (c .before .before .before .before .before .before .before .before .before .before .in-force .ensures .0, none-idle 64 _ (a .service .server .table .files) (sidesOf (c .before .before .before .rows-of .result))))
+    let rows-at = c .before .before .before in
+    let force-at = rows-at .before .before .before .before .before .before .before in
+    let start = force-at .before .before .before .before in
+    let a = start .args in (
+      none-yet (playing (a .settable)) _ (a .first) (now (a .input)) (now (a .out)),
+      (force-at .in-force .ensures .0, none-idle 64 _ (a .service .server .table .files) (sidesOf (rows-at .rows-of .result))),
+    )
 
 loop-again : tie.Need-loop-again Inv-loop2 μ-loop2 Inv-loop3 μ-loop3 Inv-loop μ-loop
 loop-again c =
@@ -98,40 +104,37 @@ loop-again c =
       l .inv .1,
     )
 
+-- a fresh service, with its sides in rows
+abbrev freshWith : Service → List Sides → Outcome
+freshWith s sides =
+    let t = s .server .table in
+    record {
+      service =
+          serviceOf (s .sizes) (t .files) (t .recovering) (t .reported) (s .server .blocks) sides (s .copies) (s .held) (s .dirty);
+      reply = Done;
+      calls = noCalls;
+    }
+
 loop-again-2 : tie.Need-loop-again-2 Inv-loop2 μ-loop2 Inv-loop3 μ-loop3 Inv-loop μ-loop
 loop-again-2 c =
-    let line = c .before .before .before .before .before .before .before .before .before .before .before .before .before .before .before .before .before .before .before .before .before .before .before .before .before in
-    let fresh = c .before .before .before .before .before .before .before .before .before .before .before .before .before .before .before .before .new in
-    let rows-then : sidesOf (c .before .before .before .before .rows-of2 .result) ≡ fresh .result .clients =
-    ap sidesOf (c .before .before .before .before .rows-of2 .ensures) ∙ from-rows (fresh .result .clients) in (
-      replies line
-          (record {
-            service =
-                let s = fresh .result in
-                let t = s .server .table in
-                serviceOf (s .sizes) (t .files) (t .recovering) (t .reported) (s .server .blocks) (sidesOf (c .before .before .before .before .rows-of2 .result))
-                (s .copies) (s .held) (s .dirty);
-            reply = Done;
-            calls = noCalls;
-          })
-          _ _
+    let wrote = c .before .before in
+    let rows-at = wrote .before .before in
+    let force-at = rows-at .before in
+    let new-at = force-at .before .before .before .before .before .before .before .before .before .before .before in
+    let chosen-at = new-at .before .before in
+    let set-at = chosen-at .before .before in
+    let line = set-at .before .before .before .before .before in
+    let fresh = new-at .new in
+    let rows = rows-at .rows-of2 in
+    let back : sidesOf (rows .result) ≡ fresh .result .clients = ap sidesOf (rows .ensures) ∙ from-rows (fresh .result .clients) in (
+      replies line (freshWith (fresh .result) (sidesOf (rows .result))) _ _
           (λ text at.
-          ap
-          (λ (sides : List Sides).
-          record {
-            service =
-                let s = fresh .result in
-                let t = s .server .table in
-                serviceOf (s .sizes) (t .files) (t .recovering) (t .reported) (s .server .blocks) sides (s .copies) (s .held) (s .dirty);
-            reply = Done;
-            calls = noCalls;
-          })
-          rows-then
+          ap (freshWith (fresh .result)) back
           ∙ ap (λ (s : Service). record { service = s; reply = Done; calls = noCalls }) (fresh .ensures .0)
-          ∙ chosen (c .before .before .before .before .before .before .before .before .before .before .before .before .before .before .before .before .before .before .before .before) _ text at (c .before .before .before .before .before .before .before .before .before .before .before .before .before .before .before .before .before .before .setting .given .1))
-          (c .before .before .write-reply2 .ensures .0)
-          (c .before .before .write-reply2 .ensures .1),
-      (c .before .before .before .before .before .in-force2 .ensures .0, none-idle 64 _ (fresh .result .server .table .files) (sidesOf (c .before .before .before .before .rows-of2 .result))),
+          ∙ chosen set-at _ text at (chosen-at .setting .given .1))
+          (wrote .write-reply2 .ensures .0)
+          (wrote .write-reply2 .ensures .1),
+      (force-at .in-force2 .ensures .0, none-idle 64 _ (fresh .result .server .table .files) (sidesOf (rows .result))),
     )
 
 loop-again-3 : tie.Need-loop-again-3 Inv-loop2 μ-loop2 Inv-loop3 μ-loop3 Inv-loop μ-loop
@@ -154,90 +157,124 @@ loop-again-4 c =
 
 loop-again-5 : tie.Need-loop-again-5 Inv-loop2 μ-loop2 Inv-loop3 μ-loop3 Inv-loop μ-loop
 loop-again-5 c =
-    let told = c .before .before .before .before .before .before .before .before .before .before .before .before .before .before .before .before .before .before .before .before .before in
+    let wrote = c .before .before in
+    let at = wrote .before .before .before .before .before .before in
+    let step-at = at .before .before .before .before .before .before .before .before in
+    let class-at = step-at .before .before .before in
+    let told = class-at .before .before in
     let l = at-line told .loop in
-    let done = c .before .before .before .before .before .before .before .before .«open» in
-    let given = c .before .before .before .before .before .before .before .before .before .before .before .before .before .before .before .before .step .given in
+    let done = at .«open» in
+    let given = step-at .step .given in
+    let file = class-at .class2 .given .0 .0 in
     let client = given .0 .1 .0 in
-    let f = c .before .before .before .before .before .before .before .before .before .before .before .before .before .before .before .before .before .before .before .class2 .given .0 .0 % 64 in
     let is =
-    own-result (stands (at-line told)) (step-of told) _ (in-force (at-line told)) (c .before .before .before .before .before .before .before .before .before .before .before .before .before .before .before .before .before .before .before .class2 .given .0 .0) client (l .rows) _ (given .1) (done .result) _ _ _ _ refl
-    (class-is told ∙ c .before .before .before .before .before .before .before .before .before .before .before .before .before .before .before .before .before .before .before .class2 .given .1)
+    own-result (stands (at-line told)) (step-of told) _ (in-force (at-line told)) file client (l .rows) _ (given .1)
+    (done .result) _ _ _ _ refl
+    (class-is told ∙ class-at .class2 .given .1)
     (done .ensures) in (
-      replies (line-of told) _ _ _ (λ text at. is ∙ step-is told text) (c .before .before .write-reply5 .ensures .0) (c .before .before .write-reply5 .ensures .1),
-      (in-force (at-line told), own-not-idle (l .idle) (l .sizes .clients) (l .files) (l .rows) (resting (at-line told)) f (client % 8) (done .result .file .entry) (done .result .file .own)),
+      replies (line-of told) _ _ _ (λ text at. is ∙ step-is told text) (wrote .write-reply5 .ensures .0) (wrote .write-reply5 .ensures .1),
+      (
+        in-force (at-line told),
+        own-not-idle (l .idle) (l .sizes .clients) (l .files) (l .rows) (resting (at-line told)) (file % 64) (client % 8)
+            (done .result .file .entry) (done .result .file .own),
+      ),
     )
 
 loop-again-6 : tie.Need-loop-again-6 Inv-loop2 μ-loop2 Inv-loop3 μ-loop3 Inv-loop μ-loop
 loop-again-6 c =
-    let told = c .before .before .before .before .before .before .before .before .before .before .before .before .before .before .before .before .before .before in
+    let wrote = c .before .before in
+    let at = wrote .before .before .before .before .before .before in
+    let step-at = at .before .before .before .before .before in
+    let class-at = step-at .before .before .before in
+    let told = class-at .before .before in
     let l = at-line told .loop in
-    let done = c .before .before .before .before .before .before .before .before .close in
-    let given = c .before .before .before .before .before .before .before .before .before .before .before .before .before .step2 .given in
+    let done = at .close in
+    let given = step-at .step2 .given in
+    let file = class-at .class2 .given .0 .0 in
     let client = given .0 .1 .0 in
-    let f = c .before .before .before .before .before .before .before .before .before .before .before .before .before .before .before .before .class2 .given .0 .0 % 64 in
     let is =
-    own-result (stands (at-line told)) (step-of told) _ (in-force (at-line told)) (c .before .before .before .before .before .before .before .before .before .before .before .before .before .before .before .before .class2 .given .0 .0) client (l .rows) _ (given .1) (done .result) _ _ _ _ refl
-    (class-is told ∙ c .before .before .before .before .before .before .before .before .before .before .before .before .before .before .before .before .class2 .given .1)
+    own-result (stands (at-line told)) (step-of told) _ (in-force (at-line told)) file client (l .rows) _ (given .1)
+    (done .result) _ _ _ _ refl
+    (class-is told ∙ class-at .class2 .given .1)
     (λ t own. done .ensures t (l .blocks) (l .copies) (l .held) own) in (
-      replies (line-of told) _ _ _ (λ text at. is ∙ step-is told text) (c .before .before .write-reply6 .ensures .0) (c .before .before .write-reply6 .ensures .1),
-      (in-force (at-line told), own-not-idle (l .idle) (l .sizes .clients) (l .files) (l .rows) (resting (at-line told)) f (client % 8) (done .result .file .entry) (done .result .file .own)),
+      replies (line-of told) _ _ _ (λ text at. is ∙ step-is told text) (wrote .write-reply6 .ensures .0) (wrote .write-reply6 .ensures .1),
+      (
+        in-force (at-line told),
+        own-not-idle (l .idle) (l .sizes .clients) (l .files) (l .rows) (resting (at-line told)) (file % 64) (client % 8)
+            (done .result .file .entry) (done .result .file .own),
+      ),
     )
 
 loop-again-7 : tie.Need-loop-again-7 Inv-loop2 μ-loop2 Inv-loop3 μ-loop3 Inv-loop μ-loop
 loop-again-7 c =
-    let told = c .before .before .before .before .before .before .before .before .before .before .before .before .before .before .before .before .before .before .before .before .before in
+    let wrote = c .before .before in
+    let at = wrote .before .before .before .before .before .before in
+    let step-at = at .before .before .before .before .before .before .before .before in
+    let class-at = step-at .before .before .before in
+    let told = class-at .before .before in
     let l = at-line told .loop in
-    let done = c .before .before .before .before .before .before .before .before .flush in
-    let given = c .before .before .before .before .before .before .before .before .before .before .before .before .before .before .before .before .step3 .given in
+    let done = at .flush in
+    let given = step-at .step3 .given in
+    let file = class-at .class2 .given .0 .0 in
     let client = given .0 .0 in
-    let f = c .before .before .before .before .before .before .before .before .before .before .before .before .before .before .before .before .before .before .before .class2 .given .0 .0 % 64 in
     let is =
-    own-result (stands (at-line told)) (step-of told) _ (in-force (at-line told)) (c .before .before .before .before .before .before .before .before .before .before .before .before .before .before .before .before .before .before .before .class2 .given .0 .0) client (l .rows) _ (given .1) (done .result) _ _ _ _ refl
-    (class-is told ∙ c .before .before .before .before .before .before .before .before .before .before .before .before .before .before .before .before .before .before .before .class2 .given .1)
+    own-result (stands (at-line told)) (step-of told) _ (in-force (at-line told)) file client (l .rows) _ (given .1)
+    (done .result) _ _ _ _ refl
+    (class-is told ∙ class-at .class2 .given .1)
     (done .ensures) in (
-      replies (line-of told) _ _ _ (λ text at. is ∙ step-is told text) (c .before .before .write-reply7 .ensures .0) (c .before .before .write-reply7 .ensures .1),
-      (in-force (at-line told), own-not-idle (l .idle) (l .sizes .clients) (l .files) (l .rows) (resting (at-line told)) f (client % 8) (done .result .file .entry) (done .result .file .own)),
+      replies (line-of told) _ _ _ (λ text at. is ∙ step-is told text) (wrote .write-reply7 .ensures .0) (wrote .write-reply7 .ensures .1),
+      (
+        in-force (at-line told),
+        own-not-idle (l .idle) (l .sizes .clients) (l .files) (l .rows) (resting (at-line told)) (file % 64) (client % 8)
+            (done .result .file .entry) (done .result .file .own),
+      ),
     )
 
 loop-again-8 : tie.Need-loop-again-8 Inv-loop2 μ-loop2 Inv-loop3 μ-loop3 Inv-loop μ-loop
 loop-again-8 c =
-    let told = c .before .before .before .before .before .before .before .before .before .before .before .before .before .before .before .before .before .before .before .before .before .before in
+    let wrote = c .before .before in
+    let at = wrote .before .before .before .before .before .before .before in
+    let step-at = at .before .before .before .before .before .before .before .before in
+    let class-at = step-at .before .before .before in
+    let told = class-at .before .before in
     let l = at-line told .loop in
-    let done = c .before .before .before .before .before .before .before .before .before .answer in
-    let f = c .before .before .before .before .before .before .before .before .before .before .before .before .before .before .before .before .before .before .before .before .class2 .given .0 .0 % 64 in
+    let done = at .answer in
+    let file = class-at .class2 .given .0 .0 in
     let is =
-    answer-result (stands (at-line told)) (step-of told) _ (in-force (at-line told)) (c .before .before .before .before .before .before .before .before .before .before .before .before .before .before .before .before .before .before .before .before .class2 .given .0 .0) (l .rows) _ (c .before .before .before .before .before .before .before .before .before .before .before .before .before .before .before .before .before .step4 .given .1) (done .result) _ _ _ _ refl
-    (class-is told ∙ c .before .before .before .before .before .before .before .before .before .before .before .before .before .before .before .before .before .before .before .before .class2 .given .1)
+    answer-result (stands (at-line told)) (step-of told) _ (in-force (at-line told)) file (l .rows) _
+    (step-at .step4 .given .1) (done .result) _ _ _ _ refl
+    (class-is told ∙ class-at .class2 .given .1)
     (done .ensures) in (
-      replies (line-of told) _ _ _ (λ text at. is ∙ step-is told text) (c .before .before .write-reply8 .ensures .0) (c .before .before .write-reply8 .ensures .1),
+      replies (line-of told) _ _ _ (λ text at. is ∙ step-is told text) (wrote .write-reply8 .ensures .0) (wrote .write-reply8 .ensures .1),
       (
         in-force (at-line told),
-        rw (row-set (l .rows) f (done .result .file .sides .of))
-            (not-idle (l .idle) (l .sizes .clients) (l .files) (sidesOf (l .rows)) (resting (at-line told)) f (done .result .file .entry) (done .result .file .sides)),
+        rw (row-set (l .rows) (file % 64) (done .result .file .sides .of))
+            (not-idle (l .idle) (l .sizes .clients) (l .files) (sidesOf (l .rows)) (resting (at-line told)) (file % 64)
+            (done .result .file .entry) (done .result .file .sides)),
       ),
     )
 
 -- a step of another kind is not of this class
-loop-less-9 : tie.Need-loop-less-9 Inv-loop2 μ-loop2 Inv-loop3 μ-loop3 Inv-loop μ-loop
-loop-less-9 c = absurd (not-on-file (step-of (c .before .before .before .before)) _ (c .match5 .keys5) (class-is (c .before .before .before .before) ∙ c .before .before .class2 .given .1))
-
-loop-again-9 : tie.Need-loop-again-9 Inv-loop2 μ-loop2 Inv-loop3 μ-loop3 Inv-loop μ-loop
-loop-again-9 c = absurd (not-on-file (step-of (c .before .before .before .before)) _ (c .match5 .keys5) (class-is (c .before .before .before .before) ∙ c .before .before .class2 .given .1))
+no-other : tie.At-match5-keys5 Inv-loop2 μ-loop2 Inv-loop3 μ-loop3 Inv-loop μ-loop → ⊥
+no-other c =
+    let class-at = c .before .before in
+    let told = class-at .before .before in
+    not-on-file (step-of told) _ (c .match5 .keys5) (class-is told ∙ class-at .class2 .given .1)
 
 loop-again-10 : tie.Need-loop-again-10 Inv-loop2 μ-loop2 Inv-loop3 μ-loop3 Inv-loop μ-loop
 loop-again-10 c =
-    let told = c .before .before .before .before .before .before .before .before .before .before .before .before .before in
+    let wrote = c .before .before in
+    let at = wrote .before .before in
+    let class-at = at .before .before .before .before .before .before .before in
+    let told = class-at .before .before in
     let l = at-line told .loop in
-    let s = stands (at-line told) in
-    let client = c .before .before .before .before .before .before .before .before .before .before .before .class3 .given .0 .0 in
-    let file = c .before .before .before .before .before .before .before .before .before .before .before .class3 .given .0 .1 .0 in
+    let client = class-at .class3 .given .0 .0 in
+    let file = class-at .class3 .given .0 .1 .0 in
     let is =
-    block-result s (step-of told) _ (in-force (at-line told)) client file
-    (c .before .before .before .before .access-block .result) _ _ _ _
-    (class-is told ∙ c .before .before .before .before .before .before .before .before .before .before .before .class3 .given .1)
-    (rw (side-at (l .rows) (file % 64) (client % 8)) at (c .before .before .before .before .access-block .ensures)) in (
-      replies (line-of told) _ _ _ (λ text at. is ∙ step-is told text) (c .before .before .write-plain .ensures .0) (c .before .before .write-plain .ensures .1),
+    block-result (stands (at-line told)) (step-of told) _ (in-force (at-line told)) client file (at .access-block .result) _ _ _ _
+    (class-is told ∙ class-at .class3 .given .1)
+    (rw (side-at (l .rows) (file % 64) (client % 8)) at (at .access-block .ensures)) in (
+      replies (line-of told) _ _ _ (λ text at. is ∙ step-is told text) (wrote .write-plain .ensures .0) (wrote .write-plain .ensures .1),
       (in-force (at-line told), resting (at-line told)),
     )
 
@@ -330,15 +367,18 @@ loop3-again c =
 
 loop-again-11 : tie.Need-loop-again-11 Inv-loop2 μ-loop2 Inv-loop3 μ-loop3 Inv-loop μ-loop
 loop-again-11 c =
-    let told = c .before .before .before .before .before .before .before .before .before .before in
-    let s = stands (at-line told) in
+    let wrote = c .before .before in
+    let came = wrote .before .before .before .before in
+    let stepped = came .before in
+    let class-at = stepped .before in
+    let told = class-at .before .before in
     let is =
-    table-result s (step-of told) _ (in-force (at-line told)) (c .before .before .before .before .before .before .before .step5 .result) _
-    (class-is told ∙ c .before .before .before .before .before .before .before .before .enum-told5 .given .1)
-    (c .before .before .before .before .before .before .before .step5 .ensures .0)
-    (entries (c .before .before .before .before .before .before)) in (
-      replies (line-of told) _ _ _ (λ text at. is ∙ step-is told text) (c .before .before .write-reply9 .ensures .0) (c .before .before .write-reply9 .ensures .1),
-      (in-force (at-line told), rest-then (c .before .before .before .before .before .before)),
+    table-result (stands (at-line told)) (step-of told) _ (in-force (at-line told)) (stepped .step5 .result) _
+    (class-is told ∙ class-at .enum-told5 .given .1)
+    (stepped .step5 .ensures .0)
+    (entries came) in (
+      replies (line-of told) _ _ _ (λ text at. is ∙ step-is told text) (wrote .write-reply9 .ensures .0) (wrote .write-reply9 .ensures .1),
+      (in-force (at-line told), rest-then came),
     )
 
 -- how far it went, in the words of the contract: r is the reach, and sides are those of the rows
@@ -484,8 +524,8 @@ play-lines-spec =
     (λ c κs. tt)
     (λ c. fewer (c .before .before .before .before .before .before .before .before .before .before .before .before .before .before .before .before .before .before .before .before .before .before .before .before .before .before))
     loop-again-8
-    loop-less-9
-    loop-again-9
+    (λ c. absurd (no-other c))
+    (λ c. absurd (no-other c))
     safe.enum-known-class-2
     safe.mul-own
     safe.mul-own-2
