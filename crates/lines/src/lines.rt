@@ -146,8 +146,7 @@ pub fn play_lines(
         match class {
             Class::OnFile { file } => {
                 let f = file % MAX_FILES;
-                // An arm for each kind, and not one call for all: so the entry goes from the call to its place with no
-                // stop in memory.
+                // An arm for each kind, and not one call for all, which was slower (docs/TESTING.md, Speed).
                 match step {
                     Step::Open { mode, client, file } => {
                         let entry = files[f];
