@@ -9,9 +9,9 @@ use native.Mathlib.Omega.{arith}
 use lib.Dec.{leb}
 use lib.ListN.{getD, set}
 use borrow.Author.Tests.{leb-false}
-use Rattle.records.proofs.Choosing.{split, and-left, and-right}
-use Rattle.decision.specs.declared.sizes.Sizes.{Sizes}
-use Rattle.decision.specs.Sizes.{maxClients, maxFiles, maxBlocks, Permitted, place, cell}
+use Rattle.sizes.proofs.Choosing.{split, and-left, and-right}
+use Rattle.sizes.specs.declared.sizes.Sizes.{Sizes}
+use Rattle.sizes.specs.Sizes.{maxClients, maxFiles, maxBlocks, Permitted, place, cell}
 use Rattle.decision.specs.Lists.{firstOf}
 use Rattle.protocol.specs.declared.client.ClientFile.{ClientFile}
 use Rattle.protocol.specs.declared.reply.Reply.{Reply}

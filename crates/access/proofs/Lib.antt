@@ -1,3 +1,2 @@
 -- The laws behind reads and writes.
 pub mod Accessed
-pub mod Others

@@ -4,12 +4,12 @@ use Prim.Native.Nat.{ℕ}
 use mathlib.Core.Path.{_≡_}
 use mathlib.Core.Bool.{Bool}
 use mathlib.Core.List.{List}
-use Rattle.decision.specs.declared.sizes.Sizes.{Sizes}
+use Rattle.sizes.specs.declared.sizes.Sizes.{Sizes}
 use Rattle.protocol.specs.declared.client.ClientFile.{ClientFile}
 use Rattle.protocol.specs.declared.reply.Reply.{Reply}
 use Rattle.protocol.specs.declared.reply.Reply.the-variants.{Value, Refused, Done}
 use Rattle.protocol.specs.declared.step.Step.{Step}
-use Rattle.protocol.specs.declared.step.Step.the-variants.{Open, Close, Read, Write, Flush, Answer, Crash, Report, End}
+use Rattle.protocol.specs.Step.{BlockAct, reads, writes, nothing, blockAct}
 use Rattle.protocol.specs.Refusal.{Test, tested, readTests, writeTests}
 use Rattle.blocks.specs.Stores.{Stores, lent, heldIn, valueRead, readStores, writtenStores}
 
@@ -32,19 +32,16 @@ afterRead own a i f b =
 abbrev pub afterWrite : ClientFile → Stores → ℕ → ℕ → ℕ → ℕ → BlockAfter
 afterWrite own a i f b v = record { stores = writtenStores (own .opens .caching) i f b v a; reply = Done }
 
+abbrev pub acted : Sizes → Bool → Bool → ClientFile → Stores → BlockAct → BlockAfter
+acted z recovering reported own a (reads i f b) =
+    unlessTested (readTests z recovering reported own (heldIn a i f b) i f b) a (afterRead own a i f b)
+acted z recovering reported own a (writes i f b v) =
+    unlessTested (writeTests z recovering reported own i f b) a (afterWrite own a i f b v)
+acted z recovering reported own a nothing = record { stores = a; reply = Done }
+
 -- a step that is no read and no write leaves all as it came
 unfoldable pub blockStep : Sizes → Bool → Bool → ClientFile → Stores → Step → BlockAfter
-blockStep z recovering reported own a (Read i f b) =
-    unlessTested (readTests z recovering reported own (heldIn a i f b) i f b) a (afterRead own a i f b)
-blockStep z recovering reported own a (Write i f b v) =
-    unlessTested (writeTests z recovering reported own i f b) a (afterWrite own a i f b v)
-blockStep z recovering reported own a (Open m i f) = record { stores = a; reply = Done }
-blockStep z recovering reported own a (Close m i f) = record { stores = a; reply = Done }
-blockStep z recovering reported own a (Flush i f b) = record { stores = a; reply = Done }
-blockStep z recovering reported own a (Answer i f) = record { stores = a; reply = Done }
-blockStep z recovering reported own a Crash = record { stores = a; reply = Done }
-blockStep z recovering reported own a (Report i) = record { stores = a; reply = Done }
-blockStep z recovering reported own a End = record { stores = a; reply = Done }
+blockStep z recovering reported own a x = acted z recovering reported own a (blockAct x)
 
 -- what the program's step replies, and what it leaves in the lent arrays, are what the definition says
 pub record Leaves

@@ -1,82 +1,22 @@
 // Reads and writes of one block. What stands at a wrapped place counts only where the step is not refused before.
 ghost use mathlib.Core.Path.{_≡_};
-ghost use Rattle.decision.specs.Sizes.{Permitted};
+ghost use Rattle.sizes.specs.Sizes.{Permitted};
 ghost use Rattle.blocks.specs.Stores.{lent};
 ghost use Rattle.access.specs.BlockStep.{blockStep, Leaves};
 use crate::refusal::read_refusal;
 use crate::refusal::write_refusal;
 use blocks::cell_of;
 use blocks::place_of;
-use decision::MAX_CELLS;
-use decision::MAX_PLACES;
-use decision::Sizes;
 use protocol::ClientFile;
 use protocol::Reply;
 use protocol::Step;
-
-// A read or a write, by the client's own side of the file. Any other step leaves all as it came.
-pub fn access_block(
-    sizes: Sizes,
-    recovering: bool,
-    reported: bool,
-    own: ClientFile,
-    step: Step,
-    blocks: &mut [u64; MAX_PLACES],
-    copies: &mut [u64; MAX_CELLS],
-    held: &mut [bool; MAX_CELLS],
-    dirty: &mut [bool; MAX_CELLS],
-) -> Reply
-    requires { ⌜ Permitted sizes ⌝ }
-    ensures { λ r. ⌜ Leaves
-        (blockStep sizes recovering reported own
-        (lent (now (blocks .entry)) (now (copies .entry)) (now (held .entry)) (now (dirty .entry)))
-        step)
-        r (now (blocks .exit)) (now (copies .exit)) (now (held .exit)) (now (dirty .exit)) ⌝ }
-{
-    match step {
-        Step::Read {
-            client,
-            file,
-            block,
-        } => read_block(
-            sizes,
-            recovering,
-            reported,
-            own,
-            client,
-            file,
-            block,
-            blocks,
-            copies,
-            held,
-            dirty,
-        ),
-        Step::Write {
-            client,
-            file,
-            block,
-            value,
-        } => write_block(
-            sizes,
-            recovering,
-            reported,
-            own,
-            client,
-            file,
-            block,
-            value,
-            blocks,
-            copies,
-            held,
-            dirty,
-        ),
-        _ => Reply::Done,
-    }
-}
+use sizes::MAX_CELLS;
+use sizes::MAX_PLACES;
+use sizes::Sizes;
 
 // Reads a block: the client's copy where it may cache and holds it; else the server's, which a client that may cache
 // then holds.
-fn read_block(
+pub fn read_block(
     sizes: Sizes,
     recovering: bool,
     reported: bool,
@@ -124,7 +64,7 @@ fn read_block(
 }
 
 // Writes a block: the client's copy where it may cache, else the server's.
-fn write_block(
+pub fn write_block(
     sizes: Sizes,
     recovering: bool,
     reported: bool,

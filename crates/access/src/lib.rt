@@ -2,4 +2,5 @@
 mod access;
 mod refusal;
 
-pub use access::access_block;
+pub use access::read_block;
+pub use access::write_block;

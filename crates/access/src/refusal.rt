@@ -2,7 +2,6 @@
 ghost use mathlib.Core.Path.{_≡_};
 ghost use Rattle.decision.specs.Lists.{firstOf};
 ghost use Rattle.protocol.specs.Refusal.{readTests, writeTests};
-use decision::Sizes;
 use protocol::ClientFile;
 use protocol::IN_RECOVERY;
 use protocol::NO_BLOCK;
@@ -10,6 +9,7 @@ use protocol::NO_CLIENT;
 use protocol::NO_FILE;
 use protocol::NOT_OPEN;
 use protocol::refused_if;
+use sizes::Sizes;
 
 pub fn read_refusal(
     sizes: Sizes,

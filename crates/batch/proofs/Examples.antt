@@ -11,7 +11,8 @@ use Rattle.decision.specs.Permission.{permissionAtGrant}
 use Rattle.decision.specs.State.{stateOf}
 use Rattle.protocol.specs.declared.reply.Reply.{Reply}
 use Rattle.protocol.specs.declared.reply.Reply.the-variants.{Granted, Waiting, Refused, Done}
-use Rattle.file.specs.FileStep.{noCalls, fileStep}
+use Rattle.protocol.specs.Reply.{noCalls}
+use Rattle.file.specs.FileStep.{fileStep}
 use Rattle.table.specs.TableStep.{tableStep}
 use Rattle.service.specs.declared.service.Service.{Service}
 use Rattle.service.specs.Step.{stepOf}

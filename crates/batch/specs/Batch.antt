@@ -12,7 +12,7 @@ use Rattle.protocol.specs.declared.reply.Reply.the-variants.{Refused, Done}
 use Rattle.protocol.specs.declared.step.Step.{Step}
 use Rattle.protocol.specs.declared.step.Step.the-variants.{Open}
 use Rattle.protocol.specs.Refusal.{Test, tested}
-use Rattle.file.specs.FileStep.{noCalls}
+use Rattle.protocol.specs.Reply.{noCalls}
 use Rattle.service.specs.declared.outcome.Outcome.{Outcome}
 use Rattle.service.specs.declared.service.Service.{Service}
 use Rattle.service.specs.Step.{stepOf}

@@ -3,7 +3,7 @@
 use Prim.Native.Nat.{ℕ}
 use mathlib.Core.List.{List, [], _∷_}
 use Rattle.protocol.specs.declared.step.Step.{Step}
-use Rattle.decision.specs.declared.sizes.Sizes.{Sizes}
+use Rattle.sizes.specs.declared.sizes.Sizes.{Sizes}
 use Rattle.service.specs.declared.service.Service.{Service}
 use Rattle.service.specs.Demand3.{refused, after, Memory, blank, fed, Recovery, none, recoveryAfter}
 use Rattle.service.specs.Demand3.{ReadIsLatest, EndRestores, Holds}

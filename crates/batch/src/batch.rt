@@ -3,16 +3,23 @@ ghost use mathlib.Core.Path.{_≡_};
 ghost use Prim.Native.Nat.{_≤_};
 ghost use Rattle.batch.specs.Batch.{maxOpenings, modeAt, listed, batchOf};
 ghost use Rattle.batch.specs.Demand3.{GoesOn};
-use decision::MAX_CLIENTS;
-use decision::MAX_FILES;
-use file::SharedFile;
 use protocol::LIST_TOO_LONG;
 use protocol::Reply;
 use protocol::Step;
+use protocol::asked;
 use records::Mode;
-use service::Server;
+use service::FLAGS;
 use service::Service;
-use table::Table;
+use service::held_service;
+use service::hold;
+use service::take_step;
+use sizes::MAX_CELLS;
+use sizes::MAX_CLIENTS;
+use sizes::MAX_PLACES;
+use words::SAID;
+use words::WORDS;
+use words::calls_with;
+use words::reply_of;
 
 // The most openings of a list (document 02: entries).
 pub const MAX_OPENINGS: usize = 16;
@@ -47,8 +54,8 @@ fn mode_at(writes: &[bool], k: usize) -> Mode
 }
 
 // Opens the files for the client, in list order, each for write if its flag says so. The list is as long as the files
-// are: a file past the flags is opened for read, and a flag past the files is passed over. The service is taken apart
-// once for the whole list, and put together once.
+// are: a file past the flags is opened for read, and a flag past the files is passed over. The service is held in
+// arrays once for the whole list, and made of them once.
 pub fn open_batch(service: Service, client: usize, files: &[usize], writes: &[bool]) -> BatchOutcome
     ensures { λ r. ⌜ r ≡ batchOf service client (listed (now (files .entry)) (now (writes .entry))) ⌝ }
     ensures { λ r. ⌜ GoesOn service (r .service) ⌝ }
@@ -68,61 +75,51 @@ pub fn open_batch(service: Service, client: usize, files: &[usize], writes: &[bo
             replies,
         };
     }
-    let given = service.sizes;
-    let sizes = given.in_force();
-    let server = service.server;
-    let table = server.table;
-    let mut entries = table.files;
-    let recovering = table.recovering;
-    let reported = table.reported;
-    let mut blocks = server.blocks;
-    let mut clients = service.clients;
-    let mut copies = service.copies;
-    let mut held = service.held;
-    let mut dirty = service.dirty;
+    let sizes = service.sizes;
+    let mut table = [0u64; WORDS];
+    let mut flags = [false; FLAGS];
+    let mut blocks = [0u64; MAX_PLACES];
+    let mut copies = [0u64; MAX_CELLS];
+    let mut held = [false; MAX_CELLS];
+    let mut dirty = [false; MAX_CELLS];
+    let mut words = [0u64; SAID];
+    hold(
+        service,
+        &mut table,
+        &mut flags,
+        &mut blocks,
+        &mut copies,
+        &mut held,
+        &mut dirty,
+    );
     let mut k: usize = 0;
     while k < count {
         let file = files[k];
         let mode = mode_at(writes, k);
-        let f = file % MAX_FILES;
-        let entry = entries[f];
-        let sides = clients[f];
-        let shared = SharedFile { entry, sides };
-        let done = shared.step(
+        let numbers = asked(Step::Open { mode, client, file });
+        let said = take_step(
             sizes,
-            recovering,
-            Step::Open { mode, client, file },
+            numbers.kind,
+            numbers.client,
+            numbers.file,
+            numbers.block,
+            numbers.value,
+            &mut table,
+            &mut flags,
             &mut blocks,
             &mut copies,
             &mut held,
             &mut dirty,
+            &mut words,
         );
-        let after = done.file;
-        let entry_after = after.entry;
-        let sides_after = after.sides;
-        let reply = done.reply;
-        let calls = done.calls;
-        entries[f] = entry_after;
-        clients[f] = sides_after;
-        replies[k] = OpenReply { reply, calls };
+        replies[k] = OpenReply {
+            reply: reply_of(said, &words),
+            calls: calls_with(said, &words),
+        };
         k += 1;
     }
     BatchOutcome {
-        service: Service {
-            sizes: given,
-            server: Server {
-                table: Table {
-                    files: entries,
-                    recovering,
-                    reported,
-                },
-                blocks,
-            },
-            clients,
-            copies,
-            held,
-            dirty,
-        },
+        service: held_service(sizes, &table, &flags, &blocks, &copies, &held, &dirty),
         reply: Reply::Done,
         count,
         replies,

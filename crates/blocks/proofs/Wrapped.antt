@@ -2,7 +2,7 @@
 use Prim.Native.Nat.{ℕ, _%_, _<_}
 use mathlib.Core.Path.{_≡_}
 use native.Mathlib.Nat.{mod-eq-of-lt}
-use Rattle.decision.specs.Sizes.{maxClients, maxFiles, maxBlocks, firstPlace, place, firstCell, cell}
+use Rattle.sizes.specs.Sizes.{maxClients, maxFiles, maxBlocks, firstPlace, place, firstCell, cell}
 
 pub wrapped-cell :
     (i f : ℕ) → i < maxClients → f < maxFiles → firstCell (i % maxClients) (f % maxFiles) ≡ firstCell i f

@@ -6,7 +6,7 @@ use mathlib.Core.List.{List}
 use lib.Dec.{ltb}
 use lib.ListN.{getD, set}
 use Rattle.decision.specs.Lists.{count}
-use Rattle.decision.specs.Sizes.{place, cell, firstPlace, firstCell}
+use Rattle.sizes.specs.Sizes.{place, cell, firstPlace, firstCell}
 use Rattle.decision.specs.Callback.{writesBack, invalidates}
 use Rattle.protocol.specs.Client.{kept, sent}
 

@@ -3,21 +3,21 @@
 ghost use mathlib.Core.Path.{_≡_};
 ghost use mathlib.Core.Bool.{false, cond, not};
 ghost use Prim.Native.Nat.{_+_, _%_, _≤_, _<_};
-ghost use Rattle.decision.specs.Sizes.{maxClients, maxFiles, maxBlocks, maxPlaces, maxCells};
-ghost use Rattle.decision.specs.Sizes.{firstPlace, place, firstCell, cell};
+ghost use Rattle.sizes.specs.Sizes.{maxClients, maxFiles, maxBlocks, maxPlaces, maxCells};
+ghost use Rattle.sizes.specs.Sizes.{firstPlace, place, firstCell, cell};
 ghost use lib.ListN.{getD};
 ghost use Rattle.decision.specs.Lists.{count as tally};
 ghost use Rattle.decision.specs.Callback.{writesBack};
 ghost use Rattle.decision.specs.Callback.{invalidates as drops};
 ghost use Rattle.protocol.specs.Client.{kept, sent};
-use decision::MAX_BLOCKS;
-use decision::MAX_CELLS;
-use decision::MAX_CLIENTS;
-use decision::MAX_FILES;
-use decision::MAX_PLACES;
 use decision::invalidates;
 use decision::one_if;
 use decision::writes_back;
+use sizes::MAX_BLOCKS;
+use sizes::MAX_CELLS;
+use sizes::MAX_CLIENTS;
+use sizes::MAX_FILES;
+use sizes::MAX_PLACES;
 
 // Where the client's copies of the file begin; the numbers are wrapped, so that there is always room for a file.
 pub fn first_cell(client: usize, file: usize) -> usize

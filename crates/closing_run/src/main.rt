@@ -6,15 +6,17 @@ ghost use Rattle.batch.specs.Batch.{maxOpenings};
 use batch::MAX_OPENINGS;
 use batch::OpenReply;
 use batch::open_batch;
-use decision::MAX_CLIENTS;
-use decision::Sizes;
 use libc::STDOUT_FILENO;
 use protocol::Reply;
 use protocol::Step;
 use records::Mode;
 use service::Service;
+use sizes::MAX_CLIENTS;
+use sizes::Sizes;
+use words::SAID;
+use words::say;
 use writer::LINE_ROOM;
-use writer::write_reply;
+use writer::write_said;
 
 fn main() {
     let fresh = Service::new(Sizes::default());
@@ -63,7 +65,9 @@ fn print(reply: Reply, count: usize, replies: [OpenReply; MAX_OPENINGS])
 }
 
 fn print_line(number: u64, reply: Reply, calls: [u8; MAX_CLIENTS]) {
+    let mut words = [0u64; SAID];
     let mut out = [0u8; LINE_ROOM];
-    let end = write_reply(&mut out, 0, number, reply, calls);
+    let said = say(reply, calls, &mut words);
+    let end = write_said(&mut out, 0, number, said, &words);
     io::write_all(STDOUT_FILENO, &out[0..end]);
 }

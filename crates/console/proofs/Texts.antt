@@ -3,7 +3,7 @@ use Prim.Native.Nat.{ℕ}
 use mathlib.Core.Path.{_≡_}
 use mathlib.Core.Bool.{Bool, true, false}
 use mathlib.Core.List.{List}
-use Rattle.records.proofs.Choosing.{split, conflict}
+use Rattle.sizes.proofs.Choosing.{split, conflict}
 use Rattle.stepfile.specs.Grammar.{same}
 use Rattle.stepfile.proofs.AsWritten.{same-true}
 

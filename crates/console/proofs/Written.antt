@@ -7,7 +7,7 @@ use native.Mathlib.Omega.{arith}
 use lib.Dec.{eqb, ltb}
 use lib.ListN.{length}
 use borrow.Author.Tests.{ltb-false}
-use Rattle.records.proofs.Choosing.{when, unless, split, conflict}
+use Rattle.sizes.proofs.Choosing.{when, unless, split, conflict}
 use Rattle.decision.specs.Lists.{firstOf}
 use Rattle.service.specs.declared.service.Service.{Service}
 use Rattle.image.specs.declared.writing.ImageWritten.{ImageWritten}

@@ -1,13 +1,12 @@
 // The images that the arguments name: the service that a play begins with, and the file that one is written to.
 ghost use mathlib.Core.Path.{_≡_};
 ghost use mathlib.Core.Bool.{false};
-ghost use Rattle.decision.specs.Sizes.{defaultSizes};
+ghost use Rattle.sizes.specs.Sizes.{defaultSizes};
 ghost use Rattle.service.specs.Fresh.{fresh};
 ghost use Rattle.restore.specs.Reading.{readingOf, sizesIn};
 use crate::errors::refuse_image;
 use crate::files::read_file;
 use crate::files::replace_file;
-use decision::Sizes;
 use image::ImageWritten;
 use image::write_image;
 use protocol::Reply;
@@ -15,6 +14,7 @@ use restore::image_sizes;
 use restore::read_image;
 use service::Outcome;
 use service::Service;
+use sizes::Sizes;
 
 // Where a play begins.
 pub struct Start {

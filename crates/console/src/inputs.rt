@@ -1,13 +1,11 @@
 // The inputs: standard input and named files, each played from its start to its end.
 use crate::errors::fail;
 use crate::errors::fail_output;
-use crate::explaining::explain;
-use crate::explaining::explainer_from;
+use crate::explain_loop::explain;
 use crate::images::Start;
 use crate::images::save;
 use crate::images::start_of;
-use crate::playing::play;
-use crate::playing::player_from;
+use crate::play_loop::play;
 use crate::turns::End;
 use libc::STDERR_FILENO;
 use libc::STDIN_FILENO;
@@ -63,9 +61,9 @@ fn play_input(explaining: bool, fd: i32, name: &[u8], images: Images) -> bool {
 
 fn play_from(explaining: bool, start: Start, fd: i32) -> End {
     if explaining {
-        return explain(explainer_from(start), fd);
+        return explain(start, fd);
     }
-    play(player_from(start), fd)
+    play(start, fd)
 }
 
 // Which input comes now, on standard error: standard output has the replies alone.

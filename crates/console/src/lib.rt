@@ -2,13 +2,13 @@
 // from a fresh service or from an image. The two differ in what they print of a line, and at the end.
 mod arguments;
 mod errors;
-mod explaining;
+mod explain_loop;
 mod files;
 mod help;
 mod images;
 mod inputs;
 mod options;
-mod playing;
+mod play_loop;
 mod turns;
 
 pub use arguments::run;

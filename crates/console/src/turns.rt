@@ -15,7 +15,7 @@ pub struct End {
     pub service: Service,
 }
 
-// The buffers are large beside the service, which is copied a few times for each buffer that is played.
+// A large buffer, so that what is done once a turn counts for little.
 pub fn input_buffer() -> [u8; 262144] {
     [0; 262144]
 }

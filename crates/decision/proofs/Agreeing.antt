@@ -8,7 +8,7 @@ use borrow.Author.Tests.{ltb-true}
 use Rattle.records.specs.declared.record.Mode.{Mode}
 use Rattle.records.specs.declared.record.ClientRecord.{ClientRecord}
 use Rattle.records.specs.Record.{isOpen, keepsPermission}
-use Rattle.records.proofs.Choosing.{split}
+use Rattle.sizes.proofs.Choosing.{split}
 use Rattle.decision.specs.declared.state.Property.{Property}
 use Rattle.decision.specs.declared.state.Property.the-variants.{Open, Uncached, Writing}
 use Rattle.decision.specs.State.{has, tally, others, stateOf}

@@ -15,7 +15,7 @@ use lib.ListN.{length, getD}
 use borrow.Author.Tests.{eqb-false, ne-eqb}
 use Rattle.records.specs.declared.record.Mode.{Mode}
 use Rattle.records.specs.declared.record.ClientRecord.{ClientRecord}
-use Rattle.records.proofs.Choosing.{when, unless, split}
+use Rattle.sizes.proofs.Choosing.{when, unless, split}
 use Rattle.decision.specs.Callback.{callbackDue, callbacksDue, callIf, orderedCalls, Ascending, InOrder}
 use Rattle.decision.proofs.Storing.{getD-stored}
 

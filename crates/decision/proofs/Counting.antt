@@ -8,7 +8,7 @@ use native.Mathlib.Numerals.{add-one}
 use native.Mathlib.Omega.{arith}
 use lib.Dec.{eqb, ltb, lit≤}
 use borrow.Author.Tests.{eqb-true, eqb-false, ltb-true, ltb-false, lt-ltb, le-ltb}
-use Rattle.records.proofs.Choosing.{split}
+use Rattle.sizes.proofs.Choosing.{split}
 use Rattle.decision.specs.Lists.{count}
 
 -- what one number adds

@@ -4,15 +4,15 @@ ghost use mathlib.Core.Bool.{Bool, true, false, cond};
 ghost use Prim.Native.Nat.{_≤_};
 ghost use lib.ListN.{replicate};
 ghost use Rattle.records.specs.Record.{notOpen};
-ghost use Rattle.decision.specs.Sizes.{maxClients};
+ghost use Rattle.sizes.specs.Sizes.{maxClients};
 ghost use Rattle.decision.specs.State.{recordIn};
 ghost use Rattle.decision.specs.Callback.{callbackKind, callbacksDue};
-use crate::sizes::MAX_CLIENTS;
 use crate::state::FileState;
 use crate::state::record_of;
 use crate::state::state_of;
 use records::ClientRecord;
 use records::Mode;
+use sizes::MAX_CLIENTS;
 
 // What a client other than the opener is called for: 1 write back, 2 invalidate, 3 both, 0 nothing.
 pub fn callback_kind(state: FileState, mode: Mode, called: ClientRecord, is_last: bool) -> u8

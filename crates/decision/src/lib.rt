@@ -1,10 +1,9 @@
-// What is decided of one file: the sizes in force, the kinds of callback, the records of the clients, and the decisions
+// What is decided of one file: the kinds of callback, the records of the clients, and the decisions
 // over all of them: the state, the callbacks that an open causes, and the permission that a grant gives, as Table 4-1
 // of the 1989 paper has them.
 mod callback;
 mod kind;
 mod permission;
-mod sizes;
 mod state;
 
 pub use callback::callback_kind;
@@ -13,12 +12,6 @@ pub use kind::asks_nothing;
 pub use kind::invalidates;
 pub use kind::writes_back;
 pub use permission::permission_at_grant;
-pub use sizes::MAX_BLOCKS;
-pub use sizes::MAX_CELLS;
-pub use sizes::MAX_CLIENTS;
-pub use sizes::MAX_FILES;
-pub use sizes::MAX_PLACES;
-pub use sizes::Sizes;
 pub use state::FileState;
 pub use state::Property;
 pub use state::has;

@@ -1,10 +1,9 @@
 // The permission to cache that a grant gives.
 ghost use mathlib.Core.Path.{_≡_};
 ghost use Prim.Native.Nat.{_≤_};
-ghost use Rattle.decision.specs.Sizes.{maxClients};
+ghost use Rattle.sizes.specs.Sizes.{maxClients};
 ghost use Rattle.decision.specs.State.{recordIn};
 ghost use Rattle.decision.specs.Permission.{permissionAtGrant};
-use crate::sizes::MAX_CLIENTS;
 use crate::state::Property;
 use crate::state::has;
 use crate::state::one_if;
@@ -12,6 +11,7 @@ use crate::state::record_of;
 use crate::state::tallies_of;
 use records::ClientRecord;
 use records::Mode;
+use sizes::MAX_CLIENTS;
 
 pub fn permission_at_grant(
     records: [ClientRecord; MAX_CLIENTS],

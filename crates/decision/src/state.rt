@@ -3,10 +3,10 @@ ghost use mathlib.Core.Path.{_≡_};
 ghost use mathlib.Core.Bool.{cond};
 ghost use Prim.Native.Nat.{_≤_};
 ghost use lib.ListN.{set};
-ghost use Rattle.decision.specs.Sizes.{maxClients};
+ghost use Rattle.sizes.specs.Sizes.{maxClients};
 ghost use Rattle.decision.specs.State.{codeOf, recordIn, has, talliesOf, stateOf};
-use crate::sizes::MAX_CLIENTS;
 use records::ClientRecord;
+use sizes::MAX_CLIENTS;
 
 // The states of the 1989 paper's section 4.3.4.
 pub enum FileState {

@@ -1,7 +1,11 @@
--- The laws behind the steps on one file.
-pub mod Sides
-pub mod Leaves
-pub mod Leaving
-pub mod Opening
-pub mod Closing
-pub mod Answering
+-- The laws behind the steps on one file: what a step is by the definition, what its parts leave in the blocks and copies,
+-- and what it stores in its row.
+pub mod Taking
+pub mod Wrapping
+pub mod Lending
+pub mod OpenStep
+pub mod AnswerStep
+pub mod GrantedRow
+pub mod WaitingRow
+pub mod FlushedRow
+pub mod AnsweredRow

@@ -1,28 +1,25 @@
 -- The steps on one file: an open, a close, a flush and an answer, at both sides. They look at the sizes in force z, at
 -- whether the server recovers, at the file as both sides have it, and at its blocks and copies among all.
 use Prim.Native.Nat.{ℕ}
-use mathlib.Core.Path.{_≡_}
 use mathlib.Core.Bool.{Bool, cond}
 use mathlib.Core.List.{List}
 use lib.Dec.{eqb}
-use lib.ListN.{replicate}
 use Rattle.records.specs.declared.record.Mode.{Mode}
-use Rattle.decision.specs.declared.sizes.Sizes.{Sizes}
-use Rattle.decision.specs.Sizes.{maxClients}
+use Rattle.sizes.specs.declared.sizes.Sizes.{Sizes}
 use Rattle.protocol.specs.declared.reply.Grant.{Grant}
 use Rattle.protocol.specs.declared.reply.Reply.{Reply}
 use Rattle.protocol.specs.declared.reply.Reply.the-variants.{Granted, Waiting, Refused, Answered, AnsweredGrant, Done}
+use Rattle.protocol.specs.declared.shared.SharedFile.{SharedFile}
 use Rattle.protocol.specs.declared.step.Step.{Step}
-use Rattle.protocol.specs.declared.step.Step.the-variants.{Open, Close, Read, Write, Flush, Answer, Crash, Report, End}
+use Rattle.protocol.specs.Step.{FileAct, opens, closes, flushes, answers, nothing, fileAct}
 use Rattle.protocol.specs.Entry.{callTo, callsOut, callsFor, callsDue, waitingEntry, grantOf, grantedEntry}
 use Rattle.protocol.specs.Entry.{closedEntry, flushedEntry, answeredEntry}
 use Rattle.protocol.specs.Client.{sideOf, withSide, grantedClient, keepsBlocks, closedClient, flushedClient}
 use Rattle.protocol.specs.Client.{answeredClient}
+use Rattle.protocol.specs.Reply.{noCalls}
 use Rattle.protocol.specs.Refusal.{Test, tested, openTests, closeTests, flushTests, answerTests}
-use Rattle.blocks.specs.Stores.{Stores, lent, dirtyIn, anyDirty, sentBlocks, droppedUnless, answeredStores}
+use Rattle.blocks.specs.Stores.{Stores, dirtyIn, anyDirty, sentBlocks, droppedUnless, answeredStores}
 use Rattle.blocks.specs.Stores.{flushedStores}
-use Rattle.file.specs.declared.file.SharedFile.{SharedFile}
-use Rattle.file.specs.declared.file.FileOutcome.{FileOutcome}
 
 -- what a step leaves: the file at both sides, the blocks and copies, the reply, and the callbacks that go out
 pub record FileAfter : Type 0 where
@@ -30,9 +27,6 @@ pub record FileAfter : Type 0 where
   pub stores : Stores
   pub reply : Reply
   pub calls : List ℕ
-
-abbrev pub noCalls : List ℕ
-noCalls = replicate maxClients 0
 
 -- what a step leaves that sends no callback
 abbrev pub leaving : SharedFile → Stores → Reply → FileAfter
@@ -132,27 +126,17 @@ afterAnswer z x a i f =
 
 -- ---- a step
 
+abbrev pub acted : Sizes → Bool → SharedFile → Stores → FileAct → FileAfter
+acted z recovering x a (opens m i f) =
+    unlessTested (openTests z recovering (x .entry) (sideOf (x .sides) i) m i f) x a (afterOpen z x a m i f)
+acted z recovering x a (closes m i f) =
+    unlessTested (closeTests z recovering (x .entry) (sideOf (x .sides) i) m i f) x a (afterClose z x a m i f)
+acted z recovering x a (flushes i f b) =
+    unlessTested (flushTests z recovering (dirtyIn a i f b) i f b) x a (afterFlush z x a i f b)
+acted z recovering x a (answers i f) =
+    unlessTested (answerTests z recovering (x .entry) i f) x a (afterAnswer z x a i f)
+acted z recovering x a nothing = leaving x a Done
+
 -- a step that is on no one file leaves all as it came
 unfoldable pub fileStep : Sizes → Bool → SharedFile → Stores → Step → FileAfter
-fileStep z recovering x a (Open m i f) =
-    unlessTested (openTests z recovering (x .entry) (sideOf (x .sides) i) m i f) x a (afterOpen z x a m i f)
-fileStep z recovering x a (Close m i f) =
-    unlessTested (closeTests z recovering (x .entry) (sideOf (x .sides) i) m i f) x a (afterClose z x a m i f)
-fileStep z recovering x a (Flush i f b) =
-    unlessTested (flushTests z recovering (dirtyIn a i f b) i f b) x a (afterFlush z x a i f b)
-fileStep z recovering x a (Answer i f) =
-    unlessTested (answerTests z recovering (x .entry) i f) x a (afterAnswer z x a i f)
-fileStep z recovering x a (Read i f b) = leaving x a Done
-fileStep z recovering x a (Write i f b v) = leaving x a Done
-fileStep z recovering x a Crash = leaving x a Done
-fileStep z recovering x a (Report i) = leaving x a Done
-fileStep z recovering x a End = leaving x a Done
-
--- what the program's step hands back of it; the rest stands in the lent arrays
-abbrev pub outcomeOf : FileAfter → FileOutcome
-outcomeOf after = record { file = after .file; reply = after .reply; calls = after .calls }
-
-pub record Leaves
-    (after : FileAfter) (outcome : FileOutcome) (blocks copies : List ℕ) (held dirty : List Bool) : Type 0 where
-  pub outcomeAfter : outcome ≡ outcomeOf after
-  pub storesAfter : lent blocks copies held dirty ≡ after .stores
+fileStep z recovering x a y = acted z recovering x a (fileAct y)

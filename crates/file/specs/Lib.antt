@@ -1,3 +1,3 @@
--- The steps on one file.
+-- The steps on one file, and what they leave in the lent arrays.
 pub mod FileStep
-pub mod Own
+pub mod Held

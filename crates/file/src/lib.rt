@@ -1,10 +1,15 @@
-// The steps on one file, at both sides: opens, closes, flushes and answers. The service's step and the player's loop
-// load the file, call one function and store what it hands back.
-mod file;
-mod own;
+// The steps on one file, each taken in the file's row of the lent table: opens, closes, flushes and answers. A refused
+// step stores nothing.
+mod answering;
+mod closing;
+mod flushing;
+mod granting;
+mod opening;
 mod refusal;
 
-pub use file::FileOutcome;
-pub use file::SharedFile;
-pub use own::OwnFile;
-pub use own::OwnOutcome;
+pub use answering::answer;
+pub use closing::close;
+pub use flushing::flush;
+pub use granting::grant_open;
+pub use opening::Response;
+pub use opening::open;

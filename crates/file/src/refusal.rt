@@ -2,7 +2,6 @@
 ghost use mathlib.Core.Path.{_≡_};
 ghost use Rattle.decision.specs.Lists.{firstOf};
 ghost use Rattle.protocol.specs.Refusal.{openTests, closeTests, flushTests, answerTests};
-use decision::Sizes;
 use decision::asks_nothing;
 use protocol::COUNT_FULL;
 use protocol::ClientFile;
@@ -18,6 +17,7 @@ use protocol::OPEN_WAITS;
 use protocol::VERSION_SPENT;
 use protocol::refused_if;
 use records::Mode;
+use sizes::Sizes;
 
 pub fn open_refusal(
     sizes: Sizes,
@@ -43,20 +43,22 @@ pub fn open_refusal(
     )
 }
 
+// A close needs of the entry only who waits.
 pub fn close_refusal(
     sizes: Sizes,
     recovering: bool,
-    entry: Entry,
+    waiter: u8,
     own: ClientFile,
     mode: Mode,
     client: usize,
     file: usize,
 ) -> u8
-    ensures { λ r. ⌜ r ≡ firstOf (closeTests sizes recovering entry own mode client file) ⌝ }
+    ensures { λ r. ⌜ ((e : Entry) → e .waiter ≡ waiter
+        → r ≡ firstOf (closeTests sizes recovering e own mode client file)) ⌝ }
 {
     let opens = own.opens;
     let closed = refused_if(opens.count(mode) == 0, NOT_OPEN, 0);
-    let waits = refused_if(entry.waits(sizes.clients), OPEN_WAITS, closed);
+    let waits = refused_if((waiter as usize) < sizes.clients, OPEN_WAITS, closed);
     let recovers = refused_if(recovering, IN_RECOVERY, waits);
     refused_if(
         sizes.clients <= client,

@@ -9,7 +9,7 @@ use Rattle.records.specs.declared.record.Mode.the-variants.{Read}
 use Rattle.records.specs.Record.{notOpen}
 use Rattle.decision.specs.Lists.{count, stored}
 use Rattle.decision.specs.Permission.{permissionAtGrant}
-use Rattle.decision.specs.Sizes.{nobody, place}
+use Rattle.sizes.specs.Sizes.{nobody, place}
 use Rattle.decision.specs.State.{stateOf}
 use Rattle.file.specs.FileStep.{fileStep}
 use Rattle.access.specs.BlockStep.{blockStep}

@@ -9,8 +9,8 @@ use lib.Dec.{eqb, ltb}
 use lib.ListN.{length, take, drop}
 use lib.Seq.{take-at}
 use borrow.Author.Tests.{eq-eqb, ne-eqb, ltb-false}
-use Rattle.records.proofs.Choosing.{when, unless}
-use Rattle.decision.specs.declared.sizes.Sizes.{Sizes}
+use Rattle.sizes.proofs.Choosing.{when, unless}
+use Rattle.sizes.specs.declared.sizes.Sizes.{Sizes}
 use Rattle.decision.specs.Lists.{count, firstOf}
 use Rattle.protocol.specs.Entry.{waits}
 use Rattle.table.specs.TableStep.{entryOf}

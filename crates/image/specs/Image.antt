@@ -8,8 +8,8 @@ use lib.ListN.{getD}
 use Rattle.records.specs.declared.record.ClientRecord.{ClientRecord}
 use Rattle.records.specs.Version.{numberOf, asRead}
 use Rattle.records.specs.Record.{isOpen}
-use Rattle.decision.specs.declared.sizes.Sizes.{Sizes}
-use Rattle.decision.specs.Sizes.{place, nobody}
+use Rattle.sizes.specs.declared.sizes.Sizes.{Sizes}
+use Rattle.sizes.specs.Sizes.{place, nobody}
 use Rattle.protocol.specs.declared.entry.Entry.{Entry}
 use Rattle.protocol.specs.Entry.{recordAt}
 use Rattle.table.specs.TableStep.{entryOf}

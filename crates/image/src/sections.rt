@@ -1,7 +1,7 @@
 // The three sections, and the whole image. A section's entries are written first, and then their count before them.
 ghost use Prim.Native.Nat.{_+_, _≤_, _<_};
 ghost use lib.ListN.{length};
-ghost use Rattle.decision.specs.Sizes.{maxClients, maxFiles, maxBlocks, Permitted};
+ghost use Rattle.sizes.specs.Sizes.{maxClients, maxFiles, maxBlocks, Permitted};
 ghost use Rattle.writer.specs.Buffer.{Wrote};
 ghost use Rattle.image.specs.Bytes.{flat, section};
 ghost use Rattle.image.specs.Image.{sizeBytes, fileEntries, fileOpens, openEntries, fileBlocks, blockEntries};
@@ -10,11 +10,11 @@ use crate::entries::put_block;
 use crate::entries::put_file;
 use crate::entries::put_open;
 use crate::numbers::put_count;
-use decision::MAX_BLOCKS;
-use decision::MAX_FILES;
-use decision::MAX_PLACES;
-use decision::Sizes;
 use protocol::Entry;
+use sizes::MAX_BLOCKS;
+use sizes::MAX_FILES;
+use sizes::MAX_PLACES;
+use sizes::Sizes;
 use writer::put_byte;
 
 // The longest image.

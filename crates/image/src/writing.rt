@@ -2,7 +2,7 @@
 ghost use Prim.Native.Nat.{_≤_};
 ghost use mathlib.Core.Path.{_≡_};
 ghost use lib.ListN.{length, take};
-ghost use Rattle.decision.specs.Sizes.{Permitted};
+ghost use Rattle.sizes.specs.Sizes.{Permitted};
 ghost use Rattle.decision.specs.Lists.{count};
 ghost use Rattle.protocol.specs.Entry.{waits};
 ghost use Rattle.table.specs.TableStep.{entryOf};
@@ -10,8 +10,6 @@ ghost use Rattle.writer.specs.Buffer.{written};
 ghost use Rattle.image.specs.Writing.{imageWritten, bufferAfter};
 use crate::sections::IMAGE_ROOM;
 use crate::sections::put_image;
-use decision::MAX_FILES;
-use decision::Sizes;
 use decision::one_if;
 use protocol::BUFFER_TOO_SHORT;
 use protocol::Entry;
@@ -19,6 +17,8 @@ use protocol::IN_RECOVERY;
 use protocol::OPEN_WAITS_AT_WRITING;
 use protocol::refused_if;
 use service::Service;
+use sizes::MAX_FILES;
+use sizes::Sizes;
 
 // The length of the image that was written, or the number of the refusal.
 pub enum ImageWritten {

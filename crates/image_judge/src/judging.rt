@@ -1,8 +1,6 @@
 // What is done with one string: the steps before it, the reading, a whole recovery, and the image that is then written.
 ghost use Prim.Native.Nat.{_≤_};
 use decision::FileState;
-use decision::MAX_FILES;
-use decision::Sizes;
 use decision::state_of;
 use image::ImageWritten;
 use image::write_image;
@@ -12,6 +10,8 @@ use protocol::Step;
 use records::Mode;
 use restore::read_image;
 use service::Service;
+use sizes::MAX_FILES;
+use sizes::Sizes;
 
 fn after(service: Service, step: Step) -> Service {
     let outcome = service.step(step);

@@ -5,13 +5,13 @@ ghost use lib.ListN.{length};
 
 mod judging;
 
-use decision::Sizes;
 use input::read_to_end;
 use judging::judged;
 use judging::prepared;
 use libc::STDIN_FILENO;
 use libc::STDOUT_FILENO;
 use service::Service;
+use sizes::Sizes;
 
 // The bytes before each string: three sizes, what comes before the reading, and the string's length.
 const HEAD: usize = 6;

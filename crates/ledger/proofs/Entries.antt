@@ -8,16 +8,16 @@ use lib.Dec.{eqb}
 use lib.ListN.{length, getD, set}
 use lib.Seq.{getD-set-other}
 use borrow.Author.Tests.{eqb-false, leb-false}
-use Rattle.decision.specs.declared.sizes.Sizes.{Sizes}
-use Rattle.decision.specs.Sizes.{maxFiles, maxPlaces, maxCells, Permitted, place, cell}
-use Rattle.decision.proofs.InForce.{client-fits, file-fits, block-fits}
-use Rattle.records.specs.declared.record.Mode.{Mode}
+use Rattle.sizes.specs.declared.sizes.Sizes.{Sizes}
+use Rattle.sizes.specs.Sizes.{maxFiles, maxPlaces, maxCells, Permitted, place, cell}
+use Rattle.sizes.proofs.InForce.{client-fits, file-fits, block-fits}
 use Rattle.protocol.specs.declared.step.Step.{Step}
 use Rattle.protocol.specs.declared.step.Step.the-variants.{Open, Close, Read, Write, Flush, Answer, Crash, Report, End}
 use Rattle.protocol.specs.declared.reply.Reply.{Reply}
 use Rattle.protocol.specs.declared.reply.Reply.the-variants.{Granted, Waiting, Value, Refused, Answered}
 use Rattle.protocol.specs.declared.reply.Reply.the-variants.{AnsweredGrant, Done}
 use Rattle.protocol.specs.Reply.{isRefused}
+use Rattle.protocol.specs.Step.{clientOf, fileOf, blockOf}
 use Rattle.service.specs.declared.service.Service.{Service}
 use Rattle.service.specs.Contents.{sizesOf, clientAt, heldAt}
 use Rattle.service.specs.Step.{stepOf}
@@ -71,23 +71,35 @@ not-true : (b : Bool) → not b ≡ true → b ≡ false
 not-true true e = conflict e refl
 not-true false e = refl
 
-module _ {z : Sizes} (most : Permitted z) (s : Service) (size : sizesOf s ≡ z) where
-  pub open-names : (m : Mode) (i f : ℕ) → refused s (Open m i f) ≡ false → f < z .files
-  open-names m i f a =
-      let (_, (file, _)) = when-accepted s (Open m i f) size a .0 in
-      leb-false (z .files) f file
+-- the client, the file and the block that a step names; one that names none has 0
+abbrev pub There : Sizes → Step → Type 0
+There z x = (clientOf x < z .clients) × (fileOf x < z .files) × (blockOf x < z .blocks)
 
-  pub read-names :
-      (i f b : ℕ) → refused s (Read i f b) ≡ false → (i < z .clients) × (f < z .files) × (b < z .blocks)
-  read-names i f b a =
+module _ {z : Sizes} (most : Permitted z) (s : Service) (size : sizesOf s ≡ z) where
+  pub names-there : (x : Step) → refused s x ≡ false → There z x
+  names-there (Open m i f) a =
+      let (client, (file, _)) = when-accepted s (Open m i f) size a .0 in
+      (leb-false (z .clients) i client, leb-false (z .files) f file, most .someBlock)
+  names-there (Close m i f) a =
+      let (client, (file, _)) = when-accepted s (Close m i f) size a .0 in
+      (leb-false (z .clients) i client, leb-false (z .files) f file, most .someBlock)
+  names-there (Read i f b) a =
       let (client, (file, (block, _))) = when-accepted s (Read i f b) size a .0 in
       (leb-false (z .clients) i client, leb-false (z .files) f file, leb-false (z .blocks) b block)
-
-  pub write-names :
-      (i f b v : ℕ) → refused s (Write i f b v) ≡ false → (i < z .clients) × (f < z .files) × (b < z .blocks)
-  write-names i f b v a =
+  names-there (Write i f b v) a =
       let (client, (file, (block, _))) = when-accepted s (Write i f b v) size a .0 in
       (leb-false (z .clients) i client, leb-false (z .files) f file, leb-false (z .blocks) b block)
+  names-there (Flush i f b) a =
+      let (client, (file, (block, _))) = when-accepted s (Flush i f b) size a .0 in
+      (leb-false (z .clients) i client, leb-false (z .files) f file, leb-false (z .blocks) b block)
+  names-there (Answer i f) a =
+      let (client, (file, _)) = when-accepted s (Answer i f) size a .0 in
+      (leb-false (z .clients) i client, leb-false (z .files) f file, most .someBlock)
+  names-there Crash a = (most .someClient, most .someFile, most .someBlock)
+  names-there (Report i) a =
+      let (client, _) = when-accepted s (Report i) size a .0 in
+      (leb-false (z .clients) i client, most .someFile, most .someBlock)
+  names-there End a = (most .someClient, most .someFile, most .someBlock)
 
 -- ---- the ledger after line n
 
@@ -160,7 +172,7 @@ module _
   wait-after (Open m i f′) =
       getD-noted (l .waiting) f′ f n 0 (eqb f f′) (isWaiting (stepOf s (Open m i f′) .reply))
       (λ e.
-      let file = open-names most s size m i f′ (accepted-reply (stepOf s (Open m i f′) .reply) e) in
+      let (_, file, _) = names-there most s size (Open m i f′) (accepted-reply (stepOf s (Open m i f′) .reply) e) in
       (rw (ruled .waiting) (file-fits most file), refl))
   wait-after (Close m i f′) = refl
   wait-after (Read i f′ b) = refl
@@ -178,7 +190,7 @@ module _
         → not (refused s (Write i f′ b′ v)) ≡ true
         → (place f′ b′ < length k) × (eqb (place f b) (place f′ b′) ≡ (eqb f f′ && eqb b b′))
     place-hit k i f′ b′ v len e =
-        let (_, file, block) = write-names most s size i f′ b′ v (not-true (refused s (Write i f′ b′ v)) e) in (
+        let (_, file, block) = names-there most s size (Write i f′ b′ v) (not-true (refused s (Write i f′ b′ v)) e) in (
           place-in k len (file-fits most file) (block-fits most block),
           place-same f′ f (block-fits most block) (block-fits most hb),
         )
@@ -244,7 +256,7 @@ module _
           (λ e.
           let (accepted, _) = both (not rejected) (caching && not held) e in
           cell-hit (l .copied) i′ f′ b′ (ruled .copied)
-          (read-names most s size i′ f′ b′ (not-true rejected accepted)))
+          (names-there most s size (Read i′ f′ b′) (not-true rejected accepted)))
       copy-after (Write i′ f′ b′ v) =
           let rejected = refused s (Write i′ f′ b′ v) in
           let caching = clientAt s i′ f′ .opens .caching in
@@ -253,7 +265,7 @@ module _
           (λ e.
           let (accepted, _) = both (not rejected) caching e in
           cell-hit (l .copied) i′ f′ b′ (ruled .copied)
-          (write-names most s size i′ f′ b′ v (not-true rejected accepted)))
+          (names-there most s size (Write i′ f′ b′ v) (not-true rejected accepted)))
       copy-after (Flush i′ f′ b′) = refl
       copy-after (Answer i′ f′) = refl
       copy-after Crash = refl

@@ -5,11 +5,11 @@ use mathlib.Core.Bool.{Bool, true, false, cond, not, _&&_}
 use mathlib.Core.List.{List, [], _∷_}
 use lib.Dec.{eqb}
 use lib.ListN.{getD, set}
-use Rattle.decision.specs.declared.sizes.Sizes.{Sizes}
-use Rattle.decision.specs.Sizes.{Permitted, cell, firstCell}
+use Rattle.sizes.specs.declared.sizes.Sizes.{Sizes}
+use Rattle.sizes.specs.Sizes.{Permitted, cell, firstCell}
 use Rattle.decision.specs.Lists.{stored}
 use Rattle.decision.specs.Callback.{invalidates}
-use Rattle.decision.proofs.InForce.{client-fits, block-fits}
+use Rattle.sizes.proofs.InForce.{client-fits, block-fits}
 use Rattle.protocol.specs.declared.step.Step.{Step}
 use Rattle.protocol.specs.declared.step.Step.the-variants.{Open, Close, Read, Write, Flush, Answer, Crash, Report, End}
 use Rattle.protocol.specs.Client.{kept, keepsBlocks, sideOf}
@@ -24,7 +24,7 @@ use Rattle.service.proofs.Tests.{split, conflict, either}
 use Rattle.service.proofs.Contents.{cell-same}
 use Rattle.service.proofs.Accepted.{doneOf, when-accepted, refused-changes-nothing}
 use Rattle.ledger.specs.Provenance.{copies}
-use Rattle.ledger.proofs.Entries.{getD-elsewhere, read-names, write-names}
+use Rattle.ledger.proofs.Entries.{getD-elsewhere, names-there}
 
 -- ---- dropping makes nothing held
 
@@ -106,9 +106,9 @@ module _
   done-held (Close m j g) a miss = λ h. h
   done-held (Read j g c) a miss =
       let fetch = clientAt s j g .opens .caching && not (heldAt s j g c) in
-      put-held j g c fetch (read-names most s size j g c a) (rw a at miss)
+      put-held j g c fetch (names-there most s size (Read j g c) a) (rw a at miss)
   done-held (Write j g c v) a miss =
-      put-held j g c (clientAt s j g .opens .caching) (write-names most s size j g c v a) (rw a at miss)
+      put-held j g c (clientAt s j g .opens .caching) (names-there most s size (Write j g c v) a) (rw a at miss)
   done-held (Flush j g c) a miss = λ h. h
   done-held (Answer j g) a miss =
       let x = fileAt s g in

@@ -6,7 +6,7 @@ use mathlib.Core.List.{List, [], _∷_}
 use lib.ListN.{set}
 use types.Run.{OneOf}
 use denote.Enum.Declared.{tagOf}
-use Rattle.decision.specs.Sizes.{place, cell}
+use Rattle.sizes.specs.Sizes.{place, cell}
 use Rattle.protocol.specs.declared.reply.Reply.{Reply}
 use Rattle.protocol.specs.declared.step.Step.{Step}
 use Rattle.protocol.specs.declared.step.Step.the-variants.{Open, Close, Read, Write, Flush, Answer, Crash, Report, End}

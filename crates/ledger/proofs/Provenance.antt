@@ -7,9 +7,9 @@ use mathlib.Core.List.{List, [], _∷_}
 use native.Mathlib.Omega.{arith}
 use lib.Dec.{eqb}
 use lib.ListN.{length-replicate}
-use Rattle.decision.specs.declared.sizes.Sizes.{Sizes}
-use Rattle.decision.specs.Sizes.{maxFiles, maxPlaces, maxCells, inForce, Permitted, place, cell}
-use Rattle.decision.proofs.InForce.{in-force-permitted}
+use Rattle.sizes.specs.declared.sizes.Sizes.{Sizes}
+use Rattle.sizes.specs.Sizes.{maxFiles, maxPlaces, maxCells, inForce, Permitted, place, cell}
+use Rattle.sizes.proofs.InForce.{in-force-permitted}
 use Rattle.decision.proofs.Beyond.{getD-alike}
 use Rattle.protocol.specs.declared.reply.Reply.{Reply}
 use Rattle.protocol.specs.declared.reply.Reply.the-variants.{Value}
@@ -33,7 +33,7 @@ use Rattle.ledger.specs.Ledger.{readTold}
 use Rattle.ledger.specs.Provenance.{Event, Origin, never, by, originAfter, latestWrite, latestLine}
 use Rattle.ledger.specs.Provenance.{copies, beginsWait, NamesWrite, ReadIsTold, LineIsTold, AllTold, Provenance}
 use Rattle.ledger.proofs.Entries.{Ruled, ruled-after, Names, valueOf, wait-after, names-after, copy-after}
-use Rattle.ledger.proofs.Entries.{read-names}
+use Rattle.ledger.proofs.Entries.{names-there}
 use Rattle.ledger.proofs.Holding.{held-before}
 
 -- the steps of the lines
@@ -154,7 +154,7 @@ module _ {z : Sizes} (most : Permitted z) where
           → refused s (Read i f b) ≡ false
           → ReadIsTold s l past i f b
       told i f b latest a =
-          let (hi, hf, hb) = read-names most s (h .sizes) i f b a in
+          let (hi, hf, hb) = names-there most s (h .sizes) (Read i f b) a in
           let (_, done) = when-accepted s (Read i f b) (h .sizes) a in
           record {
             origin = names-write (readTold s l i f b) (stepOf s (Read i f b) .reply) (m f b) (latestWrite f b past)

@@ -1,25 +1,27 @@
 -- Wrapped numbers make no difference: a refused step notes nothing, and an accepted one names what there is. So what
 -- `note_line` makes of the arrays is the ledger after the line, and what `read_told` tells of an accepted read is
 -- what the definition tells. Assumes nothing.
-use Prim.Native.Nat.{ℕ, _%_, _<_}
+use Prim.Native.Nat.{ℕ, _%_}
 use native.Mathlib.Nat.{mod-eq-of-lt}
 use mathlib.Core.Path.{_≡_, refl, sym, ap, _∙_}
 use mathlib.Core.Bool.{Bool, true, false}
-use Rattle.decision.specs.Sizes.{maxClients, maxFiles, maxBlocks}
-use Rattle.decision.proofs.InForce.{in-force-permitted, client-fits, file-fits, block-fits}
+use Rattle.sizes.specs.Sizes.{maxClients, maxFiles, maxBlocks}
+use Rattle.sizes.proofs.InForce.{in-force-permitted, client-fits, file-fits, block-fits}
 use Rattle.protocol.specs.declared.reply.Reply.{Reply}
 use Rattle.protocol.specs.declared.step.Step.{Step}
 use Rattle.protocol.specs.declared.step.Step.the-variants.{Open, Close, Read, Write, Flush, Answer, Crash, Report, End}
 use Rattle.protocol.specs.Reply.{isRefused}
+use Rattle.protocol.specs.Step.{clientOf, fileOf, blockOf, renamed}
 use Rattle.service.specs.declared.service.Service.{Service}
+use Rattle.blocks.specs.Stores.{heldIn}
 use Rattle.service.specs.Contents.{sizesOf, storesOf, clientAt}
 use Rattle.service.specs.Step.{stepOf}
 use Rattle.service.specs.Demand3.{refused}
 use Rattle.service.proofs.Tests.{split, conflict}
 use Rattle.ledger.specs.declared.ledger.Ledger.{Ledger}
-use Rattle.ledger.specs.Ledger.{isWaiting, noted, mayCache, holdsBlock, ledgerAfter, toldOf, readTold}
+use Rattle.ledger.specs.Ledger.{isWaiting, noted, mayCache, holdsBlock, ledgerAfter, toldOf, stepTold}
 use Rattle.ledger.specs.Wrapped.{wrappedStep}
-use Rattle.ledger.proofs.Entries.{accepted-reply, open-names, read-names, write-names}
+use Rattle.ledger.proofs.Entries.{accepted-reply, There, names-there}
 
 refused-noted :
     (n : ℕ) (x : Step) (reply : Reply) (caching held : Bool) (l : Ledger)
@@ -38,46 +40,59 @@ refused-noted n Crash reply caching held l e = refl
 refused-noted n (Report i) reply caching held l e = refl
 refused-noted n End reply caching held l e = refl
 
-module _ (s : Service) where
-  -- the numbers of a block in force, wrapped
-  module _ (i f b : ℕ) (there : (i < sizesOf s .clients) × (f < sizesOf s .files) × (b < sizesOf s .blocks)) where
-    pub same-client : i % maxClients ≡ i
+renamed-same :
+    (client file block : ℕ → ℕ) (x : Step)
+    → client (clientOf x) ≡ clientOf x
+    → file (fileOf x) ≡ fileOf x
+    → block (blockOf x) ≡ blockOf x
+    → renamed client file block x ≡ x
+renamed-same client file block (Open m i f) ci cf cb = rw (ci, cf)
+renamed-same client file block (Close m i f) ci cf cb = rw (ci, cf)
+renamed-same client file block (Read i f b) ci cf cb = rw (ci, cf, cb)
+renamed-same client file block (Write i f b v) ci cf cb = rw (ci, cf, cb)
+renamed-same client file block (Flush i f b) ci cf cb = rw (ci, cf, cb)
+renamed-same client file block (Answer i f) ci cf cb = rw (ci, cf)
+renamed-same client file block Crash ci cf cb = refl
+renamed-same client file block (Report i) ci cf cb = rw ci
+renamed-same client file block End ci cf cb = refl
+
+module _ (s : Service) (x : Step) where
+  -- an accepted step: the wrapped numbers are its own
+  module _ (a : refused s x ≡ false) where
+    there : There (sizesOf s) x
+    there = names-there (in-force-permitted (s .sizes)) s refl x a
+
+    same-client : clientOf x % maxClients ≡ clientOf x
     same-client = mod-eq-of-lt (client-fits (in-force-permitted (s .sizes)) (there .0))
 
-    pub same-file : f % maxFiles ≡ f
+    same-file : fileOf x % maxFiles ≡ fileOf x
     same-file = mod-eq-of-lt (file-fits (in-force-permitted (s .sizes)) (there .1))
 
-    pub same-block : b % maxBlocks ≡ b
+    same-block : blockOf x % maxBlocks ≡ blockOf x
     same-block = mod-eq-of-lt (block-fits (in-force-permitted (s .sizes)) (there .2))
 
-  accepted-noted :
-      (n : ℕ) (x : Step) (reply : Reply) (caching held : Bool) (l : Ledger)
-      → refused s x ≡ false
-      → noted n (wrappedStep x) reply caching held l ≡ noted n x reply caching held l
-  accepted-noted n (Open m i f) reply caching held l a =
-      let most = in-force-permitted (s .sizes) in
-      let same : f % maxFiles ≡ f = mod-eq-of-lt (file-fits most (open-names most s refl m i f a)) in
-      rw same
-  accepted-noted n (Close m i f) reply caching held l a = refl
-  accepted-noted n (Read i f b) reply caching held l a =
-      let there = read-names (in-force-permitted (s .sizes)) s refl i f b a in
-      rw (same-client i f b there, same-file i f b there, same-block i f b there)
-  accepted-noted n (Write i f b v) reply caching held l a =
-      let there = write-names (in-force-permitted (s .sizes)) s refl i f b v a in
-      rw (same-client i f b there, same-file i f b there, same-block i f b there)
-  accepted-noted n (Flush i f b) reply caching held l a = refl
-  accepted-noted n (Answer i f) reply caching held l a = refl
-  accepted-noted n Crash reply caching held l a = refl
-  accepted-noted n (Report i) reply caching held l a = refl
-  accepted-noted n End reply caching held l a = refl
+    wrapped-same : wrappedStep x ≡ x
+    wrapped-same =
+        renamed-same (λ i. i % maxClients) (λ f. f % maxFiles) (λ b. b % maxBlocks) x same-client same-file same-block
+
+    -- what the code finds of its client at the wrapped places, and tells of its block
+    pub found-there : (l : Ledger)
+        → (let i = clientOf x % maxClients in
+        let f = fileOf x % maxFiles in
+        let b = blockOf x % maxBlocks in
+        let caching = clientAt s i f .opens .caching in
+        (toldOf caching (storesOf s) l i f b ≡ stepTold s l x)
+        × (caching ≡ mayCache s x)
+        × (heldIn (storesOf s) i f b ≡ holdsBlock s x))
+    found-there l = rw (same-client, same-file, same-block) (refl, refl, refl)
 
   -- what the code notes of a step, with what it found of the client at the wrapped places
   pub noted-wrapped :
-      (n : ℕ) (x : Step) (caching held : Bool) (l : Ledger)
+      (n : ℕ) (caching held : Bool) (l : Ledger)
       → (refused s x ≡ false → (caching ≡ mayCache s x) × (held ≡ holdsBlock s x))
       → noted n (wrappedStep x) (stepOf s x .reply) caching held l ≡ ledgerAfter n s x l
   unfolding ledgerAfter
-  noted-wrapped n x caching held l found =
+  noted-wrapped n caching held l found =
       let reply : Reply = stepOf s x .reply in
       split (refused s x)
       (λ e.
@@ -85,16 +100,6 @@ module _ (s : Service) where
       ∙ sym (refused-noted n x reply (mayCache s x) (holdsBlock s x) l e))
       (λ e.
       let (may, holds) = found e in
-      accepted-noted n x reply caching held l e
+      ap (λ y. noted n y reply caching held l) (wrapped-same e)
       ∙ ap (λ c. noted n x reply c held l) may
       ∙ ap (λ h. noted n x reply (mayCache s x) h l) holds)
-
-  -- what the code tells of an accepted read, likewise
-  pub told-wrapped :
-      (l : Ledger) (i f b : ℕ) (caching : Bool)
-      → refused s (Read i f b) ≡ false
-      → caching ≡ clientAt s i f .opens .caching
-      → toldOf caching (storesOf s) l (i % maxClients) (f % maxFiles) (b % maxBlocks) ≡ readTold s l i f b
-  told-wrapped l i f b caching a may =
-      let there = read-names (in-force-permitted (s .sizes)) s refl i f b a in
-      rw (same-client i f b there, same-file i f b there, same-block i f b there, may)

@@ -4,13 +4,14 @@ use Prim.Native.Nat.{ℕ}
 use mathlib.Core.Bool.{Bool, true, false, cond, not, _&&_}
 use mathlib.Core.List.{List}
 use lib.ListN.{getD, set, replicate}
-use Rattle.decision.specs.Sizes.{maxFiles, maxPlaces, maxCells, place, cell}
+use Rattle.sizes.specs.Sizes.{maxFiles, maxPlaces, maxCells, place, cell}
 use Rattle.protocol.specs.declared.reply.Reply.{Reply}
 use Rattle.protocol.specs.declared.reply.Reply.the-variants.{Granted, Waiting, Value, Refused, Answered}
 use Rattle.protocol.specs.declared.reply.Reply.the-variants.{AnsweredGrant, Done}
 use Rattle.protocol.specs.declared.step.Step.{Step}
 use Rattle.protocol.specs.declared.step.Step.the-variants.{Open, Close, Read, Write, Flush, Answer, Crash, Report, End}
 use Rattle.protocol.specs.Reply.{isRefused}
+use Rattle.protocol.specs.Step.{clientOf, fileOf, blockOf}
 use Rattle.blocks.specs.Stores.{Stores, heldIn, dirtyIn}
 use Rattle.service.specs.declared.service.Service.{Service}
 use Rattle.service.specs.Contents.{clientAt, storesOf}
@@ -91,31 +92,12 @@ noted n Crash reply caching held l = l
 noted n (Report i) reply caching held l = l
 noted n End reply caching held l = l
 
--- whether the client of a read or a write may cache, and holds the block
+-- whether the client that the step names may cache the file that it names, and holds the block
 abbrev pub mayCache : Service → Step → Bool
-mayCache s (Open m i f) = false
-mayCache s (Close m i f) = false
-mayCache s (Read i f b) = clientAt s i f .opens .caching
-mayCache s (Write i f b v) = clientAt s i f .opens .caching
-mayCache s (Flush i f b) = false
-mayCache s (Answer i f) = false
-mayCache s Crash = false
-mayCache s (Report i) = false
-mayCache s End = false
-
-abbrev pub holdsIn : Stores → Step → Bool
-holdsIn a (Open m i f) = false
-holdsIn a (Close m i f) = false
-holdsIn a (Read i f b) = heldIn a i f b
-holdsIn a (Write i f b v) = heldIn a i f b
-holdsIn a (Flush i f b) = false
-holdsIn a (Answer i f) = false
-holdsIn a Crash = false
-holdsIn a (Report i) = false
-holdsIn a End = false
+mayCache s x = clientAt s (clientOf x) (fileOf x) .opens .caching
 
 abbrev pub holdsBlock : Service → Step → Bool
-holdsBlock s x = holdsIn (storesOf s) x
+holdsBlock s x = heldIn (storesOf s) (clientOf x) (fileOf x) (blockOf x)
 
 -- the ledger after line n, which gave the step x to the service s
 unfoldable pub ledgerAfter : ℕ → Service → Step → Ledger → Ledger
@@ -139,21 +121,6 @@ toldOf caching a l i f b =
 abbrev pub readTold : Service → Ledger → ℕ → ℕ → ℕ → Told
 readTold s l i f b = toldOf (clientAt s i f .opens .caching) (storesOf s) l i f b
 
--- of a step that is no read nothing is told
-abbrev pub noTold : Told
-noTold = record { own = false; dirty = false; since = 0; line = 0; client = 0 }
-
--- what is told of a step, before it, where its client may cache or not
-abbrev pub toldFor : Bool → Stores → Ledger → Step → Told
-toldFor caching a l (Open m i f) = noTold
-toldFor caching a l (Close m i f) = noTold
-toldFor caching a l (Read i f b) = toldOf caching a l i f b
-toldFor caching a l (Write i f b v) = noTold
-toldFor caching a l (Flush i f b) = noTold
-toldFor caching a l (Answer i f) = noTold
-toldFor caching a l Crash = noTold
-toldFor caching a l (Report i) = noTold
-toldFor caching a l End = noTold
-
+-- of the block that a step names
 abbrev pub stepTold : Service → Ledger → Step → Told
-stepTold s l x = toldFor (mayCache s x) (storesOf s) l x
+stepTold s l x = readTold s l (clientOf x) (fileOf x) (blockOf x)

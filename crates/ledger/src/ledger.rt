@@ -1,9 +1,9 @@
 // The ledger as a value, in arrays of the largest sizes.
 ghost use mathlib.Core.Path.{_≡_};
 ghost use Rattle.ledger.specs.Ledger.{emptyLedger};
-use decision::MAX_CELLS;
-use decision::MAX_FILES;
-use decision::MAX_PLACES;
+use sizes::MAX_CELLS;
+use sizes::MAX_FILES;
+use sizes::MAX_PLACES;
 
 // Lines have numbers from 1; 0 stands for none.
 pub struct Ledger {

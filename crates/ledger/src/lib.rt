@@ -9,6 +9,4 @@ pub use note::note_line;
 pub use refusals::REFUSAL_NUMBERS;
 pub use refusals::count_refusal;
 pub use told::Told;
-pub use told::holds_block;
 pub use told::read_told;
-pub use told::step_told;

@@ -3,18 +3,18 @@ ghost use mathlib.Core.Path.{_≡_};
 ghost use mathlib.Core.Bool.{cond};
 ghost use Prim.Native.Nat.{_%_};
 ghost use lib.ListN.{set};
-ghost use Rattle.decision.specs.Sizes.{maxClients, maxFiles, maxBlocks, place, cell};
+ghost use Rattle.sizes.specs.Sizes.{maxClients, maxFiles, maxBlocks, place, cell};
 ghost use Rattle.protocol.specs.Reply.{isRefused};
 ghost use Rattle.ledger.specs.Ledger.{entered, isWaiting, noted};
 ghost use Rattle.ledger.specs.Wrapped.{wrappedStep};
 use blocks::cell_of;
 use blocks::place_of;
-use decision::MAX_CELLS;
-use decision::MAX_CLIENTS;
-use decision::MAX_FILES;
-use decision::MAX_PLACES;
 use protocol::Reply;
 use protocol::Step;
+use sizes::MAX_CELLS;
+use sizes::MAX_CLIENTS;
+use sizes::MAX_FILES;
+use sizes::MAX_PLACES;
 
 // Notes a line: its number, its step, the reply to it, and whether the client could cache the block and held it before
 // the step. The numbers are wrapped: a step that names nothing is refused, and a refused step notes nothing.

@@ -2,15 +2,13 @@
 ghost use mathlib.Core.Path.{_≡_};
 ghost use mathlib.Core.List.{[]};
 ghost use Prim.Native.Nat.{_%_};
-ghost use Rattle.decision.specs.Sizes.{maxClients, maxFiles, maxBlocks};
+ghost use Rattle.sizes.specs.Sizes.{maxClients, maxFiles, maxBlocks};
 ghost use Rattle.blocks.specs.Stores.{lent};
-ghost use Rattle.ledger.specs.Ledger.{entered, toldOf, noTold, toldFor, holdsIn};
-ghost use Rattle.ledger.specs.Wrapped.{wrappedStep};
+ghost use Rattle.ledger.specs.Ledger.{entered, toldOf};
 use blocks::cell_of;
 use blocks::place_of;
-use decision::MAX_CELLS;
-use decision::MAX_PLACES;
-use protocol::Step;
+use sizes::MAX_CELLS;
+use sizes::MAX_PLACES;
 
 pub struct Told {
     // From the client's own copy; else from the server.
@@ -48,74 +46,5 @@ pub fn read_told(
         since: copied[cell],
         line: written[place],
         client: writers[place],
-    }
-}
-
-impl Told {
-    // Of a step that is no read nothing is told.
-    pub fn none() -> Self
-        ensures { λ r. ⌜ r ≡ noTold ⌝ }
-    {
-        Told {
-            own: false,
-            dirty: false,
-            since: 0,
-            line: 0,
-            client: 0,
-        }
-    }
-}
-
-// What is told of a step, before it. The numbers are wrapped.
-pub fn step_told(
-    step: Step,
-    caching: bool,
-    held: &[bool; MAX_CELLS],
-    dirty: &[bool; MAX_CELLS],
-    written: &[u64; MAX_PLACES],
-    writers: &[u8; MAX_PLACES],
-    copied: &[u64; MAX_CELLS],
-) -> Told
-    ensures { λ r. ⌜ r ≡ toldFor caching (lent [] [] (now (held .entry)) (now (dirty .entry)))
-        (entered (now (written .entry)) (now (writers .entry)) (now (copied .entry)) [])
-        (wrappedStep step) ⌝ }
-{
-    match step {
-        Step::Read {
-            client,
-            file,
-            block,
-        } => read_told(
-            caching,
-            client,
-            file,
-            block,
-            held,
-            dirty,
-            written,
-            writers,
-            copied,
-        ),
-        _ => Told::none(),
-    }
-}
-
-// Whether the client of a read or a write holds the block. The numbers are wrapped.
-pub fn holds_block(step: Step, held: &[bool; MAX_CELLS]) -> bool
-    ensures { λ r. ⌜ r ≡ holdsIn (lent [] [] (now (held .entry)) []) (wrappedStep step) ⌝ }
-{
-    match step {
-        Step::Read {
-            client,
-            file,
-            block,
-        } => held[cell_of(client, file, block)],
-        Step::Write {
-            client,
-            file,
-            block,
-            value: _,
-        } => held[cell_of(client, file, block)],
-        _ => false,
     }
 }

@@ -5,7 +5,7 @@ use Prim.Native.Nat.{ℕ}
 use mathlib.Core.Path.{_≡_, refl}
 use mathlib.Core.Bool.{true}
 use mathlib.Core.List.{List, [], _∷_, _++_}
-use Rattle.decision.specs.Sizes.{defaultSizes}
+use Rattle.sizes.specs.Sizes.{defaultSizes}
 use Rattle.decision.specs.Lists.{count, stored}
 use Rattle.decision.specs.State.{stateOf}
 use Rattle.decision.specs.Permission.{permissionAtGrant}

@@ -10,8 +10,8 @@ use lib.Dec.{eqb, ltb}
 use lib.ListN.{getD, replicate}
 use borrow.Author.Tests.{lt-ltb, ne-eqb}
 use Rattle.records.specs.Record.{isOpen}
-use Rattle.decision.specs.declared.sizes.Sizes.{Sizes}
-use Rattle.decision.specs.Sizes.{maxClients, maxFiles, maxBlocks, firstCell}
+use Rattle.sizes.specs.declared.sizes.Sizes.{Sizes}
+use Rattle.sizes.specs.Sizes.{maxClients, maxFiles, maxBlocks, firstCell}
 use Rattle.decision.specs.Lists.{count, stored}
 use Rattle.decision.proofs.Storing.{getD-stored}
 use Rattle.protocol.specs.declared.client.ClientFile.{ClientFile}

@@ -2,7 +2,7 @@
 ghost use Prim.Native.Nat.{_+_, _≤_};
 ghost use mathlib.Core.List.{_++_};
 ghost use lib.ListN.{length};
-ghost use Rattle.decision.specs.Sizes.{maxClients};
+ghost use Rattle.sizes.specs.Sizes.{maxClients};
 ghost use Rattle.stepfile.specs.Text.{bytes, argumentText};
 ghost use Rattle.stepfile.specs.Summary.{versionIn};
 ghost use Rattle.writer.specs.Buffer.{Wrote};

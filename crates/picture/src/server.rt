@@ -1,12 +1,12 @@
 // The server's line.
 ghost use Prim.Native.Nat.{_+_, _≤_};
 ghost use lib.ListN.{length};
-ghost use Rattle.decision.specs.Sizes.{maxClients};
+ghost use Rattle.sizes.specs.Sizes.{maxClients};
 ghost use Rattle.writer.specs.Buffer.{Wrote};
 ghost use Rattle.picture.specs.Picture.{serverText};
-use decision::Sizes;
 use sentences::put_missing;
 use sentences::put_text;
+use sizes::Sizes;
 use table::Table;
 use writer::put_byte;
 

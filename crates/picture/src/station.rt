@@ -5,7 +5,7 @@ ghost use mathlib.Core.Path.{_≡_};
 ghost use mathlib.Core.Bool.{false, cond};
 ghost use mathlib.Core.List.{[]};
 ghost use lib.ListN.{length, getD, replicate};
-ghost use Rattle.decision.specs.Sizes.{maxClients, maxFiles, maxBlocks, maxCells, Permitted};
+ghost use Rattle.sizes.specs.Sizes.{maxClients, maxFiles, maxBlocks, maxCells, Permitted};
 ghost use Rattle.decision.specs.Lists.{stored};
 ghost use Rattle.blocks.specs.Stores.{lent};
 ghost use Rattle.stepfile.specs.Text.{bytes};
@@ -15,9 +15,6 @@ ghost use Rattle.picture.specs.Picture.{isConcerned, concerned, opensTex
 ghost use Rattle.picture.specs.Picture.{stationIfText, stationsText};
 use blocks::count_dirty;
 use blocks::first_cell;
-use decision::MAX_BLOCKS;
-use decision::MAX_CELLS;
-use decision::Sizes;
 use decision::one_if;
 use protocol::ClientFile;
 use protocol::Sides;
@@ -25,6 +22,9 @@ use records::ClientRecord;
 use sentences::put_client;
 use sentences::put_list;
 use sentences::put_text;
+use sizes::MAX_BLOCKS;
+use sizes::MAX_CELLS;
+use sizes::Sizes;
 use writer::put_argument;
 use writer::put_byte;
 

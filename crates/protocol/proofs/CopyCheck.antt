@@ -11,7 +11,7 @@ use Rattle.records.specs.declared.record.Mode.the-variants.{Read, Write}
 use Rattle.records.specs.declared.version.Version.{Version}
 use Rattle.records.specs.Version.{numberOf, lagsAtMost}
 use Rattle.records.specs.Record.{allowedLag}
-use Rattle.records.proofs.Choosing.{split}
+use Rattle.sizes.proofs.Choosing.{split}
 use Rattle.protocol.specs.Copy.{keepsCopy}
 
 module _ (label latest : ℕ) where

@@ -1,6 +1,6 @@
 -- Every step keeps the invariant of one file and one block, for any number of clients. Assumes nothing.
 use Prim.Native.Nat.{ℕ, _≤_}
-use Rattle.decision.specs.Sizes.{nobody}
+use Rattle.sizes.specs.Sizes.{nobody}
 use Rattle.protocol.proofs.Promises.{Promises}
 use Rattle.protocol.proofs.Invariant.{Running, Recovering}
 use Rattle.protocol.proofs.Invariant.Fresh.{fresh-kept}

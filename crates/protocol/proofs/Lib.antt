@@ -3,6 +3,7 @@
 pub mod CopyCheck
 pub mod Tested
 pub mod OtherKinds
+pub mod Numbers
 pub mod Seen
 pub mod View
 pub mod Promises

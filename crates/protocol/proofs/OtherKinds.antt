@@ -7,7 +7,7 @@ use mathlib.Core.Logic.{⊎-elim}
 use lib.Dec.{eqb}
 use types.Run.{OneOf}
 use borrow.Author.Tests.{eqb-false, not-true}
-use Rattle.records.proofs.Choosing.{and-left, and-right}
+use Rattle.sizes.proofs.Choosing.{and-left, and-right}
 
 abbrev pub absent : List ℕ → ℕ → Bool
 absent [] k = true

@@ -14,7 +14,7 @@ use Rattle.records.specs.declared.record.ClientRecord.{ClientRecord}
 use Rattle.protocol.specs.declared.client.ClientFile.{ClientFile}
 use Rattle.protocol.specs.declared.entry.Entry.{Entry}
 use Rattle.records.specs.Record.{notOpen, isWrite, opened, closed, uncached, endsWriting}
-use Rattle.decision.specs.Sizes.{nobody}
+use Rattle.sizes.specs.Sizes.{nobody}
 use Rattle.decision.specs.Lists.{stored}
 use Rattle.decision.specs.Callback.{asksNothing, callbackDue, writesBack, invalidates}
 use Rattle.decision.proofs.Counting.{count-agree}

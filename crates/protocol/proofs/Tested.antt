@@ -7,8 +7,8 @@ use mathlib.Core.List.{List}
 use native.Mathlib.Omega.{arith}
 use lib.Dec.{eqb, leb}
 use borrow.Author.Tests.{leb-false, eq-eqb, ne-eqb}
-use Rattle.records.proofs.Choosing.{when, unless}
-use Rattle.decision.specs.declared.sizes.Sizes.{Sizes}
+use Rattle.sizes.proofs.Choosing.{when, unless}
+use Rattle.sizes.specs.declared.sizes.Sizes.{Sizes}
 use Rattle.decision.specs.Lists.{firstOf}
 use Rattle.protocol.specs.Refusal.{Test, tested}
 

@@ -12,7 +12,7 @@ use Rattle.records.specs.declared.record.ClientRecord.{ClientRecord}
 use Rattle.protocol.specs.declared.entry.Entry.{Entry}
 use Rattle.protocol.specs.declared.client.ClientFile.{ClientFile}
 use Rattle.protocol.specs.declared.reply.Grant.{Grant}
-use Rattle.decision.specs.Sizes.{nobody}
+use Rattle.sizes.specs.Sizes.{nobody}
 use Rattle.decision.specs.Lists.{count, filled}
 use Rattle.records.specs.Version.{firstVersion, latestAt, previousVersion}
 use Rattle.records.specs.Record.{notOpen, isWrite, opened, closed, uncached, endsWriting}

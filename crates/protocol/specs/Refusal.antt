@@ -11,7 +11,7 @@ use Rattle.records.specs.declared.record.Mode.{Mode}
 use Rattle.records.specs.declared.record.Mode.the-variants.{Write}
 use Rattle.protocol.specs.declared.entry.Entry.{Entry}
 use Rattle.protocol.specs.declared.client.ClientFile.{ClientFile}
-use Rattle.decision.specs.declared.sizes.Sizes.{Sizes}
+use Rattle.sizes.specs.declared.sizes.Sizes.{Sizes}
 use Rattle.records.specs.Version.{isLastVersion}
 use Rattle.records.specs.Record.{isOpen, isWrite, countOf}
 use Rattle.decision.specs.Lists.{firstOf}

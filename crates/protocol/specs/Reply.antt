@@ -2,11 +2,13 @@
 use Prim.Native.Nat.{ℕ}
 use mathlib.Core.Bool.{Bool, true, false, cond}
 use mathlib.Core.List.{List, [], _∷_}
+use lib.ListN.{replicate}
 use Rattle.protocol.specs.declared.reply.Grant.{Grant}
 use Rattle.protocol.specs.declared.reply.Reply.{Reply}
 use Rattle.protocol.specs.declared.reply.Reply.the-variants.{Granted, Waiting, Value, Refused, Answered}
 use Rattle.protocol.specs.declared.reply.Reply.the-variants.{AnsweredGrant, Done}
 use Rattle.records.specs.Version.{numberOf}
+use Rattle.sizes.specs.Sizes.{maxClients}
 
 -- "G latest previous permission (0 or 1)"
 abbrev pub grantValues : Grant → List ℕ
@@ -42,3 +44,7 @@ isRefused (Refused k) = true
 isRefused (Answered n) = false
 isRefused (AnsweredGrant n i g) = false
 isRefused Done = false
+
+-- the calls that stand beside a reply: a kind for each client, 0 for none; here none goes out
+abbrev pub noCalls : List ℕ
+noCalls = replicate maxClients 0

@@ -1,15 +1,15 @@
 // A client's side of one file: what it holds besides the copies of the blocks, and how its steps change it.
 ghost use mathlib.Core.Path.{_≡_};
 ghost use Rattle.protocol.specs.Client.{grantedClient, keepsBlocks, closedClient, flushedClient, answeredClient};
-ghost use Rattle.protocol.specs.Client.{readNeedsServer, writeNeedsServer, noClient, sideOf, withSide};
+ghost use Rattle.protocol.specs.Client.{readNeedsServer, writeNeedsServer, noClient};
 use crate::copy::keeps_copy;
 use crate::reply::Grant;
-use decision::MAX_CLIENTS;
 use decision::invalidates;
 use decision::writes_back;
 use records::ClientRecord;
 use records::Mode;
 use records::Version;
+use sizes::MAX_CLIENTS;
 
 pub struct ClientFile {
     pub opens: ClientRecord,
@@ -24,28 +24,7 @@ pub struct Sides {
     pub of: [ClientFile; MAX_CLIENTS],
 }
 
-impl Sides {
-    // The side of a client; of a client that is not there, one that has nothing.
-    pub fn side(self, client: usize) -> ClientFile
-        ensures { λ r. ⌜ r ≡ sideOf self client ⌝ }
-    {
-        if client < MAX_CLIENTS {
-            self.of[client]
-        } else {
-            ClientFile::none()
-        }
-    }
-
-    // The sides with this one for the client; a client that is not there changes none.
-    pub fn with_side(mut self, client: usize, own: ClientFile) -> Self
-        ensures { λ r. ⌜ r ≡ withSide self client own ⌝ }
-    {
-        if client < MAX_CLIENTS {
-            self.of[client] = own;
-        }
-        self
-    }
-}
+impl Sides {}
 
 impl ClientFile {
     // The side of a client that has nothing of the file.

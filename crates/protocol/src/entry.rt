@@ -1,19 +1,13 @@
 // An entry of the server's state table: what the server holds of one file besides its blocks, and what the steps make
 // of it. The number of clients in force goes with each method; what an array holds past it stays.
 ghost use mathlib.Core.Path.{_≡_};
-ghost use mathlib.Core.Bool.{true};
 ghost use Prim.Native.Nat.{_≤_, _<_};
 ghost use lib.ListN.{getD, replicate};
-ghost use Rattle.decision.specs.Sizes.{maxClients};
-ghost use Rattle.decision.specs.Lists.{stored, filled};
-ghost use Rattle.records.specs.Record.{notOpen};
+ghost use Rattle.sizes.specs.Sizes.{maxClients};
+ghost use Rattle.decision.specs.Lists.{stored};
 ghost use Rattle.protocol.specs.Entry.{waits as hasWaiter, callTo, callsOut, callsIn, callsDue, waitingEntry};
-ghost use Rattle.protocol.specs.Entry.{grantOf};
-ghost use Rattle.protocol.specs.Entry.{grantedEntry, closedEntry, flushedEntry, answeredEntry, crashedEntry};
-ghost use Rattle.protocol.specs.Entry.{reportedEntry, freshEntry};
-use crate::client::ClientFile;
+ghost use Rattle.protocol.specs.Entry.{grantOf, answeredEntry, freshEntry};
 use crate::reply::Grant;
-use decision::MAX_CLIENTS;
 use decision::asks_nothing;
 use decision::callbacks_due;
 use decision::invalidates;
@@ -24,6 +18,7 @@ use decision::writes_back;
 use records::ClientRecord;
 use records::Mode;
 use records::Version;
+use sizes::MAX_CLIENTS;
 
 // In a client field: none.
 pub const NOBODY: u8 = 255;
@@ -146,64 +141,6 @@ impl Entry {
         }
     }
 
-    // The open is granted.
-    pub fn granted(self, clients: usize, opener: usize, mode: Mode, grant: Grant) -> Self
-        requires { ⌜ clients ≤ maxClients ⌝ }
-        requires { ⌜ opener < clients ⌝ }
-        ensures { λ r. ⌜ r ≡ grantedEntry clients self opener mode grant ⌝ }
-    {
-        let before = self.records;
-        let version = self.version;
-        let out = self.calls;
-        let latest = grant.latest;
-        let own = before[opener];
-        let records = with_record(before, opener, own.opened(mode, grant.caching));
-        let calls = without_calls(out, clients);
-        match mode {
-            Mode::Read => Entry {
-                records,
-                version,
-                last: self.last,
-                waiter: NOBODY,
-                mode: Mode::Read,
-                calls,
-            },
-            Mode::Write => Entry {
-                records,
-                version: latest,
-                last: NOBODY,
-                waiter: NOBODY,
-                mode: Mode::Read,
-                calls,
-            },
-        }
-    }
-
-    // The client has closed; dirty says whether a block of the file is dirty there.
-    pub fn closed(mut self, client: usize, mode: Mode, dirty: bool) -> Self
-        requires { ⌜ client < maxClients ⌝ }
-        ensures { λ r. ⌜ r ≡ closedEntry self client mode dirty ⌝ }
-    {
-        let before = self.records;
-        let own = before[client];
-        let records = with_record(before, client, own.closed(mode));
-        self.records = records;
-        if own.ends_writing(mode) {
-            self.last = if dirty { client as u8 } else { NOBODY };
-        }
-        self
-    }
-
-    // The client has flushed a block; left says whether another of the file is still dirty there.
-    pub fn flushed(mut self, client: usize, left: bool) -> Self
-        ensures { λ r. ⌜ r ≡ flushedEntry self client left ⌝ }
-    {
-        if !left & (self.last as usize == client) {
-            self.last = NOBODY;
-        }
-        self
-    }
-
     // The client has answered its callback of this kind.
     pub fn answered(mut self, client: usize, kind: u8) -> Self
         requires { ⌜ client < maxClients ⌝ }
@@ -217,44 +154,6 @@ impl Entry {
         self.calls[client] = 0;
         if writes_back(kind) {
             self.last = NOBODY;
-        }
-        self
-    }
-
-    // The entry after a crash: of all that it holds only the version survives.
-    pub fn crashed(self, clients: usize) -> Self
-        requires { ⌜ clients ≤ maxClients ⌝ }
-        ensures { λ r. ⌜ r ≡ crashedEntry clients self ⌝ }
-    {
-        let records = self.records;
-        let version = self.version;
-        let calls = self.calls;
-        Entry {
-            records: without_records(records, clients),
-            version,
-            last: NOBODY,
-            waiter: NOBODY,
-            mode: Mode::Read,
-            calls: without_calls(calls, clients),
-        }
-    }
-
-    // The entry after the client has reported its side of the file. Where the report tells nothing new the entry is
-    // handed back as it came, which is most often so, and far faster.
-    pub fn reported(mut self, client: usize, own: ClientFile) -> Self
-        requires { ⌜ client < maxClients ⌝ }
-        ensures { λ r. ⌜ r ≡ reportedEntry self client own ⌝ }
-    {
-        let opens = own.opens;
-        let known = self.records[client];
-        if !own.marked & same_record(known, opens) {
-            return self;
-        }
-        let before = self.records;
-        let records = with_record(before, client, opens);
-        self.records = records;
-        if own.marked {
-            self.last = client as u8;
         }
         self
     }
@@ -300,36 +199,4 @@ fn with_calls_up_to(
         i += 1;
     }
     out
-}
-
-// The callbacks that were out, with none to the clients.
-fn without_calls(out: [u8; MAX_CLIENTS], clients: usize) -> [u8; MAX_CLIENTS]
-    requires { ⌜ clients ≤ maxClients ⌝ }
-    ensures { λ r. ⌜ r ≡ filled clients 0 out ⌝ }
-{
-    with_calls(out, clients, [0; MAX_CLIENTS])
-}
-
-// The records, with none of the clients open.
-fn without_records(
-    mut records: [ClientRecord; MAX_CLIENTS],
-    clients: usize,
-) -> [ClientRecord; MAX_CLIENTS]
-    requires { ⌜ clients ≤ maxClients ⌝ }
-    ensures { λ r. ⌜ r ≡ filled clients notOpen records ⌝ }
-{
-    let mut i = 0;
-    while i < clients {
-        records[i] = ClientRecord::not_open();
-        i += 1;
-    }
-    records
-}
-
-// Whether two records tell the same.
-fn same_record(a: ClientRecord, b: ClientRecord) -> bool
-    ensures { λ r. ⌜ (r ≡ true → a ≡ b) ⌝ }
-{
-    let caching = (a.caching & b.caching) | !(a.caching | b.caching);
-    (a.readers == b.readers) & ((a.writers == b.writers) & caching)
 }

@@ -6,6 +6,7 @@ mod copy;
 mod entry;
 mod refusal;
 mod reply;
+mod shared;
 mod step;
 
 pub use client::ClientFile;
@@ -36,5 +37,7 @@ pub use refusal::VERSION_SPENT;
 pub use refusal::refused_if;
 pub use reply::Grant;
 pub use reply::Reply;
-pub use step::Class;
+pub use shared::SharedFile;
+pub use step::Numbers;
 pub use step::Step;
+pub use step::asked;

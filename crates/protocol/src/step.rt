@@ -1,7 +1,7 @@
-// The steps that the service takes, and what each touches. The numbers are as given: one that names nothing is refused,
+// The steps that the service takes, and each as numbers. The numbers are as given: one that names nothing is refused,
 // and no step is cut.
 ghost use mathlib.Core.Path.{_≡_};
-ghost use Rattle.protocol.specs.Step.{classOf};
+ghost use Rattle.protocol.specs.Step.{five, numbersOf, byMode};
 use records::Mode;
 
 pub enum Step {
@@ -47,51 +47,61 @@ pub enum Step {
     End,
 }
 
-// What a step touches.
-pub enum Class {
-    // One file: its entry, the clients' sides of it, its blocks and their copies.
-    OnFile { file: usize },
-    // One block of a file, read or written by a client.
-    OnBlock { client: usize, file: usize },
-    // The whole table.
-    OnTable,
+// A step as five numbers; those that it does not have are 0.
+pub struct Numbers {
+    pub kind: u64,
+    pub client: usize,
+    pub file: usize,
+    pub block: usize,
+    pub value: u64,
 }
 
-impl Step {
-    pub fn class(self) -> Class
-        ensures { λ r. ⌜ r ≡ classOf self ⌝ }
-    {
-        match self {
-            Step::Open {
-                mode: _,
-                client: _,
-                file,
-            } => Class::OnFile { file },
-            Step::Close {
-                mode: _,
-                client: _,
-                file,
-            } => Class::OnFile { file },
-            Step::Read {
-                client,
-                file,
-                block: _,
-            } => Class::OnBlock { client, file },
-            Step::Write {
-                client,
-                file,
-                block: _,
-                value: _,
-            } => Class::OnBlock { client, file },
-            Step::Flush {
-                client: _,
-                file,
-                block: _,
-            } => Class::OnFile { file },
-            Step::Answer { client: _, file } => Class::OnFile { file },
-            Step::Crash => Class::OnTable,
-            Step::Report { client: _ } => Class::OnTable,
-            Step::End => Class::OnTable,
-        }
+fn asked_of(kind: u64, client: usize, file: usize, block: usize, value: u64) -> Numbers
+    ensures { λ r. ⌜ r ≡ five kind client file block value ⌝ }
+{
+    Numbers {
+        kind,
+        client,
+        file,
+        block,
+        value,
+    }
+}
+
+pub fn asked(step: Step) -> Numbers
+    ensures { λ r. ⌜ r ≡ numbersOf step ⌝ }
+{
+    match step {
+        Step::Open { mode, client, file } => asked_of(by_mode(mode, 0, 1), client, file, 0, 0),
+        Step::Close { mode, client, file } => asked_of(by_mode(mode, 2, 3), client, file, 0, 0),
+        Step::Read {
+            client,
+            file,
+            block,
+        } => asked_of(4, client, file, block, 0),
+        Step::Write {
+            client,
+            file,
+            block,
+            value,
+        } => asked_of(5, client, file, block, value),
+        Step::Flush {
+            client,
+            file,
+            block,
+        } => asked_of(6, client, file, block, 0),
+        Step::Answer { client, file } => asked_of(7, client, file, 0, 0),
+        Step::Crash => asked_of(8, 0, 0, 0, 0),
+        Step::Report { client } => asked_of(9, client, 0, 0, 0),
+        Step::End => asked_of(10, 0, 0, 0, 0),
+    }
+}
+
+fn by_mode(mode: Mode, read: u64, write: u64) -> u64
+    ensures { λ r. ⌜ r ≡ byMode mode read write ⌝ }
+{
+    match mode {
+        Mode::Read => read,
+        Mode::Write => write,
     }
 }

@@ -10,7 +10,7 @@ use Rattle.stepfile.specs.declared.parsed.Parsed.the-variants.{Is, NoStep}
 use Rattle.stepfile.specs.declared.parsed.Read.the-variants.{Line, Part}
 use Rattle.stepfile.specs.Grammar.{Reading, found, nothing, onward, step}
 use Rattle.stepfile.specs.Input.{firstLine, lineRead, readAt, noStepAt}
-use Rattle.records.proofs.Choosing.{when, unless}
+use Rattle.sizes.proofs.Choosing.{when, unless}
 use Rattle.stepfile.proofs.Digits.{at-offset}
 use Rattle.stepfile.proofs.AsWritten.{never}
 use Rattle.stepfile.proofs.FirstLines.{reads-step, reads-none}

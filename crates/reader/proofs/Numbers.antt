@@ -8,7 +8,7 @@ use lib.Dec.{eqb, leb}
 use lib.ListN.{length, getD, drop, drop-of-length-le}
 use borrow.Author.Tests.{eq-eqb, ne-eqb, eqb-true, eqb-false, leb-true}
 use Rattle.stepfile.specs.Grammar.{found, nothing, isDigit, digitsOn, numeral, argument}
-use Rattle.records.proofs.Choosing.{when, unless, and-left, and-right, split}
+use Rattle.sizes.proofs.Choosing.{when, unless, and-left, and-right, split}
 use Rattle.stepfile.proofs.Digits.{at-offset, digit, below-digit, above-digit, other, over, more}
 
 below-zero : (b : ℕ) → b < 48 → eqb b 48 ≡ false

@@ -3,7 +3,7 @@ use Prim.Native.Nat.{ℕ, _≤_, _<_}
 use mathlib.Core.Path.{_≡_, sym, _∙_, ap}
 use mathlib.Core.List.{List, []}
 use lib.ListN.{length, drop, drop-of-length-le}
-use Rattle.decision.specs.declared.sizes.Sizes.{Sizes}
+use Rattle.sizes.specs.declared.sizes.Sizes.{Sizes}
 use Rattle.stepfile.specs.declared.setting.Setting.{Setting}
 use Rattle.stepfile.specs.declared.setting.Setting.the-variants.{Missing as NoSetting}
 use Rattle.reader.specs.declared.number.Number.{Number}

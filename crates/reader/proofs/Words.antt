@@ -6,7 +6,7 @@ use native.Mathlib.Nat.{add-assoc}
 use native.Mathlib.Omega.{arith}
 use lib.ListN.{length, getD, drop, length-drop}
 use Rattle.stepfile.specs.Grammar.{nothing, Shape, noWord, words, same, shapeIn, shapeOf, shaped, step}
-use Rattle.records.proofs.Choosing.{unless, split}
+use Rattle.sizes.proofs.Choosing.{unless, split}
 use Rattle.stepfile.proofs.Digits.{at-offset}
 use Rattle.stepfile.proofs.AsWritten.{same-true}
 

@@ -6,7 +6,7 @@ ghost use Rattle.stepfile.specs.Grammar.{found};
 ghost use Rattle.stepfile.specs.Setting.{beginsWithSet, sizesAt, settled, settingOf};
 use crate::number::Number;
 use crate::number::argument_at;
-use decision::Sizes;
+use sizes::Sizes;
 use stepfile::Setting;
 
 // What a whole line gives as settings.

@@ -9,8 +9,8 @@ use lib.Seq.{getD-drop, getD-set-same, getD-set-other}
 use borrow.Author.Tests.{eqb-true, eqb-false}
 use Rattle.records.specs.Version.{numberOf}
 use Rattle.records.specs.Record.{notOpen}
-use Rattle.records.proofs.Choosing.{split}
-use Rattle.decision.specs.Sizes.{maxClients, maxFiles, maxPlaces, nobody}
+use Rattle.sizes.proofs.Choosing.{split}
+use Rattle.sizes.specs.Sizes.{maxClients, maxFiles, maxPlaces, nobody}
 use Rattle.decision.proofs.Beyond.{getD-alike}
 use Rattle.protocol.specs.declared.entry.Entry.{Entry}
 use Rattle.protocol.specs.Entry.{recordAt, freshEntry}

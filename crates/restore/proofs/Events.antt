@@ -6,11 +6,11 @@ use mathlib.Core.List.{List, [], _∷_}
 use native.Mathlib.Omega.{arith}
 use lib.ListN.{getD}
 use Rattle.records.specs.Version.{firstVersion, versionOf, asRead}
-use Rattle.records.proofs.Choosing.{split, conflict, unless}
-use Rattle.decision.specs.declared.sizes.Sizes.{Sizes}
-use Rattle.decision.specs.Sizes.{maxFiles, place, inForce}
+use Rattle.sizes.proofs.Choosing.{split, conflict, unless}
+use Rattle.sizes.specs.declared.sizes.Sizes.{Sizes}
+use Rattle.sizes.specs.Sizes.{maxFiles, place, inForce}
 use Rattle.decision.specs.Lists.{stored}
-use Rattle.decision.proofs.InForce.{in-force-permitted, file-fits}
+use Rattle.sizes.proofs.InForce.{in-force-permitted, file-fits}
 use Rattle.decision.proofs.Storing.{getD-stored, stored-same}
 use Rattle.protocol.specs.declared.entry.Entry.{Entry}
 use Rattle.protocol.specs.declared.step.Step.the-variants.{Crash}

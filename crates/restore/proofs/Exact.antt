@@ -9,11 +9,11 @@ use lib.Dec.{ltb}
 use lib.ListN.{length, getD, replicate}
 use borrow.Author.Tests.{le-ltb, le-leb}
 use Rattle.records.specs.Version.{versionOf, numberOf}
-use Rattle.records.proofs.Choosing.{split, conflict, when, unless}
-use Rattle.decision.specs.declared.sizes.Sizes.{Sizes}
-use Rattle.decision.specs.Sizes.{maxClients, maxFiles, maxBlocks, nobody, isPermitted, inForce, Permitted, place}
+use Rattle.sizes.proofs.Choosing.{split, conflict, when, unless}
+use Rattle.sizes.specs.declared.sizes.Sizes.{Sizes}
+use Rattle.sizes.specs.Sizes.{maxClients, maxFiles, maxBlocks, nobody, isPermitted, inForce, Permitted, place}
 use Rattle.decision.specs.Lists.{count}
-use Rattle.decision.proofs.InForce.{in-force-permitted, file-fits, block-fits}
+use Rattle.sizes.proofs.InForce.{in-force-permitted, file-fits, block-fits}
 use Rattle.protocol.specs.declared.reply.Reply.the-variants.{Refused, Done}
 use Rattle.protocol.specs.Entry.{waits}
 use Rattle.protocol.specs.Reply.{isRefused}

@@ -8,7 +8,7 @@ use Rattle.records.specs.Record.{notOpen}
 use Rattle.records.specs.Version.{versionOf}
 use Rattle.decision.specs.Lists.{count, stored}
 use Rattle.decision.specs.Permission.{permissionAtGrant}
-use Rattle.decision.specs.Sizes.{defaultSizes}
+use Rattle.sizes.specs.Sizes.{defaultSizes}
 use Rattle.decision.specs.State.{stateOf}
 use Rattle.protocol.specs.declared.reply.Reply.the-variants.{Refused, Done}
 use Rattle.protocol.specs.Entry.{recordAt}

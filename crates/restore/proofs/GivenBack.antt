@@ -7,9 +7,9 @@ use lib.ListN.{length, getD, replicate, length-replicate}
 use borrow.Author.Tests.{lt-ltb}
 use Rattle.records.specs.Version.{versionOf, numberOf, asRead}
 use Rattle.records.specs.Record.{notOpen}
-use Rattle.records.proofs.Choosing.{when}
-use Rattle.decision.specs.declared.sizes.Sizes.{Sizes}
-use Rattle.decision.specs.Sizes.{maxClients, maxFiles, maxPlaces, place, Permitted}
+use Rattle.sizes.proofs.Choosing.{when}
+use Rattle.sizes.specs.declared.sizes.Sizes.{Sizes}
+use Rattle.sizes.specs.Sizes.{maxClients, maxFiles, maxPlaces, place, Permitted}
 use Rattle.decision.specs.Lists.{stored}
 use Rattle.decision.proofs.Beyond.{getD-alike}
 use Rattle.decision.proofs.Storing.{length-stored, getD-stored}

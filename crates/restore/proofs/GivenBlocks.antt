@@ -10,9 +10,9 @@ use lib.Dec.{eqb, ltb}
 use lib.ListN.{length, getD, set, replicate, length-replicate}
 use lib.Seq.{set-getD}
 use borrow.Author.Tests.{eqb-true, eqb-false, lt-ltb, le-ltb, ltb-true, ltb-false}
-use Rattle.records.proofs.Choosing.{split, unless}
-use Rattle.decision.specs.declared.sizes.Sizes.{Sizes}
-use Rattle.decision.specs.Sizes.{maxFiles, maxBlocks, maxPlaces, place, Permitted}
+use Rattle.sizes.proofs.Choosing.{split, unless}
+use Rattle.sizes.specs.declared.sizes.Sizes.{Sizes}
+use Rattle.sizes.specs.Sizes.{maxFiles, maxBlocks, maxPlaces, place, Permitted}
 use Rattle.decision.specs.Lists.{stored}
 use Rattle.decision.proofs.Beyond.{getD-alike}
 use Rattle.decision.proofs.Storing.{length-stored, getD-stored-other}

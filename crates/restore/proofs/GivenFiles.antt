@@ -13,9 +13,9 @@ use borrow.Author.Tests.{eqb-true, leb-true, le-ltb, not-false}
 use Rattle.records.specs.declared.record.Mode.the-variants.{Read}
 use Rattle.records.specs.Version.{versionOf, numberOf}
 use Rattle.records.specs.Record.{notOpen}
-use Rattle.records.proofs.Choosing.{split, unless, and-left, and-right}
-use Rattle.decision.specs.declared.sizes.Sizes.{Sizes}
-use Rattle.decision.specs.Sizes.{maxClients, maxFiles, nobody, Permitted}
+use Rattle.sizes.proofs.Choosing.{split, unless, and-left, and-right}
+use Rattle.sizes.specs.declared.sizes.Sizes.{Sizes}
+use Rattle.sizes.specs.Sizes.{maxClients, maxFiles, nobody, Permitted}
 use Rattle.decision.specs.Lists.{stored}
 use Rattle.decision.proofs.Storing.{getD-stored-other}
 use Rattle.protocol.specs.declared.entry.Entry.{Entry}

@@ -11,9 +11,9 @@ use lib.ListN.{length, getD, set}
 use lib.Seq.{set-getD, set-set, getD-set-same}
 use Rattle.records.specs.declared.record.ClientRecord.{ClientRecord}
 use Rattle.records.specs.Record.{notOpen, isOpen}
-use Rattle.records.proofs.Choosing.{split}
-use Rattle.decision.specs.declared.sizes.Sizes.{Sizes}
-use Rattle.decision.specs.Sizes.{maxClients, maxFiles, Permitted}
+use Rattle.sizes.proofs.Choosing.{split}
+use Rattle.sizes.specs.declared.sizes.Sizes.{Sizes}
+use Rattle.sizes.specs.Sizes.{maxClients, maxFiles, Permitted}
 use Rattle.decision.specs.Lists.{stored}
 use Rattle.decision.proofs.Storing.{length-stored, getD-stored-other}
 use Rattle.protocol.specs.declared.entry.Entry.{Entry}

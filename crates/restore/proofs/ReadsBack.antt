@@ -8,15 +8,15 @@ use lib.Dec.{eqb}
 use lib.ListN.{getD}
 use Rattle.records.specs.declared.version.Version.{Version}
 use Rattle.records.specs.Version.{numberOf, asRead}
-use Rattle.records.proofs.Choosing.{split}
-use Rattle.decision.specs.declared.sizes.Sizes.{Sizes}
-use Rattle.decision.specs.Sizes.{place}
+use Rattle.sizes.proofs.Choosing.{split}
+use Rattle.sizes.specs.declared.sizes.Sizes.{Sizes}
+use Rattle.sizes.specs.Sizes.{place}
 use Rattle.decision.specs.Lists.{stored}
 use Rattle.decision.proofs.Storing.{stored-agree}
 use Rattle.protocol.specs.declared.entry.Entry.{Entry}
 use Rattle.protocol.specs.declared.reply.Reply.the-variants.{Done}
 use Rattle.protocol.specs.declared.step.Step.the-variants.{Crash}
-use Rattle.file.specs.FileStep.{noCalls}
+use Rattle.protocol.specs.Reply.{noCalls}
 use Rattle.table.specs.TableStep.{entryOf, tableStep}
 use Rattle.service.specs.declared.service.Service.{Service}
 use Rattle.service.specs.Contents.{sizesOf, tableIn}

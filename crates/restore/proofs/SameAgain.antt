@@ -10,9 +10,9 @@ use borrow.Author.Tests.{le-ltb, le-leb, ltb-false}
 use Rattle.records.specs.declared.record.ClientRecord.{ClientRecord}
 use Rattle.records.specs.Version.{versionOf, numberOf, asRead}
 use Rattle.records.specs.Record.{notOpen, isOpen}
-use Rattle.records.proofs.Choosing.{split, when, unless}
-use Rattle.decision.specs.declared.sizes.Sizes.{Sizes}
-use Rattle.decision.specs.Sizes.{maxClients, place, nobody, Permitted}
+use Rattle.sizes.proofs.Choosing.{split, when, unless}
+use Rattle.sizes.specs.declared.sizes.Sizes.{Sizes}
+use Rattle.sizes.specs.Sizes.{maxClients, place, nobody, Permitted}
 use Rattle.protocol.specs.declared.entry.Entry.{Entry}
 use Rattle.protocol.specs.Entry.{recordAt}
 use Rattle.table.specs.TableStep.{entryOf}

@@ -9,7 +9,7 @@ use lib.Dec.{eqb}
 use lib.ListN.{length, getD, take, drop}
 use lib.Seq.{drop-cons, drop-length, getD-take, length-take-le}
 use borrow.Author.Tests.{eqb-true, eq-eqb, ne-eqb}
-use Rattle.records.proofs.Choosing.{and-left, and-right, conflict}
+use Rattle.sizes.proofs.Choosing.{and-left, and-right, conflict}
 use Rattle.restore.specs.Reading.{sameBytes}
 
 pub same-true : (x y : List ℕ) → sameBytes x y ≡ true → x ≡ y

@@ -7,7 +7,7 @@ use lib.Dec.{ltb}
 use lib.ListN.{getD, set, take, drop, replicate}
 use Rattle.records.specs.declared.record.ClientRecord.{ClientRecord}
 use Rattle.records.specs.Version.{versionOf}
-use Rattle.decision.specs.Sizes.{maxClients, maxFiles, maxBlocks, maxPlaces, place}
+use Rattle.sizes.specs.Sizes.{maxClients, maxFiles, maxBlocks, maxPlaces, place}
 use Rattle.protocol.specs.declared.entry.Entry.{Entry}
 use Rattle.protocol.specs.Entry.{freshEntry}
 use Rattle.table.specs.TableStep.{entryOf}

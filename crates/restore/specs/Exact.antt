@@ -7,8 +7,8 @@ use mathlib.Core.List.{List}
 use mathlib.Core.Logic.{_↔_}
 use lib.ListN.{length, getD}
 use Rattle.records.specs.Version.{numberOf}
-use Rattle.decision.specs.declared.sizes.Sizes.{Sizes}
-use Rattle.decision.specs.Sizes.{maxClients, maxFiles, maxBlocks, maxPlaces}
+use Rattle.sizes.specs.declared.sizes.Sizes.{Sizes}
+use Rattle.sizes.specs.Sizes.{maxClients, maxFiles, maxBlocks, maxPlaces}
 use Rattle.decision.specs.Lists.{firstOf}
 use Rattle.protocol.specs.Entry.{recordAt}
 use Rattle.protocol.specs.Reply.{isRefused}

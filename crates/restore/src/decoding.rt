@@ -5,19 +5,19 @@ ghost use mathlib.Core.Path.{_≡_};
 ghost use lib.ListN.{take, drop};
 ghost use Rattle.restore.specs.Decoded.{numberAt, sectionIn, placed, withFile, putFile, recordOf};
 ghost use Rattle.restore.specs.Decoded.{withOpen, putOpen, putBlock};
-ghost use Rattle.decision.specs.Sizes.{maxPlaces};
+ghost use Rattle.sizes.specs.Sizes.{maxPlaces};
 ghost use Rattle.restore.specs.Decoded.{placeOf, decodedFiles, decodedBlocks};
 use crate::numbers::byte_at;
 use crate::numbers::eight_at;
 use crate::numbers::four_at;
 use crate::numbers::two_at;
-use decision::MAX_BLOCKS;
-use decision::MAX_CLIENTS;
-use decision::MAX_FILES;
-use decision::MAX_PLACES;
 use protocol::Entry;
 use records::ClientRecord;
 use records::Version;
+use sizes::MAX_BLOCKS;
+use sizes::MAX_CLIENTS;
+use sizes::MAX_FILES;
+use sizes::MAX_PLACES;
 
 // The entry of a file with the version and the last writer that stand at the offset.
 fn with_file(bytes: &[u8], at: usize, mut entry: Entry) -> Entry

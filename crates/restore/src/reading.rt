@@ -2,27 +2,26 @@
 ghost use Prim.Native.Nat.{_≤_, _<_};
 ghost use mathlib.Core.Path.{_≡_};
 ghost use lib.ListN.{length, take, getD};
-ghost use Rattle.decision.specs.Sizes.{maxFiles, maxBlocks, place, Permitted};
+ghost use Rattle.sizes.specs.Sizes.{maxFiles, maxBlocks, place, Permitted};
 ghost use Rattle.decision.specs.Lists.{stored};
 ghost use Rattle.image.specs.Image.{imageBytes};
 ghost use Rattle.restore.specs.Reading.{sameBytes, withVersions, withBlocks, withContents, readingOf, sizesIn};
 use crate::decoding::decode_blocks;
 use crate::decoding::decode_files;
 use crate::numbers::byte_at;
-use decision::MAX_BLOCKS;
-use decision::MAX_CLIENTS;
-use decision::MAX_FILES;
-use decision::MAX_PLACES;
-use decision::Sizes;
 use image::IMAGE_ROOM;
 use image::put_image;
 use protocol::Entry;
 use protocol::NO_IMAGE;
 use protocol::Reply;
-use protocol::Step;
 use service::Outcome;
 use service::Server;
 use service::Service;
+use sizes::MAX_BLOCKS;
+use sizes::MAX_CLIENTS;
+use sizes::MAX_FILES;
+use sizes::MAX_PLACES;
+use sizes::Sizes;
 use table::Table;
 
 // The sizes with which the bytes begin, 0 for those that are missing. An image is of the sizes with which it begins.
@@ -52,8 +51,7 @@ pub fn read_image(service: Service, bytes: &[u8]) -> Outcome
             calls: [0; MAX_CLIENTS],
         };
     }
-    let crash = service.step(Step::Crash);
-    let crashed = crash.service;
+    let crashed = service.crashed();
     Outcome {
         service: with_contents(crashed, files, &blocks),
         reply: Reply::Done,

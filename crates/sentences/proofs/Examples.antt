@@ -5,7 +5,7 @@ use mathlib.Core.Path.{_≡_, refl}
 use mathlib.Core.Bool.{true}
 use mathlib.Core.List.{List, [], _∷_, _++_}
 use Rattle.records.specs.declared.record.Mode.the-variants.{Read as ForRead, Write as ForWrite}
-use Rattle.decision.specs.Sizes.{defaultSizes}
+use Rattle.sizes.specs.Sizes.{defaultSizes}
 use Rattle.decision.specs.Lists.{count, stored}
 use Rattle.decision.specs.State.{stateOf}
 use Rattle.decision.specs.Callback.{orderedCalls}

@@ -6,7 +6,7 @@ use mathlib.Core.List.{_++_}
 use borrow.Author.Tests.{eq-eqb, ne-eqb}
 use Rattle.records.specs.declared.version.Version.{Version}
 use Rattle.records.specs.Version.{numberOf}
-use Rattle.records.proofs.Choosing.{when, unless}
+use Rattle.sizes.proofs.Choosing.{when, unless}
 use Rattle.stepfile.specs.Text.{bytes, argumentText}
 use Rattle.sentences.specs.Accepted.{keptText}
 

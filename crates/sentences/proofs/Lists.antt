@@ -8,7 +8,7 @@ use native.Mathlib.Omega.{arith}
 use lib.Dec.{eqb}
 use lib.ListN.{length, getD, length-append}
 use borrow.Author.Tests.{eq-eqb, ne-eqb}
-use Rattle.records.proofs.Choosing.{when, unless, split}
+use Rattle.sizes.proofs.Choosing.{when, unless, split}
 use Rattle.decision.specs.Lists.{count, stored}
 use Rattle.decision.proofs.Counting.{count-agree}
 use Rattle.decision.proofs.Storing.{getD-stored}

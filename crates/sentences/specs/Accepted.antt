@@ -6,7 +6,7 @@ use lib.Dec.{eqb}
 use Rattle.records.specs.declared.record.Mode.{Mode}
 use Rattle.records.specs.declared.version.Version.{Version}
 use Rattle.records.specs.Version.{numberOf}
-use Rattle.decision.specs.Sizes.{maxClients}
+use Rattle.sizes.specs.Sizes.{maxClients}
 use Rattle.decision.specs.Callback.{orderedCalls, asksNothing, writesBack, invalidates}
 use Rattle.decision.specs.State.{stateOf}
 use Rattle.protocol.specs.declared.client.ClientFile.{ClientFile}

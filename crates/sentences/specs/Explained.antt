@@ -10,8 +10,8 @@ use Rattle.protocol.specs.declared.reply.Reply.the-variants.{Granted, Waiting, 
 use Rattle.protocol.specs.declared.reply.Reply.the-variants.{AnsweredGrant, Done}
 use Rattle.protocol.specs.declared.step.Step.{Step}
 use Rattle.protocol.specs.Client.{sideOf}
+use Rattle.protocol.specs.Step.{clientOf, fileOf, blockOf, modeOf}
 use Rattle.service.specs.declared.service.Service.{Service}
-use Rattle.service.specs.Contents.{sizesOf, tableIn, entryAt, sidesAt}
 use Rattle.service.specs.Step.{stepOf}
 use Rattle.stepfile.specs.declared.parsed.Parsed.{Parsed}
 use Rattle.stepfile.specs.declared.parsed.Parsed.the-variants.{Is, NoStep}
@@ -21,14 +21,14 @@ use Rattle.stepfile.specs.Text.{bytes, argumentText}
 use Rattle.stepfile.specs.Grammar.{parseLine}
 use Rattle.stepfile.specs.Setting.{settingOf}
 use Rattle.stepfile.specs.Line.{replyText}
-use Rattle.stepfile.specs.Played.{outcomeOf, serviceAfter}
+use Rattle.stepfile.specs.Played.{outcomeOf}
 use Rattle.ledger.specs.declared.ledger.Ledger.{Ledger}
-use Rattle.ledger.specs.Ledger.{emptyLedger, waitingSince, mayCache, ledgerAfter, stepTold}
+use Rattle.ledger.specs.Ledger.{emptyLedger, ledgerAfter}
 use Rattle.ledger.specs.Refusals.{noRefusals, refusalsAfter}
 use Rattle.sentences.specs.declared.annotated.Annotated.{Annotated}
-use Rattle.sentences.specs.declared.scene.Scene.{Scene}
+use Rattle.sentences.specs.Scene.{Scene, sceneOf}
 use Rattle.sentences.specs.Accepted.{readText, grantText, waitText, answerText, stillText, doneText}
-use Rattle.sentences.specs.Refusal.{clientOf, fileOf, blockOf, modeOf, refusalText}
+use Rattle.sentences.specs.Refusal.{refusalText}
 
 -- What is said of the step x, by its reply. An answer that grants gives the open that waited: the waiter's, in the mode
 -- in which it waits.
@@ -45,20 +45,6 @@ saidOf fresh c x kinds (AnsweredGrant n i g) =
     answerText n (clientOf x) (fileOf x)
     ++ (bytes "; " ++ grantText (c .entry .mode) g (sideOf (c .sides) i) i (fileOf x))
 saidOf fresh c x kinds Done = doneText (c .caching) x
-
--- what the sentence looks at, where the step x finds the service s with the ledger l
-abbrev pub sceneOf : Service → Ledger → Step → Scene
-sceneOf s l x =
-    record {
-      sizes = sizesOf s;
-      reported = tableIn s .reported;
-      entry = entryAt s (fileOf x);
-      after = entryAt (stepOf s x .service) (fileOf x);
-      sides = sidesAt s (fileOf x);
-      since = waitingSince l (fileOf x);
-      told = stepTold s l x;
-      caching = mayCache s x;
-    }
 
 unfoldable pub sentenceOf : Bool → Service → Ledger → Step → List ℕ
 sentenceOf fresh s l x = let o = stepOf s x in saidOf fresh (sceneOf s l x) x (o .calls) (o .reply)
@@ -85,7 +71,7 @@ abbrev pub saidOfLine : Bool → Service → Ledger → ℕ → List ℕ → Par
 saidOfLine fresh s l n l′ (Is x) = sentenceOf fresh s l x
 saidOfLine fresh s l n l′ NoStep = cond (fresh && eqb n 1) (settingText (settingOf l′)) noStepText
 
--- it begins as `play` prints it (`reply-line`, crates/writer/proofs/Replies.antt)
+-- it begins as `play` prints it: `lineText` is `replyText` and LF
 unfoldable pub explainedText : ℕ → Reply → List ℕ → List ℕ → List ℕ
 explainedText n r kinds said = replyText n r kinds ++ (bytes "    " ++ (said ++ bytes "\n"))
 
@@ -98,21 +84,28 @@ abbrev pub ledgerOf : Service → Ledger → ℕ → Parsed → Ledger
 ledgerOf s l n (Is x) = ledgerAfter n s x l
 ledgerOf s l n NoStep = l
 
+-- the text of line l, numbered n, which gives p, and the state after it
+abbrev pub explainedBy : Bool → Annotated → ℕ → List ℕ → Parsed → List ℕ
+explainedBy fresh t n l p =
+    let o = outcomeOf fresh (t .service) n l p in
+    explainedText n (o .reply) (o .calls) (saidOfLine fresh (t .service) (t .ledger) n l p)
+
+abbrev pub annotatedBy : Bool → Annotated → ℕ → List ℕ → Parsed → Annotated
+annotatedBy fresh t n l p =
+    let o = outcomeOf fresh (t .service) n l p in
+    record {
+      service = o .service;
+      ledger = ledgerOf (t .service) (t .ledger) n p;
+      refusals = refusalsAfter (o .reply) (t .refusals);
+    }
+
 -- for `transcript` (crates/stepfile/specs/Transcript.antt)
 unfoldable pub explainedLine : Bool → Annotated → ℕ → List ℕ → List ℕ
-explainedLine fresh t n l =
-    let o = outcomeOf fresh (t .service) n l (parseLine l) in
-    explainedText n (o .reply) (o .calls) (saidOfLine fresh (t .service) (t .ledger) n l (parseLine l))
+explainedLine fresh t n l = explainedBy fresh t n l (parseLine l)
 
 unfoldable pub annotatedAfter : Bool → Annotated → ℕ → List ℕ → Annotated
-annotatedAfter fresh t n l =
-    let p = parseLine l in
-    record {
-      service = serviceAfter fresh (t .service) n l;
-      ledger = ledgerOf (t .service) (t .ledger) n p;
-      refusals = refusalsAfter (outcomeOf fresh (t .service) n l p .reply) (t .refusals);
-    }
+annotatedAfter fresh t n l = annotatedBy fresh t n l (parseLine l)
 
 -- the room that an explained line is given: more than it takes
 abbrev pub explainedRoom : ℕ
-explainedRoom = 1200
+explainedRoom = 7000

@@ -27,6 +27,10 @@ abbrev pub forText : Mode → List ℕ
 forText Read = bytes " for read"
 forText Write = bytes " for write"
 
+-- the mode of a step, by its kind (`numbersOf` in crates/protocol/specs/Step.antt): of opens, closes and writes
+abbrev pub modeByKind : ℕ → Mode
+modeByKind kind = cond (eqb kind 1) Write (cond (eqb kind 3) Write (cond (eqb kind 5) Write Read))
+
 -- "station 2 has file 3 open for write"
 abbrev pub openText : Mode → ℕ → ℕ → List ℕ
 openText mode i f = clientText i ++ (bytes " has" ++ (fileText f ++ (bytes " open" ++ forText mode)))

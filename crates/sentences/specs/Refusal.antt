@@ -4,63 +4,16 @@ use mathlib.Core.Bool.{Bool, cond, not}
 use mathlib.Core.List.{List, [], _++_}
 use lib.Dec.{eqb}
 use Rattle.records.specs.declared.record.Mode.{Mode}
-use Rattle.records.specs.declared.record.Mode.the-variants.{Read as ForRead, Write as ForWrite}
-use Rattle.decision.specs.declared.sizes.Sizes.{Sizes}
+use Rattle.records.specs.declared.record.Mode.the-variants.{Write as ForWrite}
+use Rattle.sizes.specs.declared.sizes.Sizes.{Sizes}
 use Rattle.protocol.specs.declared.entry.Entry.{Entry}
 use Rattle.protocol.specs.declared.step.Step.{Step}
 use Rattle.protocol.specs.declared.step.Step.the-variants.{Open, Close, Read, Write, Flush, Answer, Crash, Report, End}
+use Rattle.protocol.specs.Step.{clientOf, fileOf, blockOf, modeOf}
 use Rattle.table.specs.TableStep.{isReported}
 use Rattle.stepfile.specs.Text.{bytes, argumentText}
 use Rattle.sentences.specs.Phrase.{clientText, fileText, blockText, forText, openText, listText}
 use Rattle.sentences.specs.Accepted.{waiterText, stillText}
-
--- ---- what a step names; 0 where it names none
-
-abbrev pub clientOf : Step → ℕ
-clientOf (Open m i f) = i
-clientOf (Close m i f) = i
-clientOf (Read i f b) = i
-clientOf (Write i f b v) = i
-clientOf (Flush i f b) = i
-clientOf (Answer i f) = i
-clientOf Crash = 0
-clientOf (Report i) = i
-clientOf End = 0
-
-abbrev pub fileOf : Step → ℕ
-fileOf (Open m i f) = f
-fileOf (Close m i f) = f
-fileOf (Read i f b) = f
-fileOf (Write i f b v) = f
-fileOf (Flush i f b) = f
-fileOf (Answer i f) = f
-fileOf Crash = 0
-fileOf (Report i) = 0
-fileOf End = 0
-
-abbrev pub blockOf : Step → ℕ
-blockOf (Open m i f) = 0
-blockOf (Close m i f) = 0
-blockOf (Read i f b) = b
-blockOf (Write i f b v) = b
-blockOf (Flush i f b) = b
-blockOf (Answer i f) = 0
-blockOf Crash = 0
-blockOf (Report i) = 0
-blockOf End = 0
-
-abbrev pub modeOf : Step → Mode
-modeOf (Open m i f) = m
-modeOf (Close m i f) = m
-modeOf (Read i f b) = ForRead
-modeOf (Write i f b v) = ForWrite
-modeOf (Flush i f b) = ForRead
-modeOf (Answer i f) = ForRead
-modeOf Crash = ForRead
-modeOf (Report i) = ForRead
-modeOf End = ForRead
-
--- ---- what is said
 
 -- 2, 3 and 4: "Refusals 2, 3 and 4 .. follow the settings" (document 02, Wish 7)
 abbrev pub noClientText : ℕ → ℕ → List ℕ

@@ -1,40 +1,69 @@
 // The line that explains a step or a setting: what is printed for it, and after four spaces what happened.
-ghost use Prim.Native.Nat.{_+_, _≤_};
+ghost use Prim.Native.Nat.{ℕ, _+_, _/_, _≤_};
+ghost use mathlib.Core.Path.{_≡_};
+ghost use mathlib.Core.List.{List};
 ghost use lib.ListN.{length};
-ghost use Rattle.decision.specs.Sizes.{Permitted};
-ghost use Rattle.file.specs.FileStep.{noCalls};
+ghost use Rattle.sizes.specs.Sizes.{Permitted};
+ghost use Rattle.protocol.specs.declared.reply.Reply.{Reply};
+ghost use Rattle.words.specs.Rows.{rowWords, tableWords};
+ghost use Rattle.words.specs.Said.{saidRoom, callsSaid, Says};
+ghost use Rattle.service.specs.Lent.{lentFlags};
 ghost use Rattle.writer.specs.Buffer.{Wrote, WroteIfRoom};
+ghost use Rattle.sentences.specs.Scene.{sceneHeld};
 ghost use Rattle.sentences.specs.Explained.{saidOf, settingText, explainedText, explainedRoom};
 use crate::phrase::put_text;
-use crate::said::put_said;
-use crate::scene::Scene;
-use decision::MAX_CLIENTS;
-use decision::Sizes;
-use protocol::Reply;
+use crate::sentence::put_sentence;
+use ledger::Told;
 use protocol::Step;
+use service::FLAGS;
+use sizes::Sizes;
 use stepfile::Setting;
+use words::ROW;
+use words::SAID;
+use words::WORDS;
+use words::calls_with;
+use words::reply_of;
 use writer::put_argument;
 use writer::put_byte;
-use writer::put_reply;
+use writer::put_said;
 
 // The room that an explained line is given: more than any takes.
-pub const EXPLAINED_ROOM: usize = 1200;
+pub const EXPLAINED_ROOM: usize = 7000;
 
-// Writes the line of a step, and answers the offset past it. Where the buffer has less than EXPLAINED_ROOM bytes from
-// the offset on, writes nothing and answers the offset.
+// Writes the line of a step, and answers the offset past it; the row is that of the file before the step, the table and
+// the flags are those after it. Where the buffer has less than EXPLAINED_ROOM bytes from the offset on, writes nothing
+// and answers the offset.
 pub fn explain_step(
     out: &mut [u8],
     at: usize,
     number: u64,
     fresh: bool,
-    scene: Scene,
+    sizes: Sizes,
     step: Step,
-    reply: Reply,
-    calls: [u8; MAX_CLIENTS],
+    said: u64,
+    words: &[u64; SAID],
+    row: &[u64; ROW],
+    table: &[u64; WORDS],
+    flags: &[bool; FLAGS],
+    since: u64,
+    told: Told,
+    caching: bool,
 ) -> usize
-    requires { ⌜ Permitted (scene .sizes) ⌝ }
-    ensures { λ r. ⌜ WroteIfRoom explainedRoom (now (out .entry)) at
-        (explainedText number reply calls (saidOf fresh scene step calls reply)) (now (out .exit)) r ⌝ }
+    requires { ⌜ Permitted sizes ⌝ }
+    requires { ⌜ said / 256 ≤ saidRoom ⌝ }
+    requires { ⌜ length (now words) ≡ saidRoom ⌝ }
+    requires { ⌜ length (now row) ≡ rowWords ⌝ }
+    requires { ⌜ length (now table) ≡ tableWords ⌝ }
+    requires { ⌜ length (now flags) ≡ lentFlags ⌝ }
+    ensures { λ r. ⌜ ((reply : Reply) (calls : List ℕ)
+        → Says said (now (words .entry)) reply calls
+        → callsSaid said (now (words .entry)) ≡ calls
+        → WroteIfRoom explainedRoom (now (out .entry)) at
+        (explainedText number reply calls
+        (saidOf fresh
+        (sceneHeld sizes step (now (row .entry)) (now (table .entry)) (now (flags .entry)) since told caching)
+        step calls reply))
+        (now (out .exit)) r) ⌝ }
     ensures { λ r. ⌜ r ≤ at + explainedRoom ⌝ }
 {
     if out.len() < EXPLAINED_ROOM {
@@ -43,9 +72,25 @@ pub fn explain_step(
     if out.len() - EXPLAINED_ROOM < at {
         return at;
     }
-    let space = put_reply(out, at, number, reply, calls);
-    let said = put_text(out, space, b"    ");
-    let feed = put_said(out, said, fresh, scene, step, reply, calls);
+    let reply = reply_of(said, words);
+    let calls = calls_with(said, words);
+    let space = put_said(out, at, number, said, words);
+    let sentence = put_text(out, space, b"    ");
+    let feed = put_sentence(
+        out,
+        sentence,
+        fresh,
+        sizes,
+        step,
+        reply,
+        calls,
+        row,
+        table,
+        flags,
+        since,
+        told,
+        caching,
+    );
     put_byte(out, feed, b'\n')
 }
 
@@ -54,11 +99,16 @@ pub fn explain_setting(
     out: &mut [u8],
     at: usize,
     number: u64,
-    reply: Reply,
+    said: u64,
+    words: &[u64; SAID],
     setting: Setting,
 ) -> usize
-    ensures { λ r. ⌜ WroteIfRoom explainedRoom (now (out .entry)) at
-        (explainedText number reply noCalls (settingText setting)) (now (out .exit)) r ⌝ }
+    requires { ⌜ said / 256 ≤ saidRoom ⌝ }
+    requires { ⌜ length (now words) ≡ saidRoom ⌝ }
+    ensures { λ r. ⌜ ((reply : Reply) (calls : List ℕ)
+        → Says said (now (words .entry)) reply calls
+        → WroteIfRoom explainedRoom (now (out .entry)) at
+        (explainedText number reply calls (settingText setting)) (now (out .exit)) r) ⌝ }
     ensures { λ r. ⌜ r ≤ at + explainedRoom ⌝ }
 {
     if out.len() < EXPLAINED_ROOM {
@@ -67,9 +117,9 @@ pub fn explain_setting(
     if out.len() - EXPLAINED_ROOM < at {
         return at;
     }
-    let space = put_reply(out, at, number, reply, [0; MAX_CLIENTS]);
-    let said = put_text(out, space, b"    ");
-    let feed = put_setting(out, said, setting);
+    let space = put_said(out, at, number, said, words);
+    let sentence = put_text(out, space, b"    ");
+    let feed = put_setting(out, sentence, setting);
     put_byte(out, feed, b'\n')
 }
 

@@ -3,12 +3,12 @@ ghost use Prim.Native.Nat.{_+_, _≤_};
 ghost use mathlib.Core.Bool.{false, cond};
 ghost use mathlib.Core.List.{[]};
 ghost use lib.ListN.{length, getD};
-ghost use Rattle.decision.specs.Sizes.{maxClients};
+ghost use Rattle.sizes.specs.Sizes.{maxClients};
 ghost use Rattle.stepfile.specs.Text.{argumentText};
 ghost use Rattle.writer.specs.Buffer.{Wrote};
 ghost use Rattle.sentences.specs.Phrase.{listText};
 use crate::phrase::put_text;
-use decision::MAX_CLIENTS;
+use sizes::MAX_CLIENTS;
 use writer::put_argument;
 
 // The numbers below n whose flag is set.

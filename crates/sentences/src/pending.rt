@@ -5,7 +5,7 @@ ghost use mathlib.Core.Bool.{false, not};
 ghost use lib.ListN.{length, replicate};
 ghost use Rattle.decision.specs.Callback.{asksNothing};
 ghost use Rattle.decision.specs.Lists.{stored};
-ghost use Rattle.decision.specs.Sizes.{maxClients};
+ghost use Rattle.sizes.specs.Sizes.{maxClients};
 ghost use Rattle.protocol.specs.Entry.{callTo};
 ghost use Rattle.table.specs.TableStep.{isReported};
 ghost use Rattle.writer.specs.Buffer.{Wrote};
@@ -16,10 +16,10 @@ use crate::phrase::put_client;
 use crate::phrase::put_file;
 use crate::phrase::put_for;
 use crate::phrase::put_text;
-use decision::MAX_CLIENTS;
 use decision::asks_nothing;
 use protocol::Entry;
 use records::Mode;
+use sizes::MAX_CLIENTS;
 use writer::put_argument;
 
 // Who has still to report.

@@ -1,9 +1,10 @@
 // Phrases that the sentences are made of, written into a buffer at an offset. Each function answers the offset past
 // what it wrote.
+ghost use mathlib.Core.Path.{_≡_};
 ghost use Prim.Native.Nat.{_+_, _≤_};
 ghost use lib.ListN.{length};
 ghost use Rattle.writer.specs.Buffer.{Wrote};
-ghost use Rattle.sentences.specs.Phrase.{clientText, fileText, blockText, forText, openText};
+ghost use Rattle.sentences.specs.Phrase.{clientText, fileText, blockText, forText, modeByKind, openText};
 use records::Mode;
 use writer::put_argument;
 
@@ -56,6 +57,18 @@ pub fn put_for(out: &mut [u8], at: usize, mode: Mode) -> usize
     match mode {
         Mode::Read => put_text(out, at, b" for read"),
         Mode::Write => put_text(out, at, b" for write"),
+    }
+}
+
+// The mode of a step, by its kind.
+pub fn mode_by_kind(kind: u64) -> Mode
+    ensures { λ r. ⌜ r ≡ modeByKind kind ⌝ }
+{
+    match kind {
+        1 => Mode::Write,
+        3 => Mode::Write,
+        5 => Mode::Write,
+        _ => Mode::Read,
     }
 }
 

@@ -2,30 +2,28 @@
 ghost use Prim.Native.Nat.{_+_, _≤_};
 ghost use mathlib.Core.List.{_++_};
 ghost use lib.ListN.{length};
-ghost use Rattle.decision.specs.Sizes.{maxClients};
+ghost use Rattle.sizes.specs.Sizes.{maxClients};
 ghost use Rattle.stepfile.specs.Text.{bytes};
 ghost use Rattle.writer.specs.Buffer.{Wrote};
 ghost use Rattle.sentences.specs.Phrase.{clientText};
 ghost use Rattle.sentences.specs.Refusal.{noClientText, noFileText, noBlockText, noCallText};
 ghost use Rattle.sentences.specs.Refusal.{countFullText, notDirtyText, versionSpentText, neededText, notOpenText};
 ghost use Rattle.sentences.specs.Refusal.{missingText, refusalText};
-use crate::named::block_of;
-use crate::named::client_of;
-use crate::named::file_of;
-use crate::named::mode_of;
 use crate::pending::put_missing;
 use crate::pending::put_open_waits;
+use crate::phrase::mode_by_kind;
 use crate::phrase::put_block;
 use crate::phrase::put_client;
 use crate::phrase::put_file;
 use crate::phrase::put_for;
 use crate::phrase::put_open;
 use crate::phrase::put_text;
-use decision::MAX_CLIENTS;
-use decision::Sizes;
 use protocol::Entry;
 use protocol::Step;
+use protocol::asked;
 use records::Mode;
+use sizes::MAX_CLIENTS;
+use sizes::Sizes;
 use writer::put_argument;
 
 // The sentence of a refusal, by its number.
@@ -45,12 +43,13 @@ pub fn put_refusal(
         (refusalText sizes reported entry since step number) (now (out .exit)) r ⌝ }
     ensures { λ r. ⌜ r ≤ at + 305 ⌝ }
 {
-    let client = client_of(step);
-    let file = file_of(step);
+    let named = asked(step);
+    let client = named.client;
+    let file = named.file;
     match number {
         2 => put_no_client(out, at, client, sizes.clients),
         3 => put_no_file(out, at, file, sizes.files),
-        4 => put_no_block(out, at, block_of(step), sizes.blocks),
+        4 => put_no_block(out, at, named.block, sizes.blocks),
         5 => put_recovers(out, at, sizes.clients, reported),
         6 => put_text(out, at, b"no recovery is under way"),
         7 => put_has_reported(out, at, client),
@@ -58,8 +57,8 @@ pub fn put_refusal(
         9 => put_open_waits(out, at, sizes.clients, entry, file, since),
         10 => put_no_call(out, at, client, file),
         11 => put_not_open(out, at, step, client, file),
-        12 => put_count_full(out, at, mode_of(step), client, file),
-        13 => put_not_dirty(out, at, client, file, block_of(step)),
+        12 => put_count_full(out, at, mode_by_kind(named.kind), client, file),
+        13 => put_not_dirty(out, at, client, file, named.block),
         14 => put_version_spent(out, at, file),
         _ => at,
     }

@@ -1,24 +1,91 @@
-// What a sentence looks at besides the step and its reply.
-use decision::MAX_CLIENTS;
-use decision::Sizes;
-use ledger::Told;
+// What a sentence looks at, read from lent arrays: the file's row as it was before the step, and the flags.
+ghost use mathlib.Core.Path.{_≡_};
+ghost use Prim.Native.Nat.{_<_};
+ghost use lib.ListN.{length};
+ghost use Rattle.sizes.specs.Sizes.{maxFiles};
+ghost use Rattle.protocol.specs.Client.{sideOf};
+ghost use Rattle.words.specs.Rows.{rowWords, tableWords, entryHeld, sidesHeld};
+ghost use Rattle.service.specs.Lent.{lentFlags, reportedHeld};
+ghost use Rattle.sentences.specs.Scene.{rowOf};
+use protocol::ClientFile;
 use protocol::Entry;
-use protocol::Sides;
+use service::FLAGS;
+use sizes::MAX_CLIENTS;
+use words::ROW;
+use words::WORDS;
+use words::calls_of;
+use words::last_of;
+use words::mode_of;
+use words::record_of;
+use words::side_of;
+use words::version_of;
+use words::waiter_of;
 
-// Of the file that the step names; of file 0 where it names none.
-pub struct Scene {
-    // The sizes in force, and who has reported, before the step.
-    pub sizes: Sizes,
-    pub reported: [bool; MAX_CLIENTS],
-    // The server's entry of the file, before the step and after it.
-    pub entry: Entry,
-    pub after: Entry,
-    // The clients' sides of the file, before the step.
-    pub sides: Sides,
-    // The line since which an open of the file waits.
-    pub since: u64,
-    // What is told of a read.
-    pub told: Told,
-    // Whether the client of a read or a write may cache.
-    pub caching: bool,
+// The row of a file.
+pub fn row_at(table: &[u64; WORDS], f: usize) -> [u64; ROW]
+    requires { ⌜ f < maxFiles ⌝ }
+    requires { ⌜ length (now table) ≡ tableWords ⌝ }
+    ensures { λ r. ⌜ r ≡ rowOf (now (table .entry)) f ⌝ }
+{
+    let mut row = [0; ROW];
+    let mut k = 0;
+    while k < ROW {
+        row[k] = table[f * ROW + k];
+        k += 1;
+    }
+    row
+}
+
+// The server's entry of the file.
+pub fn entry_in(row: &[u64; ROW]) -> Entry
+    requires { ⌜ length (now row) ≡ rowWords ⌝ }
+    ensures { λ r. ⌜ r ≡ entryHeld (now (row .entry)) 0 ⌝ }
+{
+    let head = row[1];
+    Entry {
+        records: [
+            record_of(row[2]),
+            record_of(row[3]),
+            record_of(row[4]),
+            record_of(row[5]),
+            record_of(row[6]),
+            record_of(row[7]),
+            record_of(row[8]),
+            record_of(row[9]),
+        ],
+        version: version_of(head),
+        last: last_of(head),
+        waiter: waiter_of(head),
+        mode: mode_of(head),
+        calls: calls_of(row[18]),
+    }
+}
+
+// A client's side of the file.
+pub fn side_in(row: &[u64; ROW], client: usize) -> ClientFile
+    requires { ⌜ length (now row) ≡ rowWords ⌝ }
+    ensures { λ r. ⌜ r ≡ sideOf (sidesHeld (now (row .entry)) 0) client ⌝ }
+{
+    if client < MAX_CLIENTS {
+        side_of(row[10 + client])
+    } else {
+        ClientFile::none()
+    }
+}
+
+// Who has reported.
+pub fn reported_in(flags: &[bool; FLAGS]) -> [bool; MAX_CLIENTS]
+    requires { ⌜ length (now flags) ≡ lentFlags ⌝ }
+    ensures { λ r. ⌜ r ≡ reportedHeld (now (flags .entry)) ⌝ }
+{
+    [
+        flags[0],
+        flags[1],
+        flags[2],
+        flags[3],
+        flags[4],
+        flags[5],
+        flags[6],
+        flags[7],
+    ]
 }

@@ -2,7 +2,7 @@
 ghost use Prim.Native.Nat.{_+_, _≤_};
 ghost use mathlib.Core.Bool.{cond};
 ghost use lib.ListN.{length};
-ghost use Rattle.decision.specs.Sizes.{maxClients};
+ghost use Rattle.sizes.specs.Sizes.{maxClients};
 ghost use Rattle.decision.specs.Callback.{callIf, orderedCalls};
 ghost use Rattle.decision.specs.Callback.{invalidates as drops};
 ghost use Rattle.stepfile.specs.Text.{bytes};
@@ -13,12 +13,12 @@ use crate::pending::put_opener;
 use crate::phrase::put_client;
 use crate::phrase::put_text;
 use decision::FileState;
-use decision::MAX_CLIENTS;
 use decision::invalidates;
 use decision::state_of;
 use decision::writes_back;
 use protocol::Entry;
 use records::Mode;
+use sizes::MAX_CLIENTS;
 
 pub fn put_state(out: &mut [u8], at: usize, state: FileState) -> usize
     requires { ⌜ at + 12 ≤ length (now out) ⌝ }

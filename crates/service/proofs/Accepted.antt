@@ -5,7 +5,7 @@ use mathlib.Core.Path.{_≡_, refl, ap, _∙_, subst}
 use mathlib.Core.Bool.{Bool, true, false, cond}
 use mathlib.Core.List.{List, [], _∷_}
 use lib.Dec.{eqb}
-use Rattle.decision.specs.declared.sizes.Sizes.{Sizes}
+use Rattle.sizes.specs.declared.sizes.Sizes.{Sizes}
 use Rattle.decision.specs.Lists.{firstOf}
 use Rattle.protocol.specs.declared.reply.Reply.the-variants.{Refused, Done}
 use Rattle.protocol.specs.declared.step.Step.{Step}
@@ -14,7 +14,8 @@ use Rattle.protocol.specs.Entry.{callTo, callsFor, callsOut}
 use Rattle.protocol.specs.Refusal.{Test, openTests, closeTests, readTests, writeTests, flushTests, answerTests}
 use Rattle.protocol.specs.Reply.{isRefused}
 use Rattle.access.specs.BlockStep.{afterRead, afterWrite, blockStep}
-use Rattle.file.specs.FileStep.{FileAfter, noCalls, afterOpen, afterClose, afterFlush, answered, afterAnswer, fileStep}
+use Rattle.protocol.specs.Reply.{noCalls}
+use Rattle.file.specs.FileStep.{FileAfter, afterOpen, afterClose, afterFlush, answered, afterAnswer, fileStep}
 use Rattle.table.specs.TableStep.{reportTests, endTests, crashed, reported, ended, tableStep}
 use Rattle.service.specs.declared.service.Service.{Service}
 use Rattle.service.specs.declared.outcome.Outcome.{Outcome}

@@ -9,19 +9,19 @@ use native.Mathlib.Nat.{mod-eq-of-lt}
 use native.Mathlib.Omega.{arith}
 use lib.Dec.{eqb, leb}
 use borrow.Author.Tests.{leb-true, leb-false, le-leb}
-use Rattle.decision.specs.declared.sizes.Sizes.{Sizes}
-use Rattle.decision.specs.Sizes.{maxClients, maxFiles, Permitted}
-use Rattle.decision.proofs.InForce.{in-force-permitted}
+use Rattle.sizes.specs.declared.sizes.Sizes.{Sizes}
+use Rattle.sizes.specs.Sizes.{maxClients, maxFiles, Permitted}
+use Rattle.sizes.proofs.InForce.{in-force-permitted}
 use Rattle.protocol.specs.declared.client.ClientFile.{ClientFile}
 use Rattle.protocol.specs.declared.reply.Reply.the-variants.{Refused}
-use Rattle.protocol.specs.declared.step.Class.{Class}
-use Rattle.protocol.specs.declared.step.Class.the-variants.{OnFile, OnBlock, OnTable}
+use Rattle.protocol.specs.Step.{Class}
+use Rattle.protocol.specs.Step.{OnFile, OnBlock, OnTable}
 use Rattle.protocol.specs.declared.step.Step.{Step}
 use Rattle.protocol.specs.declared.step.Step.the-variants.{Open, Close, Read, Write, Flush, Answer, Crash, Report, End}
 use Rattle.protocol.specs.Step.{classOf}
 use Rattle.blocks.specs.Stores.{Stores}
 use Rattle.access.specs.BlockStep.{blockStep}
-use Rattle.file.specs.declared.file.SharedFile.{SharedFile}
+use Rattle.protocol.specs.declared.shared.SharedFile.{SharedFile}
 use Rattle.file.specs.FileStep.{leaving, fileStep}
 use Rattle.table.specs.TableStep.{tableStep}
 use Rattle.service.specs.declared.service.Service.{Service}

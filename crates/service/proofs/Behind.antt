@@ -9,7 +9,7 @@ use Rattle.decision.specs.declared.state.FileState.the-variants.{Closed, Closed
 use Rattle.protocol.specs.declared.reply.Reply.{Reply}
 use Rattle.protocol.specs.declared.reply.Reply.the-variants.{Granted, Value, Refused, AnsweredGrant}
 use Rattle.protocol.specs.declared.step.Step.{Step}
-use Rattle.decision.specs.Sizes.{nobody}
+use Rattle.sizes.specs.Sizes.{nobody}
 use Rattle.decision.specs.Lists.{count, stored}
 use Rattle.decision.specs.State.{stateOf}
 use Rattle.decision.specs.Permission.{permissionAtGrant}

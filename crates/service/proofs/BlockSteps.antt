@@ -5,9 +5,9 @@ use mathlib.Core.Path.{_≡_, refl, ap, _∙_}
 use mathlib.Core.Bool.{Bool, true, false, cond, not, _&&_}
 use lib.Dec.{eqb}
 use lib.ListN.{length, set}
-use Rattle.decision.specs.declared.sizes.Sizes.{Sizes}
-use Rattle.decision.specs.Sizes.{Permitted, place, cell}
-use Rattle.decision.proofs.InForce.{client-fits, file-fits, block-fits}
+use Rattle.sizes.specs.declared.sizes.Sizes.{Sizes}
+use Rattle.sizes.specs.Sizes.{Permitted, place, cell}
+use Rattle.sizes.proofs.InForce.{client-fits, file-fits, block-fits}
 use Rattle.protocol.proofs.View.{View, at, readView, writtenView, sentView}
 use Rattle.blocks.specs.Stores.{readStores, writtenStores, flushedStores}
 use Rattle.service.specs.declared.service.Service.{Service}

@@ -10,13 +10,14 @@ use lib.Dec.{eqb}
 use Rattle.records.specs.declared.record.Mode.{Mode}
 use Rattle.decision.specs.Callback.{callbackDue, orderedCalls, InOrder}
 use Rattle.decision.proofs.CallOrder.{in-order, due-in-order}
-use Rattle.decision.proofs.InForce.{in-force-permitted}
+use Rattle.sizes.proofs.InForce.{in-force-permitted}
 use Rattle.protocol.specs.declared.reply.Grant.{Grant}
 use Rattle.protocol.specs.declared.reply.Reply.the-variants.{Granted, Waiting}
 use Rattle.protocol.specs.declared.step.Step.{Step}
 use Rattle.protocol.specs.declared.step.Step.the-variants.{Open}
 use Rattle.protocol.specs.Entry.{recordAt, callsDue, callsFor, grantOf}
-use Rattle.file.specs.FileStep.{FileAfter, noCalls}
+use Rattle.protocol.specs.Reply.{noCalls}
+use Rattle.file.specs.FileStep.{FileAfter}
 use Rattle.service.specs.declared.service.Service.{Service}
 use Rattle.service.specs.declared.outcome.Outcome.{Outcome}
 use Rattle.service.specs.Contents.{sizesOf, entryAt}

@@ -9,8 +9,8 @@ use lib.Arith.{digits-lt, digits-div, digits-mod}
 use lib.Dec.{eqb}
 use lib.ListN.{length, getD}
 use borrow.Author.Tests.{eqb-true, eqb-false, eq-eqb, ne-eqb}
-use Rattle.decision.specs.Sizes.{maxClients, maxFiles, maxBlocks, maxPlaces, maxCells, place, cell, firstPlace}
-use Rattle.decision.specs.Sizes.{firstCell}
+use Rattle.sizes.specs.Sizes.{maxClients, maxFiles, maxBlocks, maxPlaces, maxCells, place, cell, firstPlace}
+use Rattle.sizes.specs.Sizes.{firstCell}
 use Rattle.decision.proofs.Storing.{length-stored}
 use Rattle.protocol.specs.Client.{kept, sent}
 use Rattle.service.proofs.Tests.{split, eqb-same, and-true, and-swap}

@@ -3,8 +3,8 @@
 -- Assumes nothing.
 use Prim.Native.Nat.{ℕ, _≤_}
 use native.Mathlib.Omega.{arith}
-use Rattle.decision.specs.Sizes.{nobody, inForce}
-use Rattle.decision.proofs.InForce.{in-force-permitted}
+use Rattle.sizes.specs.Sizes.{nobody, inForce}
+use Rattle.sizes.proofs.InForce.{in-force-permitted}
 use Rattle.protocol.proofs.Invariant.{Running, Recovering}
 use Rattle.protocol.proofs.Kept.{promises}
 use Rattle.service.specs.Demand3.{Demand3}

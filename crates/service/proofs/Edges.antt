@@ -6,7 +6,7 @@ use Rattle.records.specs.declared.record.Mode.the-variants.{Read, Write}
 use Rattle.protocol.specs.declared.reply.Reply.the-variants.{Granted, Refused}
 use Rattle.protocol.specs.declared.step.Step.{Step}
 use Rattle.decision.specs.declared.state.FileState.the-variants.{MultReaders, WriteShared}
-use Rattle.decision.specs.Sizes.{nobody}
+use Rattle.sizes.specs.Sizes.{nobody}
 use Rattle.decision.specs.Lists.{count, stored}
 use Rattle.records.specs.Version.{versionOf}
 use Rattle.records.specs.Record.{notOpen}

@@ -5,10 +5,10 @@ use mathlib.Core.Path.{_≡_, refl, sym, ap, _∙_, subst}
 use mathlib.Core.Bool.{Bool, true, false, cond, not}
 use lib.Dec.{eqb}
 use Rattle.records.specs.declared.record.Mode.{Mode}
-use Rattle.decision.specs.declared.sizes.Sizes.{Sizes}
-use Rattle.decision.specs.Sizes.{Permitted}
+use Rattle.sizes.specs.declared.sizes.Sizes.{Sizes}
+use Rattle.sizes.specs.Sizes.{Permitted}
 use Rattle.decision.specs.Callback.{writesBack, invalidates}
-use Rattle.decision.proofs.InForce.{file-fits}
+use Rattle.sizes.proofs.InForce.{file-fits}
 use Rattle.protocol.specs.declared.client.ClientFile.{ClientFile}
 use Rattle.protocol.specs.declared.entry.Entry.{Entry}
 use Rattle.protocol.specs.declared.reply.Grant.{Grant}
@@ -20,7 +20,7 @@ use Rattle.protocol.proofs.Seen.{call-seen, grant-seen, waiting-seen, granted-s
 use Rattle.protocol.proofs.View.{View, waitingView, grantedView, closedView, settledView, answeredView}
 use Rattle.protocol.proofs.View.{callAnsweredView, waiterGrantedView}
 use Rattle.blocks.specs.Stores.{sentBlocks}
-use Rattle.file.specs.declared.file.SharedFile.{SharedFile}
+use Rattle.protocol.specs.declared.shared.SharedFile.{SharedFile}
 use Rattle.file.specs.FileStep.{FileAfter, granted, closedFile, flushedFile, answered, waiterGranted}
 use Rattle.service.specs.declared.service.Service.{Service}
 use Rattle.service.specs.Contents.{entryAt, sidesAt, clientAt, fileAt, storesOf, withFile}

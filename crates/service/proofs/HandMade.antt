@@ -10,7 +10,7 @@ use Rattle.records.specs.declared.record.Mode.the-variants.{Read, Write}
 use Rattle.protocol.specs.declared.reply.Grant.{Grant}
 use Rattle.protocol.specs.declared.reply.Reply.the-variants.{Granted, Refused, Answered, AnsweredGrant, Done}
 use Rattle.decision.specs.declared.state.FileState.the-variants.{Closed, OneReader, MultReaders}
-use Rattle.decision.specs.Sizes.{maxClients, nobody}
+use Rattle.sizes.specs.Sizes.{maxClients, nobody}
 use Rattle.decision.specs.Lists.{count, stored}
 use Rattle.records.specs.Version.{versionOf}
 use Rattle.records.specs.Record.{notOpen}

@@ -1,6 +1,6 @@
 -- The proofs about the service, in reading order: the examples of document 01, the readings of open points, the
 -- hand-made states and the sizes as settings, by evaluation; then Demand 3, which `Consistent` proves from the promises of
--- the protocol of one file.
+-- the protocol of one file; and the service in lent arrays, with the step on it.
 pub mod Run
 pub mod Making
 pub mod Edges
@@ -30,3 +30,9 @@ pub mod Demand3
 pub mod Reached
 pub mod Parts
 pub mod Arms
+pub mod Copying
+pub mod NineFlags
+pub mod Held
+pub mod Serving
+pub mod AskedKinds
+pub mod Speaking

@@ -11,7 +11,7 @@ use Rattle.protocol.specs.declared.client.ClientFile.{ClientFile}
 use Rattle.protocol.specs.declared.entry.Entry.{Entry}
 use Rattle.protocol.specs.declared.reply.Reply.{Reply}
 use Rattle.protocol.specs.declared.step.Step.{Step}
-use Rattle.decision.specs.Sizes.{maxClients, nobody, cell}
+use Rattle.sizes.specs.Sizes.{maxClients, nobody, cell}
 use Rattle.records.specs.Version.{versionOf}
 use Rattle.records.specs.Record.{notOpen}
 use Rattle.protocol.specs.Client.{withSide as withSideOf}

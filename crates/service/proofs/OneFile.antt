@@ -8,14 +8,14 @@ use lib.Dec.{eqb}
 use lib.ListN.{length, set, length-set}
 use lib.Seq.{getD-set-same, getD-set-other, set-getD, set-set}
 use borrow.Author.Tests.{eqb-true, eqb-false}
-use Rattle.decision.specs.declared.sizes.Sizes.{Sizes}
-use Rattle.decision.specs.Sizes.{maxFiles}
+use Rattle.sizes.specs.declared.sizes.Sizes.{Sizes}
+use Rattle.sizes.specs.Sizes.{maxFiles}
 use Rattle.protocol.specs.declared.client.ClientFile.{ClientFile}
 use Rattle.protocol.specs.declared.client.Sides.{Sides}
 use Rattle.protocol.specs.declared.entry.Entry.{Entry}
 use Rattle.protocol.specs.Client.{noClient, sideOf, withSide}
 use Rattle.blocks.specs.Stores.{Stores}
-use Rattle.file.specs.declared.file.SharedFile.{SharedFile}
+use Rattle.protocol.specs.declared.shared.SharedFile.{SharedFile}
 use Rattle.table.specs.TableStep.{noEntry, noSides, sidesIn}
 use Rattle.service.specs.declared.service.Service.{Service}
 use Rattle.service.specs.Contents.{tableIn, fileAt, withStores, withFile}

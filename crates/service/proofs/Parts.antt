@@ -2,7 +2,7 @@
 use Prim.Native.Nat.{ℕ}
 use mathlib.Core.Bool.{Bool}
 use mathlib.Core.List.{List}
-use Rattle.decision.specs.declared.sizes.Sizes.{Sizes}
+use Rattle.sizes.specs.declared.sizes.Sizes.{Sizes}
 use Rattle.protocol.specs.declared.client.Sides.{Sides}
 use Rattle.protocol.specs.declared.entry.Entry.{Entry}
 use Rattle.service.specs.declared.service.Service.{Service}

@@ -6,9 +6,9 @@ use mathlib.Core.Bool.{false}
 use native.Mathlib.Omega.{arith}
 use lib.Dec.{eqb}
 use Rattle.records.specs.Version.{numberOf}
-use Rattle.decision.specs.declared.sizes.Sizes.{Sizes}
-use Rattle.decision.specs.Sizes.{nobody, inForce}
-use Rattle.decision.proofs.InForce.{in-force-permitted}
+use Rattle.sizes.specs.declared.sizes.Sizes.{Sizes}
+use Rattle.sizes.specs.Sizes.{nobody, inForce}
+use Rattle.sizes.proofs.InForce.{in-force-permitted}
 use Rattle.protocol.specs.declared.step.Step.{Step}
 use Rattle.protocol.proofs.Invariant.{Running, Recovering}
 use Rattle.protocol.proofs.Promises.{Promises}

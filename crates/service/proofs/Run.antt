@@ -9,7 +9,7 @@ use Rattle.protocol.specs.declared.reply.Reply.{Reply}
 use Rattle.decision.specs.declared.state.FileState.{FileState}
 use Rattle.protocol.specs.declared.step.Step.{Step}
 use Rattle.protocol.specs.declared.step.Step.the-variants.{Open, Close, Read, Write, Flush, Answer, Crash, Report, End}
-use Rattle.decision.specs.Sizes.{defaultSizes}
+use Rattle.sizes.specs.Sizes.{defaultSizes}
 use Rattle.records.specs.Version.{versionOf}
 use Rattle.decision.specs.State.{stateOf}
 use Rattle.protocol.specs.Entry.{recordAt}

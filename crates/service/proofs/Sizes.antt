@@ -12,7 +12,7 @@ use Rattle.protocol.specs.declared.entry.Entry.{Entry}
 use Rattle.protocol.specs.declared.reply.Reply.the-variants.{Granted, Waiting, Value, Refused, AnsweredGrant, Done}
 use Rattle.protocol.specs.declared.step.Step.{Step}
 use Rattle.decision.specs.declared.state.FileState.the-variants.{Closed}
-use Rattle.decision.specs.Sizes.{maxClients, nobody}
+use Rattle.sizes.specs.Sizes.{maxClients, nobody}
 use Rattle.decision.specs.Lists.{count, stored}
 use Rattle.records.specs.Version.{versionOf}
 use Rattle.records.specs.Record.{notOpen}

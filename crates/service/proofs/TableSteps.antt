@@ -8,10 +8,10 @@ use native.Mathlib.Omega.{arith}
 use lib.Dec.{eqb, ltb}
 use lib.ListN.{length, getD, length-set}
 use borrow.Author.Tests.{ltb-true}
-use Rattle.decision.specs.declared.sizes.Sizes.{Sizes}
-use Rattle.decision.specs.Sizes.{maxClients, maxFiles, Permitted}
+use Rattle.sizes.specs.declared.sizes.Sizes.{Sizes}
+use Rattle.sizes.specs.Sizes.{maxClients, maxFiles, Permitted}
 use Rattle.decision.specs.Lists.{stored, filled}
-use Rattle.decision.proofs.InForce.{client-fits, file-fits}
+use Rattle.sizes.proofs.InForce.{client-fits, file-fits}
 use Rattle.decision.proofs.Storing.{length-stored, getD-stored}
 use Rattle.protocol.specs.declared.entry.Entry.{Entry}
 use Rattle.protocol.specs.Entry.{crashedEntry, reportedEntry}

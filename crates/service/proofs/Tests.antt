@@ -5,7 +5,7 @@ use mathlib.Core.Path.{_≡_, refl}
 use mathlib.Core.Bool.{Bool, true, false, cond, _&&_}
 use lib.Dec.{eqb}
 use borrow.Author.Tests.{eq-eqb}
-pub use Rattle.records.proofs.Choosing.{split, conflict, when, unless, cond-not}
+pub use Rattle.sizes.proofs.Choosing.{split, conflict, when, unless, cond-not}
 
 -- what holds of both values that a test chooses between
 pub either {ℓ ℓ′} :

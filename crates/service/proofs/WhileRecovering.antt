@@ -8,8 +8,8 @@ use lib.ListN.{set, length}
 use lib.Seq.{ext-getD}
 use borrow.Author.Tests.{leb-false, not-false}
 use Rattle.records.specs.Record.{isOpen}
-use Rattle.decision.specs.declared.sizes.Sizes.{Sizes}
-use Rattle.decision.specs.Sizes.{Permitted, cell}
+use Rattle.sizes.specs.declared.sizes.Sizes.{Sizes}
+use Rattle.sizes.specs.Sizes.{Permitted, cell}
 use Rattle.protocol.specs.declared.client.ClientFile.{ClientFile}
 use Rattle.protocol.specs.declared.step.Step.the-variants.{Read, Write, Crash, Report, End}
 use Rattle.protocol.specs.Client.{readNeedsServer, writeNeedsServer}

@@ -4,7 +4,7 @@ use mathlib.Core.List.{[], _∷_}
 use Rattle.protocol.specs.declared.reply.Reply.the-variants.{Granted, Waiting, Value, Refused, AnsweredGrant, Done}
 use Rattle.decision.specs.declared.state.FileState.the-variants.{OneReader}
 use Rattle.decision.specs.Lists.{count, stored}
-use Rattle.decision.specs.Sizes.{nobody}
+use Rattle.sizes.specs.Sizes.{nobody}
 use Rattle.records.specs.Version.{versionOf}
 use Rattle.decision.specs.State.{stateOf}
 use Rattle.decision.specs.Permission.{permissionAtGrant}

@@ -2,14 +2,14 @@
 use Prim.Native.Nat.{ℕ}
 use mathlib.Core.Bool.{Bool}
 use lib.ListN.{set}
-use Rattle.decision.specs.declared.sizes.Sizes.{Sizes}
-use Rattle.decision.specs.Sizes.{inForce}
+use Rattle.sizes.specs.declared.sizes.Sizes.{Sizes}
+use Rattle.sizes.specs.Sizes.{inForce}
 use Rattle.protocol.specs.declared.client.ClientFile.{ClientFile}
 use Rattle.protocol.specs.declared.client.Sides.{Sides}
 use Rattle.protocol.specs.declared.entry.Entry.{Entry}
 use Rattle.protocol.specs.Client.{sideOf}
 use Rattle.blocks.specs.Stores.{Stores, blockIn, copyIn, heldIn, dirtyIn}
-use Rattle.file.specs.declared.file.SharedFile.{SharedFile}
+use Rattle.protocol.specs.declared.shared.SharedFile.{SharedFile}
 use Rattle.table.specs.declared.table.Table.{Table}
 use Rattle.table.specs.TableStep.{entryIn, sidesIn, isReported}
 use Rattle.service.specs.declared.service.Service.{Service}

@@ -9,7 +9,7 @@ use lib.ListN.{take}
 use Rattle.protocol.specs.declared.reply.Reply.the-variants.{Value}
 use Rattle.protocol.specs.declared.step.Step.{Step}
 use Rattle.protocol.specs.declared.step.Step.the-variants.{Open, Close, Read, Write, Flush, Answer, Crash, Report, End}
-use Rattle.decision.specs.declared.sizes.Sizes.{Sizes}
+use Rattle.sizes.specs.declared.sizes.Sizes.{Sizes}
 use Rattle.protocol.specs.Reply.{isRefused}
 use Rattle.protocol.specs.Entry.{waits}
 use Rattle.protocol.specs.Table.{Row, rowOf, seen}

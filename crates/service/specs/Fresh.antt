@@ -2,8 +2,8 @@
 -- permission, mark, last writer, wait, call or report; not recovering".
 use mathlib.Core.Bool.{false}
 use lib.ListN.{replicate}
-use Rattle.decision.specs.declared.sizes.Sizes.{Sizes}
-use Rattle.decision.specs.Sizes.{maxClients, maxFiles, maxPlaces, maxCells}
+use Rattle.sizes.specs.declared.sizes.Sizes.{Sizes}
+use Rattle.sizes.specs.Sizes.{maxClients, maxFiles, maxPlaces, maxCells}
 use Rattle.protocol.specs.Entry.{freshEntry}
 use Rattle.protocol.specs.Client.{noClient}
 use Rattle.service.specs.declared.service.Service.{Service}

@@ -1,6 +1,8 @@
 -- The service, in reading order.
 pub mod Contents
 pub mod Step
+pub mod Lent
+pub mod Served
 pub mod Fresh
 pub mod Demand3
 pub mod NothingBehind

@@ -1,12 +1,13 @@
 -- The outcome of a step, from any service: what the step on a file, on a block or on the table leaves, put in its
 -- place.
 use Prim.Native.Nat.{ℕ}
-use Rattle.protocol.specs.declared.step.Class.{Class}
-use Rattle.protocol.specs.declared.step.Class.the-variants.{OnFile, OnBlock, OnTable}
+use Rattle.protocol.specs.Step.{Class}
+use Rattle.protocol.specs.Step.{OnFile, OnBlock, OnTable}
 use Rattle.protocol.specs.declared.step.Step.{Step}
 use Rattle.protocol.specs.Step.{classOf}
 use Rattle.access.specs.BlockStep.{BlockAfter, blockStep}
-use Rattle.file.specs.FileStep.{FileAfter, noCalls, fileStep}
+use Rattle.protocol.specs.Reply.{noCalls}
+use Rattle.file.specs.FileStep.{FileAfter, fileStep}
 use Rattle.table.specs.declared.table.TableOutcome.{TableOutcome}
 use Rattle.table.specs.TableStep.{tableStep}
 use Rattle.service.specs.declared.service.Service.{Service}

@@ -1,9 +1,20 @@
 // The two sides together: the server with its state table and blocks, the clients with their copies, and the steps
-// that the service takes.
+// that the service takes. A service can be held in lent arrays.
+mod crashing;
+mod flags;
+mod holding;
 mod outcome;
 mod service;
 mod step;
+mod taking;
 
+pub use flags::FLAGS;
+pub use holding::held_service;
+pub use holding::held_table;
+pub use holding::hold;
+pub use holding::hold_fresh;
 pub use outcome::Outcome;
 pub use service::Server;
 pub use service::Service;
+pub use taking::step_in_force;
+pub use taking::take_step;

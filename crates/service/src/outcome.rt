@@ -1,7 +1,7 @@
 // What a step hands back.
 use crate::service::Service;
-use decision::MAX_CLIENTS;
 use protocol::Reply;
+use sizes::MAX_CLIENTS;
 
 pub struct Outcome {
     pub service: Service,

@@ -3,14 +3,14 @@ ghost use mathlib.Core.Path.{_≡_};
 ghost use Rattle.service.specs.Demand3.{Consistent};
 ghost use Rattle.service.specs.Fresh.{fresh};
 ghost use Rattle.service.specs.NothingBehind.{LeavesNothing};
-use decision::MAX_CELLS;
-use decision::MAX_CLIENTS;
-use decision::MAX_FILES;
-use decision::MAX_PLACES;
-use decision::Sizes;
 use protocol::ClientFile;
 use protocol::Entry;
 use protocol::Sides;
+use sizes::MAX_CELLS;
+use sizes::MAX_CLIENTS;
+use sizes::MAX_FILES;
+use sizes::MAX_PLACES;
+use sizes::Sizes;
 use table::Table;
 
 // The server: what a crash takes, and what survives it.

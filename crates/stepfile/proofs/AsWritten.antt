@@ -11,7 +11,7 @@ use Rattle.stepfile.specs.declared.parsed.Parsed.the-variants.{Is}
 use Rattle.stepfile.specs.Text.{decimal, argumentText, valuesText}
 use Rattle.stepfile.specs.Grammar.{Reading, found, nothing, onward, isDigit, digitsOn, numeral, argument, Shape, whole, taking, noWord, two, three, four, words, same, shapeIn, shapeOf, shaped, step, alone, parseLine}
 use Rattle.stepfile.specs.StepText.{wordOf, numbersOf, stepText, EachFits}
-use Rattle.records.proofs.Choosing.{when, unless, and-left, and-right, split}
+use Rattle.sizes.proofs.Choosing.{when, unless, and-left, and-right, split}
 use Rattle.stepfile.proofs.ReadsBack.{filled}
 use Rattle.stepfile.proofs.Decimals.{decimal-small, decimal-large}
 

@@ -9,7 +9,7 @@ use lib.Dec.{ltb, lit<}
 use lib.ListN.{length, length-append}
 use borrow.Author.Tests.{lt-ltb, le-ltb, ltb-true, ltb-false}
 use Rattle.stepfile.specs.Text.{digitsOf, decimal}
-use Rattle.records.proofs.Choosing.{when, unless, split}
+use Rattle.sizes.proofs.Choosing.{when, unless, split}
 
 digits-small : (k n : ℕ) → n < 10 → digitsOf k n ≡ (48 + n) ∷ []
 unfolding digitsOf

@@ -17,7 +17,7 @@ use Rattle.stepfile.specs.Text.{decimal, valuesText}
 use Rattle.stepfile.specs.Grammar.{Reading, found, nothing, onward, step, parseLine}
 use Rattle.stepfile.specs.StepText.{wordOf, numbersOf, stepText}
 use Rattle.stepfile.specs.Input.{beforeWhole, wholeLines, firstLine, lineRead, readAt, noStepAt}
-use Rattle.records.proofs.Choosing.{when, unless, split}
+use Rattle.sizes.proofs.Choosing.{when, unless, split}
 use Rattle.stepfile.proofs.Digits.{at-offset}
 use Rattle.stepfile.proofs.Decimals.{decimal-small, decimal-large}
 use Rattle.stepfile.proofs.ReadsBack.{step-back, reads-back}

@@ -4,7 +4,7 @@ use mathlib.Core.Path.{_≡_, refl}
 use mathlib.Core.List.{List}
 use Rattle.records.specs.Record.{notOpen}
 use Rattle.protocol.specs.declared.entry.Entry.{Entry}
-use Rattle.decision.specs.Sizes.{nobody}
+use Rattle.sizes.specs.Sizes.{nobody}
 use Rattle.decision.specs.Lists.{count}
 use Rattle.decision.specs.State.{stateOf}
 use Rattle.service.specs.Fresh.{fresh}

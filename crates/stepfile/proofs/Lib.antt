@@ -12,4 +12,5 @@ pub mod Longest
 pub mod Splitting
 pub mod Transcripts
 pub mod LongLines
+pub mod NoSteps
 pub mod FirstLines

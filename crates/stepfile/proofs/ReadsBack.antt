@@ -13,7 +13,7 @@ use Rattle.stepfile.specs.declared.parsed.Parsed.the-variants.{Is}
 use Rattle.stepfile.specs.Text.{decimal, argumentText, valuesText}
 use Rattle.stepfile.specs.Grammar.{Reading, found, nothing, onward, isDigit, digitsOn, numeral, argument, Shape, whole, taking, noWord, shapeOf, shaped, step, alone, parseLine}
 use Rattle.stepfile.specs.StepText.{numbersOf, stepText, EachFits}
-use Rattle.records.proofs.Choosing.{when, unless, split}
+use Rattle.sizes.proofs.Choosing.{when, unless, split}
 use Rattle.stepfile.proofs.Digits.{digit, other, more}
 use Rattle.stepfile.proofs.Decimals.{decimal-small, decimal-large}
 

@@ -6,7 +6,7 @@ use mathlib.Core.List.{List, [], _∷_, _++_, append-assoc}
 use lib.Dec.{eqb}
 use lib.ListN.{length, length-append}
 use Rattle.stepfile.specs.Transcript.{before, lines, BreaksLine}
-use Rattle.records.proofs.Choosing.{split}
+use Rattle.sizes.proofs.Choosing.{split}
 
 -- no byte is LF
 abbrev pub NoLF : List ℕ → Type 0

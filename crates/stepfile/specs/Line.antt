@@ -7,7 +7,7 @@ use mathlib.Core.Bool.{cond}
 use mathlib.Core.List.{List, [], _∷_, _++_}
 use lib.Dec.{eqb}
 use Rattle.protocol.specs.declared.reply.Reply.{Reply}
-use Rattle.decision.specs.Sizes.{maxClients}
+use Rattle.sizes.specs.Sizes.{maxClients}
 use Rattle.decision.specs.Callback.{orderedCalls}
 use Rattle.protocol.specs.Reply.{letterOf, valuesOf}
 use Rattle.stepfile.specs.Text.{bytes, decimal, argumentText, valuesText}

@@ -7,8 +7,8 @@ use lib.Dec.{eqb}
 use Rattle.protocol.specs.declared.reply.Reply.the-variants.{Refused, Done}
 use Rattle.service.specs.declared.service.Service.{Service}
 use Rattle.service.specs.declared.outcome.Outcome.{Outcome}
-use Rattle.decision.specs.Sizes.{defaultSizes}
-use Rattle.file.specs.FileStep.{noCalls}
+use Rattle.sizes.specs.Sizes.{defaultSizes}
+use Rattle.protocol.specs.Reply.{noCalls}
 use Rattle.service.specs.Contents.{sizesOf, tableIn}
 use Rattle.service.specs.Step.{stepOf}
 use Rattle.service.specs.Fresh.{fresh}

@@ -4,8 +4,8 @@ use mathlib.Core.Bool.{Bool, cond, _&&_}
 use mathlib.Core.List.{List, [], _∷_}
 use lib.Dec.{eqb}
 use lib.ListN.{getD, drop}
-use Rattle.decision.specs.declared.sizes.Sizes.{Sizes}
-use Rattle.decision.specs.Sizes.{arePermitted}
+use Rattle.sizes.specs.declared.sizes.Sizes.{Sizes}
+use Rattle.sizes.specs.Sizes.{arePermitted}
 use Rattle.stepfile.specs.declared.setting.Setting.{Setting}
 use Rattle.stepfile.specs.declared.setting.Setting.the-variants.{Are, OutOfRange, Missing}
 use Rattle.stepfile.specs.Grammar.{Reading, found, nothing, onward, argument}

@@ -6,7 +6,7 @@ use mathlib.Core.List.{List, [], _++_}
 use lib.Dec.{eqb, ltb}
 use lib.ListN.{getD}
 use Rattle.protocol.specs.declared.entry.Entry.{Entry}
-use Rattle.decision.specs.declared.sizes.Sizes.{Sizes}
+use Rattle.sizes.specs.declared.sizes.Sizes.{Sizes}
 use Rattle.decision.specs.Lists.{count}
 use Rattle.records.specs.Version.{numberOf, asRead, isFirstVersion}
 use Rattle.decision.specs.State.{codeOf, stateOf}

@@ -1,5 +1,5 @@
 // What the first line gives as settings.
-use decision::Sizes;
+use sizes::Sizes;
 
 pub enum Setting {
     Are(Sizes),

@@ -1,3 +1,4 @@
--- The steps on the whole table, and how the program takes them.
+-- The steps on the whole table, how the program takes them, and what they leave in the lent rows.
 pub mod TableStep
 pub mod Recovery
+pub mod Swept

@@ -4,15 +4,15 @@ use Prim.Native.Nat.{ℕ, _<_}
 use mathlib.Core.Bool.{true, false}
 use mathlib.Core.List.{List}
 use lib.ListN.{set}
-use Rattle.decision.specs.declared.sizes.Sizes.{Sizes}
-use Rattle.decision.specs.Sizes.{maxClients}
+use Rattle.sizes.specs.declared.sizes.Sizes.{Sizes}
+use Rattle.sizes.specs.Sizes.{maxClients}
 use Rattle.decision.specs.Lists.{stored, filled}
 use Rattle.protocol.specs.declared.client.Sides.{Sides}
 use Rattle.protocol.specs.declared.entry.Entry.{Entry}
 use Rattle.protocol.specs.declared.reply.Reply.{Reply}
 use Rattle.protocol.specs.declared.reply.Reply.the-variants.{Refused, Done}
 use Rattle.protocol.specs.declared.step.Step.{Step}
-use Rattle.protocol.specs.declared.step.Step.the-variants.{Open, Close, Read, Write, Flush, Answer, Crash, Report, End}
+use Rattle.protocol.specs.Step.{TableAct, crashes, reports, ends, nothing, tableAct}
 use Rattle.protocol.specs.Entry.{crashedEntry, reportedEntry}
 use Rattle.protocol.specs.Client.{sideOf}
 use Rattle.protocol.specs.Refusal.{tested}
@@ -47,29 +47,27 @@ filesAfter z (Reports i) entries clients = reportedFiles z entries clients i
 abbrev pub kept : Recovery → Reply → RecoveryOutcome
 kept v reply = record { recovery = v; reply = reply; sweep = Stay }
 
-unfoldable pub recoveryStep : Sizes → Recovery → Step → RecoveryOutcome
-recoveryStep z v Crash =
+abbrev pub recovered : Sizes → Recovery → TableAct → RecoveryOutcome
+recovered z v crashes =
     record {
       recovery = record { recovering = true; reported = filled (z .clients) false (v .reported) };
       reply = Done;
       sweep = Crashes;
     }
-recoveryStep z v (Report i) =
+recovered z v (reports i) =
     tested (reportTests z (v .recovering) (v .reported) i) (λ k. kept v (Refused k))
     (record {
       recovery = record { recovering = v .recovering; reported = set (v .reported) i true };
       reply = Done;
       sweep = Reports i;
     })
-recoveryStep z v End =
+recovered z v ends =
     tested (endTests z (v .recovering) (v .reported)) (λ k. kept v (Refused k))
     (kept (record { recovering = false; reported = filled (z .clients) false (v .reported) }) Done)
-recoveryStep z v (Open m i f) = kept v Done
-recoveryStep z v (Close m i f) = kept v Done
-recoveryStep z v (Read i f b) = kept v Done
-recoveryStep z v (Write i f b w) = kept v Done
-recoveryStep z v (Flush i f b) = kept v Done
-recoveryStep z v (Answer i f) = kept v Done
+recovered z v nothing = kept v Done
+
+unfoldable pub recoveryStep : Sizes → Recovery → Step → RecoveryOutcome
+recoveryStep z v x = recovered z v (tableAct x)
 
 -- the table, once the entries have done so
 abbrev pub tableAfter : Sizes → List Entry → List Sides → RecoveryOutcome → TableOutcome

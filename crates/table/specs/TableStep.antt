@@ -7,13 +7,13 @@ use lib.Dec.{ltb}
 use lib.ListN.{getD, set}
 use Rattle.records.specs.declared.record.Mode.the-variants.{Read as ForRead}
 use Rattle.records.specs.Version.{noVersion}
-use Rattle.decision.specs.declared.sizes.Sizes.{Sizes}
+use Rattle.sizes.specs.declared.sizes.Sizes.{Sizes}
 use Rattle.decision.specs.Lists.{count, stored, filled}
 use Rattle.protocol.specs.declared.client.Sides.{Sides}
 use Rattle.protocol.specs.declared.entry.Entry.{Entry}
 use Rattle.protocol.specs.declared.reply.Reply.the-variants.{Refused, Done}
 use Rattle.protocol.specs.declared.step.Step.{Step}
-use Rattle.protocol.specs.declared.step.Step.the-variants.{Open, Close, Read, Write, Flush, Answer, Crash, Report, End}
+use Rattle.protocol.specs.Step.{TableAct, crashes, reports, ends, nothing, tableAct}
 use Rattle.protocol.specs.Entry.{crashedEntry, reportedEntry}
 use Rattle.protocol.specs.Client.{sideOf}
 use Rattle.protocol.specs.Refusal.{Test, tested, noSuchClient}
@@ -90,15 +90,13 @@ abbrev pub unlessTested : List Test → Table → Table → TableOutcome
 unlessTested ts t after =
     tested ts (λ k. record { table = t; reply = Refused k }) (record { table = after; reply = Done })
 
+abbrev pub acted : Sizes → Table → List Sides → TableAct → TableOutcome
+acted z t clients crashes = record { table = crashed z t; reply = Done }
+acted z t clients (reports i) =
+    unlessTested (reportTests z (t .recovering) (t .reported) i) t (reported z t clients i)
+acted z t clients ends = unlessTested (endTests z (t .recovering) (t .reported)) t (ended z t)
+acted z t clients nothing = record { table = t; reply = Done }
+
 -- a step that is not on the whole table leaves it as it came
 unfoldable pub tableStep : Sizes → Table → List Sides → Step → TableOutcome
-tableStep z t clients Crash = record { table = crashed z t; reply = Done }
-tableStep z t clients (Report i) =
-    unlessTested (reportTests z (t .recovering) (t .reported) i) t (reported z t clients i)
-tableStep z t clients End = unlessTested (endTests z (t .recovering) (t .reported)) t (ended z t)
-tableStep z t clients (Open m i f) = record { table = t; reply = Done }
-tableStep z t clients (Close m i f) = record { table = t; reply = Done }
-tableStep z t clients (Read i f b) = record { table = t; reply = Done }
-tableStep z t clients (Write i f b v) = record { table = t; reply = Done }
-tableStep z t clients (Flush i f b) = record { table = t; reply = Done }
-tableStep z t clients (Answer i f) = record { table = t; reply = Done }
+tableStep z t clients x = acted z t clients (tableAct x)

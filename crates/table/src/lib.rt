@@ -1,11 +1,13 @@
 // The server's state table, and the steps on all of it: a crash, a report, and the end of a recovery.
 mod recovery;
 mod refusal;
+mod sweeping;
 mod table;
 
 pub use recovery::Recovery;
 pub use recovery::RecoveryOutcome;
 pub use recovery::Sweep;
-pub use recovery::crashed_files;
+pub use sweeping::crash_rows;
+pub use sweeping::sweep_rows;
 pub use table::Table;
 pub use table::TableOutcome;

@@ -1,18 +1,16 @@
-// A step on the whole table: one call changes the state of the recovery and tells what the entries in force do then.
+// The steps on the whole table. Each changes the state of the recovery, and tells what the entries in force do then.
 ghost use mathlib.Core.Path.{_≡_};
 ghost use mathlib.Core.Bool.{false};
 ghost use Prim.Native.Nat.{_≤_};
-ghost use Rattle.decision.specs.Sizes.{maxClients, Permitted};
+ghost use Rattle.sizes.specs.Sizes.{maxClients, Permitted};
 ghost use Rattle.decision.specs.Lists.{filled};
-ghost use Rattle.table.specs.Recovery.{Fits, kept as keptOutcome, recoveryStep, crashedFiles};
+ghost use Rattle.table.specs.Recovery.{Fits, kept as keptOutcome, recoveryStep};
 use crate::refusal::end_refusal;
 use crate::refusal::report_refusal;
-use decision::MAX_CLIENTS;
-use decision::MAX_FILES;
-use decision::Sizes;
-use protocol::Entry;
 use protocol::Reply;
 use protocol::Step;
+use sizes::MAX_CLIENTS;
+use sizes::Sizes;
 
 // What a step on the whole table does to the entries in force.
 pub enum Sweep {
@@ -37,20 +35,6 @@ pub struct RecoveryOutcome {
 }
 
 impl Recovery {
-    // A step on the whole table. Any other leaves all as it came.
-    pub fn step(self, sizes: Sizes, step: Step) -> RecoveryOutcome
-        requires { ⌜ Permitted sizes ⌝ }
-        ensures { λ r. ⌜ r ≡ recoveryStep sizes self step ⌝ }
-        ensures { λ r. ⌜ Fits (r .sweep) ⌝ }
-    {
-        match step {
-            Step::Crash => self.crash(sizes),
-            Step::Report { client } => self.report(sizes, client),
-            Step::End => self.end(sizes),
-            _ => self.kept(Reply::Done),
-        }
-    }
-
     fn kept(self, reply: Reply) -> RecoveryOutcome
         ensures { λ r. ⌜ r ≡ keptOutcome self reply ⌝ }
     {
@@ -62,9 +46,10 @@ impl Recovery {
     }
 
     // The reports are lost, and recovery begins.
-    fn crash(self, sizes: Sizes) -> RecoveryOutcome
+    pub fn crash(self, sizes: Sizes) -> RecoveryOutcome
         requires { ⌜ Permitted sizes ⌝ }
         ensures { λ r. ⌜ r ≡ recoveryStep sizes self Step.Crash ⌝ }
+        ensures { λ r. ⌜ Fits (r .sweep) ⌝ }
     {
         let reports = self.reported;
         let recovery = Recovery {
@@ -78,7 +63,7 @@ impl Recovery {
         }
     }
 
-    fn report(mut self, sizes: Sizes, client: usize) -> RecoveryOutcome
+    pub fn report(mut self, sizes: Sizes, client: usize) -> RecoveryOutcome
         requires { ⌜ Permitted sizes ⌝ }
         ensures { λ r. ⌜ r ≡ recoveryStep sizes self (Step.Report client) ⌝ }
         ensures { λ r. ⌜ Fits (r .sweep) ⌝ }
@@ -97,9 +82,10 @@ impl Recovery {
     }
 
     // Recovery ends, and the reports are forgotten.
-    fn end(self, sizes: Sizes) -> RecoveryOutcome
+    pub fn end(self, sizes: Sizes) -> RecoveryOutcome
         requires { ⌜ Permitted sizes ⌝ }
         ensures { λ r. ⌜ r ≡ recoveryStep sizes self Step.End ⌝ }
+        ensures { λ r. ⌜ Fits (r .sweep) ⌝ }
     {
         let reports = self.reported;
         let refusal = end_refusal(sizes, self.recovering, reports);
@@ -125,20 +111,4 @@ fn without_reports(mut reports: [bool; MAX_CLIENTS], clients: usize) -> [bool; M
         i += 1;
     }
     reports
-}
-
-// The entries after a crash. A crash is rare, so that they may be copied together; a report is not, and its caller goes
-// through the files itself.
-pub fn crashed_files(mut files: [Entry; MAX_FILES], sizes: Sizes) -> [Entry; MAX_FILES]
-    requires { ⌜ Permitted sizes ⌝ }
-    ensures { λ r. ⌜ r ≡ crashedFiles sizes files ⌝ }
-{
-    let mut f = 0;
-    while f < sizes.files {
-        let entry = files[f];
-        let after = entry.crashed(sizes.clients);
-        files[f] = after;
-        f += 1;
-    }
-    files
 }

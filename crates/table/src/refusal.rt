@@ -2,17 +2,17 @@
 // is none.
 ghost use mathlib.Core.Path.{_≡_};
 ghost use Prim.Native.Nat.{_≤_};
-ghost use Rattle.decision.specs.Sizes.{maxClients, Permitted};
+ghost use Rattle.sizes.specs.Sizes.{maxClients, Permitted};
 ghost use Rattle.decision.specs.Lists.{firstOf};
 ghost use Rattle.table.specs.TableStep.{isReported, missing, reportTests, endTests};
-use decision::MAX_CLIENTS;
-use decision::Sizes;
 use decision::one_if;
 use protocol::NO_CLIENT;
 use protocol::NOT_IN_RECOVERY;
 use protocol::REPORT_MISSING;
 use protocol::REPORTED;
 use protocol::refused_if;
+use sizes::MAX_CLIENTS;
+use sizes::Sizes;
 
 pub fn report_refusal(
     sizes: Sizes,

@@ -1,8 +1,8 @@
 // The state table: an entry for each file, and the state of a recovery.
-use decision::MAX_CLIENTS;
-use decision::MAX_FILES;
 use protocol::Entry;
 use protocol::Reply;
+use sizes::MAX_CLIENTS;
+use sizes::MAX_FILES;
 
 pub struct Table {
     pub files: [Entry; MAX_FILES],

@@ -9,7 +9,7 @@ use lib.ListN.{length, take, drop, set, length-append, length-take, length-drop,
 use lib.Seq.{length-take-le, set-split, set-append-left, take-set-lt, take-suc-set, take-at, drop-at, drop-drop}
 use borrow.Author.Tests.{le-leb, lt-leb}
 use Rattle.writer.specs.Buffer.{written, Wrote, WroteIfRoom}
-use Rattle.records.proofs.Choosing.{when, unless}
+use Rattle.sizes.proofs.Choosing.{when, unless}
 
 -- nothing is written
 pub written-none : (d : List ℕ) (at : ℕ) → written d at [] ≡ d

@@ -2,4 +2,5 @@
 pub mod Buffers
 pub mod Digits
 pub mod Replies
+pub mod SaidLines
 pub mod Summaries

@@ -10,7 +10,7 @@ use Rattle.protocol.specs.declared.entry.Entry.{Entry}
 use Rattle.records.specs.Version.{asRead, isFirstVersion}
 use Rattle.table.specs.TableStep.{noEntry}
 use Rattle.stepfile.specs.Summary.{codeIn, versionIn, isListed, fieldsText, fileText, filesText}
-use Rattle.records.proofs.Choosing.{when, unless}
+use Rattle.sizes.proofs.Choosing.{when, unless}
 
 -- k is the state code of a file, and n the number of clients
 module _ (n : ℕ) (e : Entry) (k : ℕ) (code : k ≡ codeIn n e) where

@@ -2,17 +2,17 @@
 ghost use Prim.Native.Nat.{_+_, _≤_};
 ghost use mathlib.Core.Path.{_≡_};
 ghost use lib.ListN.{length};
-ghost use Rattle.decision.specs.Sizes.{maxClients, Permitted};
+ghost use Rattle.sizes.specs.Sizes.{maxClients, Permitted};
 ghost use Rattle.stepfile.specs.Summary.{codeIn, versionIn, isListed, listedBelow};
 ghost use Rattle.stepfile.specs.Summary.{headingText, writerText, fieldsText, fileText, filesText, summaryText};
 ghost use Rattle.writer.specs.Buffer.{Wrote, WroteIfRoom, summaryRoom};
 use crate::decimal::put_argument;
 use crate::decimal::put_byte;
 use crate::decimal::put_decimal;
-use decision::Sizes;
 use decision::one_if;
 use decision::state_of;
 use protocol::Entry;
+use sizes::Sizes;
 use table::Table;
 
 // The room that the summary is given: more than any summary takes.

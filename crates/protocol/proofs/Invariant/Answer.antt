@@ -13,7 +13,7 @@ use Rattle.records.specs.declared.record.Mode.{Mode}
 use Rattle.records.specs.declared.version.Version.{Version}
 use Rattle.protocol.specs.declared.client.ClientFile.{ClientFile}
 use Rattle.protocol.specs.declared.entry.Entry.{Entry}
-use Rattle.decision.specs.Sizes.{nobody}
+use Rattle.sizes.specs.Sizes.{nobody}
 use Rattle.records.specs.Version.{noVersion, numberOf}
 use Rattle.records.specs.Record.{uncached, isWrite}
 use Rattle.decision.specs.Callback.{writesBack, invalidates}

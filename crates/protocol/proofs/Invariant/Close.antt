@@ -14,7 +14,7 @@ use Rattle.records.specs.declared.record.ClientRecord.{ClientRecord}
 use Rattle.records.specs.declared.version.Version.{Version}
 use Rattle.protocol.specs.declared.client.ClientFile.{ClientFile}
 use Rattle.protocol.specs.declared.entry.Entry.{Entry}
-use Rattle.decision.specs.Sizes.{nobody}
+use Rattle.sizes.specs.Sizes.{nobody}
 use Rattle.records.specs.Record.{isOpen, lowered, closed, endsWriting}
 use Rattle.protocol.specs.Client.{closedClient}
 use Rattle.protocol.specs.Entry.{recordAt, waits, closedEntry}

@@ -8,7 +8,7 @@ use native.Mathlib.Omega.{arith}
 use lib.Dec.{eqb, ltb}
 use borrow.Author.Tests.{eqb-true, eqb-false, eq-eqb, ne-eqb, lt-ltb}
 use Rattle.protocol.proofs.View.{at}
-pub use Rattle.records.proofs.Choosing.{split, conflict, and-left, and-right}
+pub use Rattle.sizes.proofs.Choosing.{split, conflict, and-left, and-right}
 
 pub is-false : (b : Bool) → (b ≡ true → ⊥) → b ≡ false
 is-false true f = absurd (f refl)

@@ -6,7 +6,7 @@ use mathlib.Core.Logic.{⊎-elim}
 use native.Mathlib.Omega.{arith}
 use lib.ListN.{length-replicate}
 use borrow.Author.Tests.{le-ltb}
-use Rattle.decision.specs.Sizes.{nobody}
+use Rattle.sizes.specs.Sizes.{nobody}
 use Rattle.records.specs.Version.{firstVersion}
 use Rattle.records.specs.Record.{notOpen}
 use Rattle.protocol.specs.Client.{noClient}

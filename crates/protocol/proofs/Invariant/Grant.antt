@@ -15,7 +15,7 @@ use Rattle.records.specs.declared.version.Version.{Version}
 use Rattle.protocol.specs.declared.client.ClientFile.{ClientFile}
 use Rattle.protocol.specs.declared.entry.Entry.{Entry}
 use Rattle.protocol.specs.declared.reply.Grant.{Grant}
-use Rattle.decision.specs.Sizes.{nobody}
+use Rattle.sizes.specs.Sizes.{nobody}
 use Rattle.records.specs.Version.{noVersion, numberOf}
 use Rattle.records.specs.Record.{isWrite, raised, opened}
 use Rattle.decision.specs.Callback.{writesBack, invalidates}

@@ -7,7 +7,7 @@ use mathlib.Core.Bool.{true, false, cond, _&&_}
 use borrow.Author.Tests.{le-ltb}
 use Rattle.records.specs.declared.record.Mode.{Mode}
 use Rattle.protocol.specs.declared.reply.Grant.{Grant}
-use Rattle.decision.specs.Sizes.{nobody}
+use Rattle.sizes.specs.Sizes.{nobody}
 use Rattle.records.specs.Version.{isLastVersion}
 use Rattle.records.specs.Record.{isWrite}
 use Rattle.decision.specs.Permission.{permissionAtGrant}

@@ -7,7 +7,7 @@ use native.Mathlib.Omega.{arith}
 use lib.Dec.{eqb}
 use borrow.Author.Tests.{eqb-true}
 use Rattle.protocol.specs.declared.client.ClientFile.{ClientFile}
-use Rattle.decision.specs.Sizes.{nobody}
+use Rattle.sizes.specs.Sizes.{nobody}
 use Rattle.protocol.proofs.View.{at}
 use Rattle.protocol.proofs.Invariant.{LastWriter}
 use Rattle.protocol.proofs.Invariant.Flags.{split, change, at-same, at-other}

@@ -13,7 +13,7 @@ use Rattle.records.specs.declared.record.ClientRecord.{ClientRecord}
 use Rattle.records.specs.declared.version.Version.{Version}
 use Rattle.protocol.specs.declared.client.ClientFile.{ClientFile}
 use Rattle.protocol.specs.declared.entry.Entry.{Entry}
-use Rattle.decision.specs.Sizes.{nobody}
+use Rattle.sizes.specs.Sizes.{nobody}
 use Rattle.records.specs.Record.{notOpen}
 use Rattle.protocol.specs.Entry.{recordAt, waits, crashedEntry, reportedEntry}
 use Rattle.protocol.specs.Table.{Row, rowOf}

@@ -10,7 +10,7 @@ use Rattle.records.specs.declared.record.Mode.{Mode}
 use Rattle.records.specs.declared.record.ClientRecord.{ClientRecord}
 use Rattle.records.specs.declared.version.Version.{Version}
 use Rattle.protocol.specs.declared.client.ClientFile.{ClientFile}
-use Rattle.decision.specs.Sizes.{nobody}
+use Rattle.sizes.specs.Sizes.{nobody}
 use Rattle.protocol.specs.Client.{flushedClient}
 use Rattle.protocol.proofs.View.{View, at, settledView}
 use Rattle.protocol.proofs.Invariant.{Own, Apart, Copied, LastWriter, Waiting, everybody, Running}

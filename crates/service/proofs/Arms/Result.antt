@@ -1,44 +1,40 @@
--- What the service's step and the player's loop put together from what a part hands back is the outcome that the
--- definition of a step gives. Assumes nothing.
+-- What is put together from what the part of a step leaves is the outcome that the definition of the step gives.
+-- Assumes nothing.
 use Prim.Native.Nat.{ℕ, _%_}
 use mathlib.Core.Path.{_≡_, sym, ap, ap₂, _∙_}
 use mathlib.Core.Bool.{Bool}
 use mathlib.Core.List.{List}
-use Rattle.decision.specs.declared.sizes.Sizes.{Sizes}
-use Rattle.decision.specs.Sizes.{maxClients, maxFiles}
+use Rattle.sizes.specs.declared.sizes.Sizes.{Sizes}
+use Rattle.sizes.specs.Sizes.{maxClients, maxFiles}
 use Rattle.protocol.specs.declared.entry.Entry.{Entry}
 use Rattle.protocol.specs.declared.reply.Reply.{Reply}
-use Rattle.protocol.specs.declared.step.Class.the-variants.{OnFile, OnBlock, OnTable}
+use Rattle.protocol.specs.Step.{OnFile, OnBlock, OnTable}
 use Rattle.protocol.specs.declared.step.Step.{Step}
 use Rattle.protocol.specs.Step.{classOf}
 use Rattle.blocks.specs.Stores.{Stores, lent}
 use Rattle.access.specs.BlockStep.{blockStep}
 use Rattle.access.specs.BlockStep.{Leaves as LeavesBlock}
-use Rattle.file.specs.declared.file.FileOutcome.{FileOutcome}
-use Rattle.file.specs.FileStep.{noCalls, fileStep, Leaves}
+use Rattle.protocol.specs.Reply.{noCalls}
+use Rattle.file.specs.FileStep.{fileStep}
 use Rattle.table.specs.declared.recovery.RecoveryOutcome.{RecoveryOutcome}
 use Rattle.table.specs.TableStep.{tableStep}
 use Rattle.table.specs.Recovery.{recoveryStep, filesAfter, tableAfter}
 use Rattle.table.proofs.Steps.{recoveryIn, as-taken}
 use Rattle.service.specs.declared.service.Service.{Service}
 use Rattle.service.specs.declared.outcome.Outcome.{Outcome}
-use Rattle.service.specs.Contents.{sizesOf, tableIn, reportedAt, clientAt, fileAt, storesOf, withFile, withStores}
+use Rattle.service.specs.Contents.{sizesOf, tableIn, reportedAt, clientAt, fileAt, storesOf, withStores}
 use Rattle.service.specs.Step.{fileOutcome, blockOutcome, tableOutcome, stepOf}
 use Rattle.service.proofs.Arms.{file-arm, block-arm, table-arm}
 
 module _ (s : Service) (x : Step) (z : Sizes) (inForce : z ≡ sizesOf s) where
-  -- the file and the lent arrays, stored
-  abbrev stored : ℕ → FileOutcome → Stores → Outcome
-  stored f o a = record { service = withFile s f (o .file) a; reply = o .reply; calls = o .calls }
-
   pub file-result :
-      (f : ℕ) (o : FileOutcome) (b c : List ℕ) (h d : List Bool)
+      (f : ℕ)
       → classOf x ≡ OnFile f
-      → Leaves (fileStep z (tableIn s .recovering) (fileAt s (f % maxFiles)) (storesOf s) x) o b c h d
-      → stored (f % maxFiles) o (lent b c h d) ≡ stepOf s x
-  file-result f o b c h d class l =
-      ap₂ (stored (f % maxFiles)) (l .outcomeAfter) (l .storesAfter)
-      ∙ ap
+      → fileOutcome s (f % maxFiles)
+      (fileStep z (tableIn s .recovering) (fileAt s (f % maxFiles)) (storesOf s) x)
+      ≡ stepOf s x
+  file-result f class =
+      ap
       (λ (z : Sizes).
       fileOutcome s (f % maxFiles) (fileStep z (tableIn s .recovering) (fileAt s (f % maxFiles)) (storesOf s) x))
       inForce

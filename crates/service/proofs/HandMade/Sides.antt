@@ -6,7 +6,7 @@ use mathlib.Core.Bool.{true, false}
 use Rattle.records.specs.declared.record.ClientRecord.{ClientRecord}
 use Rattle.records.specs.declared.record.Mode.the-variants.{Read}
 use Rattle.protocol.specs.declared.reply.Reply.the-variants.{Granted, Value, Refused, AnsweredGrant}
-use Rattle.decision.specs.Sizes.{nobody}
+use Rattle.sizes.specs.Sizes.{nobody}
 use Rattle.decision.specs.Lists.{count, stored}
 use Rattle.records.specs.Record.{notOpen}
 use Rattle.decision.specs.State.{stateOf}

@@ -6,7 +6,7 @@ use mathlib.Core.Bool.{false}
 use native.Mathlib.Omega.{arith}
 use lib.ListN.{getD}
 use denote.Ref.{now}
-use Rattle.decision.specs.Sizes.{maxClients, maxFiles, maxBlocks, place, cell}
+use Rattle.sizes.specs.Sizes.{maxClients, maxFiles, maxBlocks, place, cell}
 use Rattle.decision.specs.Lists.{firstOf}
 use Rattle.protocol.specs.declared.reply.Reply.the-variants.{Refused}
 use Rattle.protocol.specs.Refusal.{readTests}

@@ -3,7 +3,7 @@ use Prim.Native.Nat.{_<_}
 use mathlib.Core.Path.{_≡_, refl, _∙_}
 use native.Mathlib.Omega.{arith}
 use denote.Ref.{now}
-use Rattle.decision.specs.Sizes.{maxClients, maxFiles, maxBlocks, place, cell}
+use Rattle.sizes.specs.Sizes.{maxClients, maxFiles, maxBlocks, place, cell}
 use Rattle.protocol.specs.declared.reply.Reply.the-variants.{Refused}
 use Rattle.protocol.specs.Refusal.{writeTests}
 use Rattle.blocks.specs.Stores.{lent}

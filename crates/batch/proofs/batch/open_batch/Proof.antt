@@ -1,81 +1,81 @@
--- `open_batch` meets its contract: each opening stores what its step hands back, which `Arms.Result` of the service
--- shows to be the step's outcome, and `Trying` carries from opening to opening. Assumes nothing.
+-- `open_batch` meets its contract: each opening leaves in the arrays, and says, the outcome of its step, and `Trying`
+-- carries it from opening to opening. Assumes nothing.
 use Prim.Native.Nat.{ℕ, _-_, _≤_, _<_}
-use mathlib.Core.Path.{_≡_, refl}
+use mathlib.Core.Path.{_≡_, refl, sym, ap, _∙_, subst}
 use mathlib.Core.Bool.{Bool}
 use mathlib.Core.List.{List}
 use native.Mathlib.Omega.{arith}
 use lib.ListN.{length, getD, drop}
 use denote.Ref.{now}
-use Rattle.decision.specs.declared.sizes.Sizes.{Sizes}
-use Rattle.decision.specs.Sizes.{Permitted}
-use Rattle.protocol.specs.declared.client.Sides.{Sides}
-use Rattle.protocol.specs.declared.entry.Entry.{Entry}
 use Rattle.protocol.specs.declared.step.Step.the-variants.{Open}
+use Rattle.blocks.specs.Stores.{lent}
+use Rattle.words.specs.Rows.{tableWords}
+use Rattle.words.specs.Said.{saidRoom}
 use Rattle.service.specs.declared.service.Service.{Service}
-use Rattle.service.specs.Contents.{sizesOf}
-use Rattle.service.proofs.Parts.{serviceOf}
-use Rattle.service.proofs.Arms.Result.{file-result}
-use Rattle.batch.specs.Batch.{listedFrom, listed, opensOf, maxOpenings}
+use Rattle.service.specs.Lent.{lentFlags, serviceHeld}
+use Rattle.service.proofs.Speaking.{stepped-outcome}
+use Rattle.batch.specs.declared.batch.BatchOutcome.{BatchOutcome}
+use Rattle.batch.specs.Batch.{listedFrom, listed, opensOf, maxOpenings, batchOf}
 use Rattle.batch.proofs.Promised.{promised}
 use Rattle.batch.proofs.Trying.{Reached, none-yet, one-opening, tried-all, refused-list}
 use borrow.Author.Needs.{needs}
 use Rattle.batch.proofs.batch.open_batch.Statement.{statement}
 use Rattle.batch.proofs.batch.open_batch.Tie as tie
 
--- the service s with other entries, sides, blocks and copies
-abbrev withParts : Service → List Entry → List ℕ → List Sides → List ℕ → List Bool → List Bool → Service
-withParts s entries blocks clients copies held dirty =
-    serviceOf (s .sizes) entries (s .server .table .recovering) (s .server .table .reported) blocks clients copies held dirty
-
--- the openings before this one are tried
+-- the openings before this one are tried; the arrays are as long as they were
 abbrev Inv-loop : tie.InvT-loop
-Inv-loop client files writes replies₀ count given sizes entries₀ recovering reported blocks₀ clients₀ copies₀ held₀ dirty₀ k₀ replies entries blocks clients copies held dirty k =
+Inv-loop client files writes replies₀ count sizes table₀ flags₀ blocks₀ copies₀ held₀ dirty₀ words₀ k₀ replies table flags blocks copies held dirty words k =
     Reached
-    (serviceOf given entries₀ recovering reported blocks₀ clients₀ copies₀ held₀ dirty₀)
+    (serviceHeld sizes table₀ flags₀ (lent blocks₀ copies₀ held₀ dirty₀))
     (opensOf client (listed files writes))
-    (serviceOf given entries recovering reported blocks clients copies held dirty)
+    (serviceHeld sizes table flags (lent blocks copies held dirty))
     k
     (opensOf client (listedFrom k (drop k files) writes))
     replies
+    × (length table ≡ tableWords)
+    × (length flags ≡ lentFlags)
+    × (length words ≡ saidRoom)
 
 abbrev μ-loop : tie.MeasureT-loop
-μ-loop client files writes replies₀ count given sizes entries₀ recovering reported blocks₀ clients₀ copies₀ held₀ dirty₀ k₀ replies entries blocks clients copies held dirty k =
+μ-loop client files writes replies₀ count sizes table₀ flags₀ blocks₀ copies₀ held₀ dirty₀ words₀ k₀ replies table flags blocks copies held dirty words k =
     count - k
 
 -- before an opening, or the end
 module _ (c : tie.At-loop Inv-loop μ-loop) where
-  -- what the caller gave
   abbrev service₀ : Service
-  service₀ = c .before .before .before .before .before .before .before .before .before .before .before .before .before .before .before .args .service
+  service₀ = c .before .before .before .before .before .before .before .before .before .before .before .before .args .service
 
   abbrev client₀ : ℕ
-  client₀ = c .before .before .before .before .before .before .before .before .before .before .before .before .before .before .before .args .client
+  client₀ = c .before .before .before .before .before .before .before .before .before .before .before .before .args .client
 
   abbrev files₀ : List ℕ
-  files₀ = now (c .before .before .before .before .before .before .before .before .before .before .before .before .before .before .before .args .files)
+  files₀ = now (c .before .before .before .before .before .before .before .before .before .before .before .before .args .files)
 
   abbrev writes₀ : List Bool
-  writes₀ = now (c .before .before .before .before .before .before .before .before .before .before .before .before .before .before .before .args .writes)
+  writes₀ = now (c .before .before .before .before .before .before .before .before .before .before .before .before .args .writes)
 
   -- the service as this turn of the loop finds it
   abbrev stands : Service
   stands =
       let l = c .loop in
-      withParts service₀ (l .entries) (l .blocks) (l .clients) (l .copies) (l .held) (l .dirty)
-
-  abbrev sizes : Sizes
-  sizes = c .before .before .before .before .before .before .before .before .before .before .in-force .result
-
-  in-force : sizes ≡ sizesOf stands
-  in-force = c .before .before .before .before .before .before .before .before .before .before .in-force .ensures .0
-
-  permitted : Permitted sizes
-  permitted = c .before .before .before .before .before .before .before .before .before .before .in-force .ensures .1
+      serviceHeld (service₀ .sizes) (l .table) (l .flags) (lent (l .blocks) (l .copies) (l .held) (l .dirty))
 
   few : length files₀ ≤ maxOpenings
-  few =
-      omega (arith, c .before .before .before .before .before .before .before .before .before .before .before .before .if1 .left)
+  few = omega (arith, c .before .before .before .before .before .before .before .before .before .if1 .left)
+
+  -- what is done of the list, from the service that the caller gave
+  done :
+      Reached service₀ (opensOf client₀ (listed files₀ writes₀)) stands (c .loop .k)
+      (opensOf client₀ (listedFrom (c .loop .k) (drop (c .loop .k) files₀) writes₀))
+      (c .loop .replies)
+  done =
+      subst
+      (λ (s : Service).
+      Reached s (opensOf client₀ (listed files₀ writes₀)) stands (c .loop .k)
+      (opensOf client₀ (listedFrom (c .loop .k) (drop (c .loop .k) files₀) writes₀))
+      (c .loop .replies))
+      (c .before .hold .ensures .0)
+      (c .loop .inv .0)
 
 -- before an opening
 inside : (c : tie.In-loop Inv-loop μ-loop) → c .before .loop .k < maxOpenings
@@ -87,79 +87,42 @@ returns c =
     promised (a .service) (a .client) _ _
     (refused-list (a .service) (a .client) (now (a .files)) (now (a .writes)) (c .if1 .taken))
 
-in-force-requires : tie.Need-in-force-requires Inv-loop μ-loop
-in-force-requires c κs = tt
-
 loop-holds : tie.Need-loop-holds Inv-loop μ-loop
-loop-holds c = none-yet _ _
+loop-holds c = (none-yet _ _, c .hold .ensures .1 .0, c .hold .ensures .1 .1, search needs)
 
-mul-file : tie.Need-mul-file Inv-loop μ-loop
-mul-file c = search needs
-
-shared-slice-read-file : tie.Need-shared-slice-read-file Inv-loop μ-loop
-shared-slice-read-file c = search needs
-
-mode-at-requires : tie.Need-mode-at-requires Inv-loop μ-loop
-mode-at-requires c κs = tt
-
-mul-entry : tie.Need-mul-entry Inv-loop μ-loop
-mul-entry c = search needs
-
-array-copy-out-entry : tie.Need-array-copy-out-entry Inv-loop μ-loop
-array-copy-out-entry c = search needs
-
-mul-sides : tie.Need-mul-sides Inv-loop μ-loop
-mul-sides c = search needs
-
-array-copy-out-sides : tie.Need-array-copy-out-sides Inv-loop μ-loop
-array-copy-out-sides c = search needs
-
-step-requires : tie.Need-step-requires Inv-loop μ-loop
-step-requires c κs = permitted (c .before .before .before .before .before .before .before .before .before)
-
-mul-entries : tie.Need-mul-entries Inv-loop μ-loop
-mul-entries c = search needs
-
-array-set-from-entries : tie.Need-array-set-from-entries Inv-loop μ-loop
-array-set-from-entries c = search needs
-
-mul-clients : tie.Need-mul-clients Inv-loop μ-loop
-mul-clients c = search needs
-
-array-set-from-clients : tie.Need-array-set-from-clients Inv-loop μ-loop
-array-set-from-clients c = search needs
-
-mul-replies : tie.Need-mul-replies Inv-loop μ-loop
-mul-replies c = omega (arith, inside (c .before .before .before .before .before .before .before .before .before .before .before .before .before))
-
-array-set-from-replies : tie.Need-array-set-from-replies Inv-loop μ-loop
-array-set-from-replies c = inside (c .before .before .before .before .before .before .before .before .before .before .before .before .before)
-
-add-k : tie.Need-add-k Inv-loop μ-loop
-add-k c = omega (arith, inside (c .before .before .before .before .before .before .before .before .before .before .before .before .before))
-
-loop-less : tie.Need-loop-less Inv-loop μ-loop
-loop-less c = search needs
+take-step-requires : tie.Need-take-step-requires Inv-loop μ-loop
+take-step-requires c κs =
+    let at = c .before .before .before .before .before .before .before .before .before .before .before in
+    (at .loop .inv .1, (at .loop .inv .2, at .loop .inv .3))
 
 loop-again : tie.Need-loop-again Inv-loop μ-loop
 loop-again c =
-    let turn = c .before .before .before .before .before .before .before .before .before .before .before .before .before in
+    let reply = c .before .before in
+    let take = reply .before .before in
+    let asked = take .before .before .before .before .before .before .before .before in
+    let mode = asked .before in
+    let turn = mode .before .before in
     let at = turn .before in
-    let mode = c .before .before .before .before .before .before .before .before .before .before .before .mode-at in
-    let step = c .before .before .before .before .step in
     let file = getD (files₀ at) (at .loop .k) 0 in
-    let is =
-    file-result (stands at) (Open (mode .result) (client₀ at) file) (sizes at) (in-force at) file (step .result) _ _ _ _
-    refl (step .ensures) in
-    one-opening (service₀ at) (client₀ at) (files₀ at) (writes₀ at) (stands at) (at .loop .k) (mode .result)
-    (at .loop .replies) _ (at .loop .inv) (turn .loop-test .taken) (few at) (mode .ensures) is
+    let stepped = take .take-step .ensures in
+    let is = stepped-outcome (service₀ at .sizes) (Open (mode .mode-at .result) (client₀ at) file) (asked .asked .result) _ _ _ _ _ _ _ _ _
+    (asked .asked .ensures) stepped in (
+      rw (reply .reply-of .ensures, c .calls-with .ensures)
+          (one-opening _ (client₀ at) (files₀ at) (writes₀ at) (stands at) (at .loop .k) (mode .mode-at .result)
+          (at .loop .replies) _ (at .loop .inv .0) (turn .loop-test .taken) (few at) (mode .mode-at .ensures) is),
+      stepped .long ∙ at .loop .inv .1,
+      stepped .flagsLong ∙ at .loop .inv .2,
+      stepped .wordsLong ∙ at .loop .inv .3,
+    )
 
 returns-2 : tie.Need-returns-2 Inv-loop μ-loop
 returns-2 c =
-    let at = c .before in
+    let loop = c .before .before .before .before .before .before .before in
+    let at = loop .before in
     promised (service₀ at) (client₀ at) _ _
+    (rw (c .held-service .ensures)
     (tried-all (service₀ at) (client₀ at) (files₀ at) (writes₀ at) (stands at) (at .loop .k) (at .loop .replies)
-    (at .loop .inv) (c .loop-test .left) (few at))
+    (done at) (loop .loop-test .left) (few at)))
 
 pub open-batch-spec : {M : Type 1} → statement M
 open-batch-spec =
@@ -168,23 +131,19 @@ open-batch-spec =
     Inv-loop
     μ-loop
     returns
-    in-force-requires
+    (search needs)
     loop-holds
-    mul-file
-    shared-slice-read-file
-    mode-at-requires
-    mul-entry
-    array-copy-out-entry
-    mul-sides
-    array-copy-out-sides
-    step-requires
-    mul-entries
-    array-set-from-entries
-    mul-clients
-    array-set-from-clients
-    mul-replies
-    array-set-from-replies
-    add-k
-    loop-less
+    (search needs)
+    (search needs)
+    (λ c κs. tt)
+    (λ c κs. tt)
+    take-step-requires
+    (λ c κs. let take = c .before in take .take-step .ensures .wordsLong ∙ take .before .before .before .before .before .before .before .before .before .before .before .before .loop .inv .3)
+    (λ c κs. let take = c .before .before .before in take .take-step .ensures .wordsLong ∙ take .before .before .before .before .before .before .before .before .before .before .before .before .loop .inv .3)
+    (λ c. omega (arith, inside (c .before .before .before .before .before .before .before .before .before .before .before .before .before .before .before)))
+    (λ c. inside (c .before .before .before .before .before .before .before .before .before .before .before .before .before .before .before))
+    (λ c. omega (arith, inside (c .before .before .before .before .before .before .before .before .before .before .before .before .before .before .before)))
+    (search needs)
     loop-again
+    (λ c κs. c .before .before .before .before .before .before .before .loop .inv .2)
     returns-2)

@@ -2,7 +2,7 @@
 use Prim.Native.Nat.{_+_, _-_}
 use mathlib.Core.Path.{refl, sym, _∙_}
 use mathlib.Core.Bool.{false}
-use Rattle.records.proofs.Choosing.{when, unless}
+use Rattle.sizes.proofs.Choosing.{when, unless}
 use Rattle.decision.proofs.Storing.{Stored, stored-none, stored-more, stored-all}
 use borrow.Author.Needs.{needs}
 use Rattle.blocks.proofs.blocks.clean_unless.Statement.{statement}

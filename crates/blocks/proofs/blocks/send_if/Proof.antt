@@ -8,7 +8,7 @@ use native.Mathlib.Omega.{arith}
 use lib.ListN.{getD}
 use denote.Ref.{now}
 use borrow.Author.Tests.{not-true, not-false}
-use Rattle.records.proofs.Choosing.{when, unless}
+use Rattle.sizes.proofs.Choosing.{when, unless}
 use Rattle.decision.proofs.Storing.{Stored, getD-stored-other, stored-none, stored-more, stored-all}
 use borrow.Author.Needs.{needs}
 use Rattle.blocks.proofs.blocks.send_if.Statement.{statement}

@@ -11,7 +11,7 @@ use Rattle.records.specs.declared.record.ClientRecord.{ClientRecord}
 use Rattle.records.specs.Record.{keepsPermission}
 use Rattle.decision.specs.State.{recordIn, stateOf}
 use Rattle.decision.specs.Callback.{callbackKind, callbackDue, callbacksDue}
-use Rattle.records.proofs.Choosing.{cond-not, split}
+use Rattle.sizes.proofs.Choosing.{cond-not, split}
 use Rattle.decision.proofs.Beyond.{getD-alike}
 use Rattle.decision.proofs.Storing.{Stored, stored-same, stored-none, stored-more, stored-all}
 use Rattle.decision.proofs.callback.callbacks_due.Statement.{statement}

@@ -8,7 +8,7 @@ use Rattle.records.specs.declared.record.ClientRecord.{ClientRecord}
 use Rattle.decision.specs.declared.state.FileState.the-variants.{OneReader, MultReaders}
 use Rattle.records.specs.Record.{isWrite}
 use Rattle.decision.specs.Callback.{callbackKind}
-use Rattle.records.proofs.Choosing.{conflict}
+use Rattle.sizes.proofs.Choosing.{conflict}
 use Rattle.decision.proofs.callback.calls_nobody.Statement.{statement}
 use Rattle.decision.proofs.callback.calls_nobody.Tie as tie
 

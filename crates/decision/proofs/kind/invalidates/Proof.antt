@@ -5,7 +5,7 @@ use mathlib.Core.Bool.{false}
 use native.Mathlib.Omega.{arith}
 use lib.Dec.{eqb}
 use borrow.Author.Tests.{eqb-false, eq-eqb, ne-eqb}
-use Rattle.records.proofs.Choosing.{split}
+use Rattle.sizes.proofs.Choosing.{split}
 use Rattle.decision.specs.Callback.{invalidates}
 use Rattle.decision.proofs.kind.invalidates.Statement.{statement}
 use Rattle.decision.proofs.kind.invalidates.Tie as tie

@@ -2,7 +2,7 @@
 use Prim.Native.Nat.{_-_}
 use native.Mathlib.Omega.{arith}
 use lib.ListN.{getD}
-use Rattle.decision.specs.Sizes.{place}
+use Rattle.sizes.specs.Sizes.{place}
 use Rattle.image.specs.Image.{blockEntry}
 use Rattle.image.proofs.Listing.{Listing, listing-none, listing-room, listing-next, listing-all}
 use borrow.Author.Needs.{needs}

@@ -1,7 +1,7 @@
 -- `count_open` is safe and ends. Assumes nothing.
 use Prim.Native.Nat.{_-_, _≤_}
 use borrow.Author.Needs.{needs}
-use Rattle.decision.specs.Sizes.{maxClients}
+use Rattle.sizes.specs.Sizes.{maxClients}
 use Rattle.image_judge.proofs.judging.count_open.Statement.{statement}
 use Rattle.image_judge.proofs.judging.count_open.Tie as tie
 

@@ -2,7 +2,7 @@
 use mathlib.Core.Path.{sym, _∙_}
 use native.Mathlib.Omega.{arith}
 use Rattle.writer.proofs.Buffers.{wrote-none, wrote-then, wrote-as}
-use Rattle.records.proofs.Choosing.{when, unless}
+use Rattle.sizes.proofs.Choosing.{when, unless}
 use borrow.Author.Needs.{needs}
 use Rattle.picture.proofs.files.put_wait_if.Statement.{statement}
 use Rattle.picture.proofs.files.put_wait_if.Tie as tie

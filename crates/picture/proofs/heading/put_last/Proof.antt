@@ -2,7 +2,7 @@
 use mathlib.Core.Path.{sym}
 use borrow.Author.Tests.{lt-ltb, le-ltb}
 use Rattle.writer.proofs.Buffers.{wrote-then, wrote-as}
-use Rattle.records.proofs.Choosing.{when, unless}
+use Rattle.sizes.proofs.Choosing.{when, unless}
 use borrow.Author.Needs.{needs}
 use Rattle.picture.proofs.heading.put_last.Statement.{statement}
 use Rattle.picture.proofs.heading.put_last.Tie as tie

@@ -2,7 +2,7 @@
 use mathlib.Core.Path.{sym, _∙_}
 use borrow.Author.Tests.{eq-eqb, ne-eqb}
 use Rattle.writer.proofs.Buffers.{wrote-as}
-use Rattle.records.proofs.Choosing.{when, unless}
+use Rattle.sizes.proofs.Choosing.{when, unless}
 use borrow.Author.Needs.{needs}
 use Rattle.picture.proofs.refused.put_refusals.Statement.{statement}
 use Rattle.picture.proofs.refused.put_refusals.Tie as tie

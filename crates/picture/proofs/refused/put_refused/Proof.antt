@@ -3,7 +3,7 @@ use mathlib.Core.Path.{sym}
 use native.Mathlib.Omega.{arith}
 use borrow.Author.Tests.{eq-eqb, ne-eqb}
 use Rattle.writer.proofs.Buffers.{wrote-none, wrote-then, wrote-as}
-use Rattle.records.proofs.Choosing.{when, unless}
+use Rattle.sizes.proofs.Choosing.{when, unless}
 use borrow.Author.Needs.{needs}
 use Rattle.picture.proofs.refused.put_refused.Statement.{statement}
 use Rattle.picture.proofs.refused.put_refused.Tie as tie

@@ -3,7 +3,7 @@ use mathlib.Core.Path.{sym, ap}
 use mathlib.Core.List.{_++_}
 use Rattle.stepfile.specs.Text.{bytes}
 use Rattle.writer.proofs.Buffers.{wrote-then, wrote-as}
-use Rattle.records.proofs.Choosing.{when, unless}
+use Rattle.sizes.proofs.Choosing.{when, unless}
 use borrow.Author.Needs.{needs}
 use Rattle.picture.proofs.server.put_server.Statement.{statement}
 use Rattle.picture.proofs.server.put_server.Tie as tie

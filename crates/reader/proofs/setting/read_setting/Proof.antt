@@ -1,6 +1,6 @@
 -- `read_setting` meets its contract: the word, then the numbers. Assumes nothing.
 use mathlib.Core.Path.{sym, _∙_}
-use Rattle.records.proofs.Choosing.{when, unless}
+use Rattle.sizes.proofs.Choosing.{when, unless}
 use Rattle.stepfile.specs.Setting.{settingOf}
 use borrow.Author.Needs.{needs}
 use Rattle.reader.proofs.setting.read_setting.Statement.{statement}

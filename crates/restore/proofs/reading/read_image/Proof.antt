@@ -1,8 +1,6 @@
 -- `read_image` meets its contract, by whether the bytes are an image. Assumes nothing.
-use mathlib.Core.Path.{ap}
 use denote.Ref.{now}
 use borrow.Author.Tests.{not-true, not-false}
-use Rattle.service.specs.declared.outcome.Outcome.{Outcome}
 use Rattle.restore.proofs.Readings.{refused, accepted}
 use borrow.Author.Needs.{needs}
 use Rattle.restore.proofs.reading.read_image.Statement.{statement}
@@ -20,14 +18,13 @@ returns c =
 returns-2 : tie.Need-returns-2
 returns-2 c =
     let crashed = c .before .before in
-    let step = crashed .before in
-    let branch = step .before in
+    let branch = crashed .before in
     let test = branch .before in
     let blocks = test .before .before in
     let files = blocks .before in
     let force = files .before in
     let a = force .before .before .before .args in
-    accepted (a .service) (now (a .bytes)) (force .in-force .result) (force .in-force .ensures .0) (files .decode-files .result) (files .decode-files .ensures) (blocks .decode-blocks .result) (blocks .decode-blocks .ensures) (test .is-image .result) (test .is-image .ensures) (not-false (test .is-image .result) (branch .if1 .left)) _ _ (ap (λ (o : Outcome). o .service) (step .step .ensures)) (c .with-contents .ensures)
+    accepted (a .service) (now (a .bytes)) (force .in-force .result) (force .in-force .ensures .0) (files .decode-files .result) (files .decode-files .ensures) (blocks .decode-blocks .result) (blocks .decode-blocks .ensures) (test .is-image .result) (test .is-image .ensures) (not-false (test .is-image .result) (branch .if1 .left)) _ _ (crashed .crashed .ensures) (c .with-contents .ensures)
 
 pub read-image-spec : {M : Type 1} → statement M
 read-image-spec =

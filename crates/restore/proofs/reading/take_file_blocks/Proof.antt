@@ -2,7 +2,7 @@
 use Prim.Native.Nat.{_-_}
 use mathlib.Core.Path.{refl}
 use lib.ListN.{getD}
-use Rattle.decision.specs.Sizes.{place}
+use Rattle.sizes.specs.Sizes.{place}
 use Rattle.decision.proofs.Storing.{Stored, stored-none, stored-more, stored-all}
 use borrow.Author.Needs.{needs}
 use Rattle.restore.proofs.reading.take_file_blocks.Statement.{statement}

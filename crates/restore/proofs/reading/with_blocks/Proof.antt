@@ -5,7 +5,7 @@ use native.Mathlib.Numerals.{add-one}
 use native.Mathlib.Omega.{arith}
 use lib.ListN.{getD}
 use denote.Ref.{now}
-use Rattle.decision.specs.Sizes.{place}
+use Rattle.sizes.specs.Sizes.{place}
 use Rattle.decision.specs.Lists.{stored}
 use Rattle.restore.specs.Reading.{withBlocks}
 use borrow.Author.Needs.{needs}

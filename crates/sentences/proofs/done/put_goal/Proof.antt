@@ -1,7 +1,7 @@
 -- `put_goal` meets its contract: the copy, or the server. Assumes nothing.
 use borrow.Author.Needs.{needs}
 use Rattle.writer.proofs.Buffers.{wrote-as}
-use Rattle.records.proofs.Choosing.{when, unless}
+use Rattle.sizes.proofs.Choosing.{when, unless}
 use mathlib.Core.Path.{sym}
 use Rattle.sentences.proofs.done.put_goal.Statement.{statement}
 use Rattle.sentences.proofs.done.put_goal.Tie as tie

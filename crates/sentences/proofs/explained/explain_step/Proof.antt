@@ -1,37 +1,22 @@
 -- `explain_step` meets its contract, by the room. Assumes nothing.
+use Prim.Native.Nat.{ℕ}
+use mathlib.Core.Path.{_≡_, ap, _∙_}
+use mathlib.Core.List.{List}
 use native.Mathlib.Omega.{arith}
+use denote.Ref.{now}
 use borrow.Author.Needs.{needs}
+use Rattle.protocol.specs.declared.reply.Reply.{Reply}
+use Rattle.sentences.specs.Scene.{sceneHeld}
 use Rattle.sentences.specs.Explained.{saidOf, explainedText}
-use Rattle.writer.proofs.Buffers.{wrote-then, wrote-if-room, no-room-wrote}
+use Rattle.writer.proofs.Buffers.{wrote-as, wrote-then, wrote-if-room, no-room-wrote}
 use Rattle.sentences.proofs.explained.explain_step.Statement.{statement}
 use Rattle.sentences.proofs.explained.explain_step.Tie as tie
 
 returns : tie.Need-returns
-returns c = (no-room-wrote _ _ _ _ (omega arith), search needs)
-
-sub-if2 : tie.Need-sub-if2
-sub-if2 c = search needs
+returns c = (λ reply calls says called. no-room-wrote _ _ _ _ (omega arith), search needs)
 
 returns-2 : tie.Need-returns-2
-returns-2 c = (no-room-wrote _ _ _ _ (omega arith), search needs)
-
-put-reply-requires : tie.Need-put-reply-requires
-put-reply-requires c κs = search needs
-
-slice-aggregate-put-text : tie.Need-slice-aggregate-put-text
-slice-aggregate-put-text c = search needs
-
-put-text-requires : tie.Need-put-text-requires
-put-text-requires c κs = search needs
-
-put-said-requires : tie.Need-put-said-requires
-put-said-requires c κs = search needs
-
-put-byte-requires : tie.Need-put-byte-requires
-put-byte-requires c κs = search needs
-
-same-length : tie.Need-same-length
-same-length c = search needs
+returns-2 c = (λ reply calls says called. no-room-wrote _ _ _ _ (omega arith), search needs)
 
 returns-3 : tie.Need-returns-3
 unfolding explainedText
@@ -39,13 +24,22 @@ returns-3 c =
     let feed = c .before .before in
     let said = feed .before .before .before .before in
     let space = said .before .before .before .before in
-    let reply = space .before .before .before .before .before in
-    let a = reply .before .before .before .before .before .args in
-    let sentence = saidOf (a .fresh) (a .scene) (a .step) (a .calls) (a .reply) in (
-      wrote-if-room _ _ _ _ _ _ (omega arith)
-          (wrote-then (reply .put-reply .ensures .0)
+    let begun = space .before .before .before .before .before in
+    let heard = begun .before .before in
+    let a = heard .before .before .before .before .before .args in
+    let sentence : List ℕ → Reply → List ℕ =
+    λ calls reply.
+    saidOf (a .fresh)
+    (sceneHeld (a .sizes) (a .step) (now (a .row)) (now (a .table)) (now (a .flags)) (a .since) (a .told) (a .caching))
+    (a .step) calls reply in (
+      λ reply calls says called.
+          let same : sentence (heard .calls-with .result) (heard .before .reply-of .result) ≡ sentence calls reply =
+          ap (sentence (heard .calls-with .result)) (heard .before .reply-of .ensures ∙ says .back)
+          ∙ ap (λ (k : List ℕ). sentence k reply) (heard .calls-with .ensures ∙ called) in
+          wrote-if-room _ _ _ _ _ _ (omega arith)
+          (wrote-then (begun .put-said .ensures .0 reply calls says)
           (wrote-then (space .put-text .ensures .0)
-          (wrote-then {s = sentence} (said .put-said .ensures .0) (feed .put-byte .ensures .0)))),
+          (wrote-then {s = sentence calls reply} (wrote-as same (said .put-sentence .ensures .0)) (feed .put-byte .ensures .0)))),
       search needs,
     )
 
@@ -54,12 +48,14 @@ explain-step-spec =
     tie.close
     (tie.spec
     returns
-    sub-if2
+    (search needs)
     returns-2
-    put-reply-requires
-    slice-aggregate-put-text
-    put-text-requires
-    put-said-requires
-    put-byte-requires
-    same-length
+    (search needs)
+    (search needs)
+    (search needs)
+    (search needs)
+    (search needs)
+    (search needs)
+    (search needs)
+    (search needs)
     returns-3)

@@ -1,7 +1,7 @@
 -- `put_fate` meets its contract: kept, or dropped. Assumes nothing.
 use borrow.Author.Needs.{needs}
 use Rattle.writer.proofs.Buffers.{wrote-as}
-use Rattle.records.proofs.Choosing.{when, unless}
+use Rattle.sizes.proofs.Choosing.{when, unless}
 use mathlib.Core.Path.{sym}
 use Rattle.sentences.proofs.grant.put_fate.Statement.{statement}
 use Rattle.sentences.proofs.grant.put_fate.Tie as tie

@@ -1,7 +1,7 @@
 -- `put_permission` meets its contract: it may cache, or not. Assumes nothing.
 use borrow.Author.Needs.{needs}
 use Rattle.writer.proofs.Buffers.{wrote-as}
-use Rattle.records.proofs.Choosing.{when, unless}
+use Rattle.sizes.proofs.Choosing.{when, unless}
 use mathlib.Core.Path.{sym}
 use Rattle.sentences.proofs.grant.put_permission.Statement.{statement}
 use Rattle.sentences.proofs.grant.put_permission.Tie as tie

@@ -2,7 +2,7 @@
 use borrow.Author.Needs.{needs}
 use Rattle.writer.proofs.Buffers.{wrote-as, wrote-none}
 use native.Mathlib.Omega.{arith}
-use Rattle.records.proofs.Choosing.{when, unless}
+use Rattle.sizes.proofs.Choosing.{when, unless}
 use mathlib.Core.Path.{sym}
 use Rattle.sentences.proofs.list.put_number.Statement.{statement}
 use Rattle.sentences.proofs.list.put_number.Tie as tie

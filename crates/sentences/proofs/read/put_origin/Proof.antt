@@ -2,7 +2,7 @@
 use borrow.Author.Needs.{needs}
 use Rattle.writer.proofs.Buffers.{wrote-as, wrote-then}
 use borrow.Author.Tests.{eq-eqb, ne-eqb}
-use Rattle.records.proofs.Choosing.{when, unless}
+use Rattle.sizes.proofs.Choosing.{when, unless}
 use mathlib.Core.Path.{sym}
 use Rattle.sentences.proofs.read.put_origin.Statement.{statement}
 use Rattle.sentences.proofs.read.put_origin.Tie as tie

@@ -1,7 +1,7 @@
 -- `put_source` meets its contract: the own copy, or the server. Assumes nothing.
 use borrow.Author.Needs.{needs}
 use Rattle.writer.proofs.Buffers.{wrote-as}
-use Rattle.records.proofs.Choosing.{when, unless}
+use Rattle.sizes.proofs.Choosing.{when, unless}
 use mathlib.Core.Path.{sym}
 use Rattle.sentences.proofs.read.put_source.Statement.{statement}
 use Rattle.sentences.proofs.read.put_source.Tie as tie

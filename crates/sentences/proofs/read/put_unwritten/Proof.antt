@@ -1,7 +1,7 @@
 -- `put_unwritten` meets its contract, by how the session began. Assumes nothing.
 use borrow.Author.Needs.{needs}
 use Rattle.writer.proofs.Buffers.{wrote-as}
-use Rattle.records.proofs.Choosing.{when, unless}
+use Rattle.sizes.proofs.Choosing.{when, unless}
 use mathlib.Core.Path.{sym}
 use Rattle.sentences.proofs.read.put_unwritten.Statement.{statement}
 use Rattle.sentences.proofs.read.put_unwritten.Tie as tie

@@ -1,7 +1,7 @@
 -- `put_kind` meets its contract, by whether the callback writes back. Assumes nothing.
 use borrow.Author.Needs.{needs}
 use Rattle.writer.proofs.Buffers.{wrote-as}
-use Rattle.records.proofs.Choosing.{when, unless}
+use Rattle.sizes.proofs.Choosing.{when, unless}
 use mathlib.Core.Path.{sym, _∙_}
 use Rattle.sentences.proofs.wait.put_kind.Statement.{statement}
 use Rattle.sentences.proofs.wait.put_kind.Tie as tie

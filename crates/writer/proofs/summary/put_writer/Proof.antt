@@ -3,7 +3,7 @@ use mathlib.Core.Path.{sym}
 use borrow.Author.Needs.{needs}
 use borrow.Author.Tests.{lt-ltb, le-ltb}
 use Rattle.writer.proofs.Buffers.{wrote-then, wrote-as}
-use Rattle.records.proofs.Choosing.{when, unless}
+use Rattle.sizes.proofs.Choosing.{when, unless}
 use Rattle.writer.proofs.summary.put_writer.Statement.{statement}
 use Rattle.writer.proofs.summary.put_writer.Tie as tie
 

@@ -1,7 +1,7 @@
 -- `Service::new` meets its contract: it makes the fresh service, from which Demand 3 holds and nothing is left behind.
 -- Assumes nothing.
 use mathlib.Core.Path.{_≡_, sym, subst}
-use Rattle.decision.specs.declared.sizes.Sizes.{Sizes}
+use Rattle.sizes.specs.declared.sizes.Sizes.{Sizes}
 use Rattle.service.specs.declared.service.Service.{Service}
 use Rattle.service.specs.Fresh.{fresh}
 use Rattle.service.specs.Demand3.{Consistent}

@@ -2,7 +2,7 @@
 use Prim.Native.Nat.{_<_}
 use mathlib.Core.Path.{sym, _∙_}
 use native.Mathlib.Omega.{arith}
-use Rattle.decision.specs.Sizes.{maxClients}
+use Rattle.sizes.specs.Sizes.{maxClients}
 use Rattle.protocol.specs.declared.reply.Reply.the-variants.{Refused}
 use Rattle.protocol.proofs.Tested.{client-there, when-refused, when-accepted}
 use Rattle.table.specs.TableStep.{reportTests}

@@ -1,2 +1,0 @@
--- What explaining a buffer of lines leaves.
-pub mod Lines

@@ -1,2 +1,0 @@
--- The theorem of the explainer's whole run.
-pub mod Run

@@ -1,0 +1,164 @@
+-- The scene that the code finds in lent arrays, with wrapped numbers, gives the same sentence as the definition's: a step
+-- that names no file is refused with 2 or 3, and their sentences look at no file. Assumes nothing.
+use Prim.Native.Nat.{ℕ, _%_}
+use mathlib.Core.Path.{_≡_, refl, ap, _∙_}
+use mathlib.Core.Bool.{Bool, true, false, cond}
+use mathlib.Core.List.{List}
+use native.Mathlib.Nat.{mod-eq-of-lt}
+use native.Mathlib.Omega.{arith}
+use lib.Dec.{eqb, leb}
+use borrow.Author.Tests.{leb-true, leb-false}
+use Rattle.sizes.specs.declared.sizes.Sizes.{Sizes}
+use Rattle.sizes.specs.Sizes.{maxFiles}
+use Rattle.sizes.proofs.InForce.{in-force-permitted, file-fits}
+use Rattle.protocol.specs.declared.client.Sides.{Sides}
+use Rattle.protocol.specs.declared.entry.Entry.{Entry}
+use Rattle.protocol.specs.declared.reply.Reply.{Reply}
+use Rattle.protocol.specs.declared.reply.Reply.the-variants.{Granted, Waiting, Value, Refused, Answered}
+use Rattle.protocol.specs.declared.reply.Reply.the-variants.{AnsweredGrant, Done}
+use Rattle.protocol.specs.declared.step.Step.{Step}
+use Rattle.protocol.specs.declared.step.Step.the-variants.{Open, Close, Read, Write, Flush, Answer, Crash, Report, End}
+use Rattle.protocol.specs.Reply.{isRefused}
+use Rattle.protocol.specs.Step.{fileOf}
+use Rattle.service.specs.declared.service.Service.{Service}
+use Rattle.service.specs.declared.outcome.Outcome.{Outcome}
+use Rattle.service.specs.Contents.{sizesOf, tableIn, entryAt, sidesAt}
+use Rattle.service.specs.Step.{stepOf}
+use Rattle.service.specs.Demand3.{refused}
+use Rattle.service.proofs.Tests.{split, conflict}
+use Rattle.service.proofs.Accepted.{refusalOf, rejected, refused-changes-nothing}
+use Rattle.ledger.specs.declared.ledger.Ledger.{Ledger}
+use Rattle.ledger.specs.declared.told.Told.{Told}
+use Rattle.ledger.specs.Ledger.{waitingSince, mayCache, stepTold}
+use Rattle.sentences.specs.Scene.{Scene, sceneOf}
+use Rattle.sentences.specs.Explained.{saidOf}
+
+abbrev pub sceneBy : Sizes → List Bool → Entry → Entry → Sides → ℕ → Told → Bool → Scene
+sceneBy z reported e e′ sides since told caching =
+    record {
+      sizes = z;
+      reported = reported;
+      entry = e;
+      after = e′;
+      sides = sides;
+      since = since;
+      told = told;
+      caching = caching;
+    }
+
+-- ---- a step that names no file
+
+-- the first two tests, of which the second holds
+early : (P : Type 0) (client file : Bool) (rest k : ℕ) → k ≡ cond client 2 (cond file 3 rest) → file ≡ true → (k ≡ 2 → P) → (k ≡ 3 → P) → P
+early P true file rest k e h second third = second e
+early P false true rest k e h second third = third e
+early P false false rest k e h second third = conflict h refl
+
+module _ (s : Service) (x : Step) where
+  with-number : (k : ℕ) → refusalOf s x ≡ k → eqb k 0 ≡ false → stepOf s x .reply ≡ Refused k
+  with-number k e n =
+      ap (λ (o : Outcome). o .reply) (rejected s x (ap (λ (j : ℕ). eqb j 0) e ∙ n)) ∙ ap Refused e
+
+  -- by the two numbers
+  numbered : (P : Type 0) → (stepOf s x .reply ≡ Refused 2 → P) → (stepOf s x .reply ≡ Refused 3 → P) → (refusalOf s x ≡ 2 → P) × (refusalOf s x ≡ 3 → P)
+  numbered P second third = (λ e. second (with-number 2 e refl), λ e. third (with-number 3 e refl))
+
+some-file : (s : Service) → leb (sizesOf s .files) 0 ≡ true → ⊥
+some-file s e = omega (arith, leb-true (sizesOf s .files) 0 e, in-force-permitted (s .sizes) .someFile)
+
+no-file-refused :
+    (P : Type 0) (s : Service) (x : Step)
+    → leb (sizesOf s .files) (fileOf x) ≡ true
+    → (stepOf s x .reply ≡ Refused 2 → P)
+    → (stepOf s x .reply ≡ Refused 3 → P)
+    → P
+no-file-refused P s (Open m i f) h second third =
+    let (two, three) = numbered s (Open m i f) P second third in
+    early P (leb (sizesOf s .clients) i) (leb (sizesOf s .files) f) _ _ refl h two three
+no-file-refused P s (Close m i f) h second third =
+    let (two, three) = numbered s (Close m i f) P second third in
+    early P (leb (sizesOf s .clients) i) (leb (sizesOf s .files) f) _ _ refl h two three
+no-file-refused P s (Read i f b) h second third =
+    let (two, three) = numbered s (Read i f b) P second third in
+    early P (leb (sizesOf s .clients) i) (leb (sizesOf s .files) f) _ _ refl h two three
+no-file-refused P s (Write i f b v) h second third =
+    let (two, three) = numbered s (Write i f b v) P second third in
+    early P (leb (sizesOf s .clients) i) (leb (sizesOf s .files) f) _ _ refl h two three
+no-file-refused P s (Flush i f b) h second third =
+    let (two, three) = numbered s (Flush i f b) P second third in
+    early P (leb (sizesOf s .clients) i) (leb (sizesOf s .files) f) _ _ refl h two three
+no-file-refused P s (Answer i f) h second third =
+    let (two, three) = numbered s (Answer i f) P second third in
+    early P (leb (sizesOf s .clients) i) (leb (sizesOf s .files) f) _ _ refl h two three
+no-file-refused P s Crash h second third = absurd (some-file s h)
+no-file-refused P s (Report i) h second third = absurd (some-file s h)
+no-file-refused P s End h second third = absurd (some-file s h)
+
+-- ---- the same sentence
+
+module _
+    (fresh : Bool) (x : Step) (kinds : List ℕ) (z : Sizes) (r₁ r₂ : List Bool) (e₁ e₂ a₁ a₂ : Entry) (d₁ d₂ : Sides)
+    (n₁ n₂ : ℕ) (t₁ t₂ : Told) (c₁ c₂ : Bool) where
+  abbrev Same : Reply → Type 0
+  Same r =
+      saidOf fresh (sceneBy z r₁ e₁ a₁ d₁ n₁ t₁ c₁) x kinds r ≡ saidOf fresh (sceneBy z r₂ e₂ a₂ d₂ n₂ t₂ c₂) x kinds r
+
+  -- a refusal looks at who has reported, at the entry and at the line of the wait
+  same-refused : (r : Reply) → isRefused r ≡ true → r₁ ≡ r₂ → e₁ ≡ e₂ → n₁ ≡ n₂ → Same r
+  same-refused (Refused k) h p e n = rw (p, e, n)
+  same-refused (Granted g) h p e n = conflict h refl
+  same-refused Waiting h p e n = conflict h refl
+  same-refused (Value v) h p e n = conflict h refl
+  same-refused (Answered k) h p e n = conflict h refl
+  same-refused (AnsweredGrant k i g) h p e n = conflict h refl
+  same-refused Done h p e n = conflict h refl
+
+  -- any other reply looks neither at who has reported nor at that line
+  same-accepted : (r : Reply) → isRefused r ≡ false → e₁ ≡ e₂ → a₁ ≡ a₂ → d₁ ≡ d₂ → t₁ ≡ t₂ → c₁ ≡ c₂ → Same r
+  same-accepted (Refused k) h e a d t c = conflict refl h
+  same-accepted (Granted g) h e a d t c = rw d
+  same-accepted Waiting h e a d t c = rw e
+  same-accepted (Value v) h e a d t c = rw t
+  same-accepted (Answered k) h e a d t c = rw a
+  same-accepted (AnsweredGrant k i g) h e a d t c = rw (e, d)
+  same-accepted Done h e a d t c = rw c
+
+-- what the code finds in the row of the step's file, wrapped, and tells of a read
+module _ (fresh : Bool) (s : Service) (l : Ledger) (x : Step) (z : Sizes) (sized : z ≡ sizesOf s) (told : Told) (caching : Bool)
+    (found : refused s x ≡ false → (told ≡ stepTold s l x) × (caching ≡ mayCache s x)) where
+  abbrev g : ℕ
+  g = fileOf x % maxFiles
+
+  abbrev o : Outcome
+  o = stepOf s x
+
+  abbrev scene : Sizes → Scene
+  scene k =
+      sceneBy k (tableIn (o .service) .reported) (entryAt s g) (entryAt (o .service) g) (sidesAt s g) (waitingSince l g) told caching
+
+  abbrev Alike : Type 0
+  Alike = saidOf fresh (scene (sizesOf s)) x (o .calls) (o .reply) ≡ saidOf fresh (sceneOf s l x) x (o .calls) (o .reply)
+
+  in-force : Alike
+  in-force =
+      split (leb (sizesOf s .files) (fileOf x))
+      (λ none. no-file-refused Alike s x none (λ e. rw e) (λ e. rw e))
+      (λ some.
+      let here : g ≡ fileOf x =
+      mod-eq-of-lt (file-fits (in-force-permitted (s .sizes)) (leb-false (sizesOf s .files) (fileOf x) some)) in
+      split (refused s x)
+      (λ not-ok.
+      same-refused fresh x (o .calls) (sizesOf s) _ _ _ _ _ _ _ _ _ _ _ _ _ _ (o .reply) not-ok
+      (ap (λ (k : Service). tableIn k .reported) (refused-changes-nothing s x not-ok))
+      (ap (entryAt s) here)
+      (ap (waitingSince l) here))
+      (λ ok.
+      same-accepted fresh x (o .calls) (sizesOf s) _ _ _ _ _ _ _ _ _ _ _ _ _ _ (o .reply) ok
+      (ap (entryAt s) here)
+      (ap (entryAt (o .service)) here)
+      (ap (sidesAt s) here)
+      (found ok .0)
+      (found ok .1)))
+
+  pub said-alike : saidOf fresh (scene z) x (o .calls) (o .reply) ≡ saidOf fresh (sceneOf s l x) x (o .calls) (o .reply)
+  said-alike = ap (λ (k : Sizes). saidOf fresh (scene k) x (o .calls) (o .reply)) sized ∙ in-force

@@ -1,0 +1,249 @@
+// One line explained: what it finds is looked at, its text is written, and the line is noted beside the service.
+ghost use mathlib.Core.Path.{_≡_};
+ghost use mathlib.Core.Bool.{false, cond, _&&_};
+ghost use mathlib.Core.List.{List, []};
+ghost use Prim.Native.Nat.{ℕ, _+_, _/_, _%_, _≤_};
+ghost use lib.Dec.{eqb};
+ghost use lib.ListN.{length, getD};
+ghost use Rattle.sizes.specs.Sizes.{maxClients, maxFiles, maxBlocks, Permitted, cell};
+ghost use Rattle.protocol.specs.declared.reply.Reply.{Reply};
+ghost use Rattle.protocol.specs.Step.{fileOf};
+ghost use Rattle.blocks.specs.Stores.{lent};
+ghost use Rattle.words.specs.Words.{sideHeld};
+ghost use Rattle.words.specs.Rows.{rowWords, tableWords};
+ghost use Rattle.words.specs.Said.{saidRoom, callsSaid, replySaid, Says};
+ghost use Rattle.service.specs.Lent.{lentFlags};
+ghost use Rattle.stepfile.specs.declared.parsed.Parsed.the-variants.{NoStep};
+ghost use Rattle.stepfile.specs.declared.setting.Setting.the-variants as settings;
+ghost use Rattle.stepfile.specs.Setting.{settingOf};
+ghost use Rattle.writer.specs.Buffer.{WroteIfRoom};
+ghost use Rattle.ledger.specs.declared.ledger.Ledger.{Ledger};
+ghost use Rattle.ledger.specs.Ledger.{entered, noted, toldOf};
+ghost use Rattle.ledger.specs.Refusals.{refusalsAfter};
+ghost use Rattle.ledger.specs.Wrapped.{wrappedStep};
+ghost use Rattle.sentences.specs.Scene.{sceneHeld};
+ghost use Rattle.sentences.specs.Explained.{saidOf, explainedText, explainedRoom};
+ghost use Rattle.playing.specs.Lines.{Long};
+ghost use Rattle.explaining.specs.Lines.{stateHeld, TellsLine};
+use blocks::cell_of;
+use ledger::REFUSAL_NUMBERS;
+use ledger::Told;
+use ledger::count_refusal;
+use ledger::note_line;
+use ledger::read_told;
+use playing::choose_sizes;
+use protocol::Numbers;
+use protocol::Step;
+use protocol::asked;
+use reader::read_setting;
+use sentences::explain_setting;
+use sentences::explain_step;
+use service::FLAGS;
+use sizes::MAX_CELLS;
+use sizes::MAX_CLIENTS;
+use sizes::MAX_FILES;
+use sizes::MAX_PLACES;
+use sizes::Sizes;
+use stepfile::Setting;
+use words::ROW;
+use words::SAID;
+use words::WORDS;
+use words::reply_of;
+use words::side_of;
+
+// What a line looks at before its step is taken.
+pub struct Seen {
+    // What is told of a read.
+    pub told: Told,
+    // Whether the client may cache the file, and holds the block.
+    pub caching: bool,
+    pub holds: bool,
+}
+
+// Looks at what the step names, in the row of its file and beside it. The numbers are wrapped.
+pub fn look(
+    named: Numbers,
+    row: &[u64; ROW],
+    held: &[bool; MAX_CELLS],
+    dirty: &[bool; MAX_CELLS],
+    written: &[u64; MAX_PLACES],
+    writers: &[u8; MAX_PLACES],
+    copied: &[u64; MAX_CELLS],
+) -> Seen
+    requires { ⌜ length (now row) ≡ rowWords ⌝ }
+    ensures { λ r. ⌜ r .caching
+        ≡ sideHeld (getD (now (row .entry)) (10 + named .client % maxClients) 0) .opens .caching ⌝ }
+    ensures { λ r. ⌜ r .told ≡ toldOf (r .caching) (lent [] [] (now (held .entry)) (now (dirty .entry)))
+        (entered (now (written .entry)) (now (writers .entry)) (now (copied .entry)) [])
+        (named .client % maxClients) (named .file % maxFiles) (named .block % maxBlocks) ⌝ }
+    ensures { λ r. ⌜ r .holds ≡ getD (now (held .entry))
+        (cell (named .client % maxClients) (named .file % maxFiles) (named .block % maxBlocks)) false ⌝ }
+{
+    let client = named.client;
+    let file = named.file;
+    let block = named.block;
+    let own = side_of(row[10 + client % MAX_CLIENTS]);
+    let caching = own.opens.caching;
+    Seen {
+        told: read_told(
+            caching,
+            client,
+            file,
+            block,
+            held,
+            dirty,
+            written,
+            writers,
+            copied,
+        ),
+        caching,
+        holds: held[cell_of(client, file, block)],
+    }
+}
+
+// A line whose step was taken, by the sizes in force: it said this, and this was seen before.
+pub fn tell_step(
+    out: &mut [u8],
+    at: usize,
+    line: u64,
+    fresh: bool,
+    sizes: Sizes,
+    step: Step,
+    said: u64,
+    words: &[u64; SAID],
+    row: &[u64; ROW],
+    seen: Seen,
+    table: &[u64; WORDS],
+    flags: &[bool; FLAGS],
+    written: &mut [u64; MAX_PLACES],
+    writers: &mut [u8; MAX_PLACES],
+    copied: &mut [u64; MAX_CELLS],
+    waiting: &mut [u64; MAX_FILES],
+    refusals: &mut [u64; REFUSAL_NUMBERS],
+) -> usize
+    requires { ⌜ Permitted sizes ⌝ }
+    requires { ⌜ said / 256 ≤ saidRoom ⌝ }
+    requires { ⌜ length (now words) ≡ saidRoom ⌝ }
+    requires { ⌜ length (now row) ≡ rowWords ⌝ }
+    requires { ⌜ length (now table) ≡ tableWords ⌝ }
+    requires { ⌜ length (now flags) ≡ lentFlags ⌝ }
+    ensures { λ r. ⌜ ((reply : Reply) (calls : List ℕ)
+        → Says said (now (words .entry)) reply calls
+        → callsSaid said (now (words .entry)) ≡ calls
+        → WroteIfRoom explainedRoom (now (out .entry)) at
+        (explainedText line reply calls
+        (saidOf fresh
+        (sceneHeld sizes step (now (row .entry)) (now (table .entry)) (now (flags .entry))
+        (getD (now (waiting .entry)) (fileOf step % maxFiles) 0) (seen .told) (seen .caching))
+        step calls reply))
+        (now (out .exit)) r) ⌝ }
+    ensures { λ r. ⌜ r ≤ at + explainedRoom ⌝ }
+    ensures { λ _. ⌜ entered (now (written .exit)) (now (writers .exit)) (now (copied .exit)) (now (waiting .exit))
+        ≡ noted line (wrappedStep step) (replySaid said (now (words .entry))) (seen .caching) (seen .holds)
+        (entered (now (written .entry)) (now (writers .entry)) (now (copied .entry)) (now (waiting .entry))) ⌝ }
+    ensures { λ _. ⌜ now (refusals .exit)
+        ≡ refusalsAfter (replySaid said (now (words .entry))) (now (refusals .entry)) ⌝ }
+{
+    let named = asked(step);
+    let since = waiting[named.file % MAX_FILES];
+    let told = seen.told;
+    let reply = reply_of(said, words);
+    note_line(
+        line,
+        step,
+        reply,
+        seen.caching,
+        seen.holds,
+        written,
+        writers,
+        copied,
+        waiting,
+    );
+    count_refusal(reply, refusals);
+    explain_step(
+        out,
+        at,
+        line,
+        fresh,
+        sizes,
+        step,
+        said,
+        words,
+        row,
+        table,
+        flags,
+        since,
+        told,
+        seen.caching,
+    )
+}
+
+// The sizes after a line, and the offset past its text.
+pub struct Set {
+    pub sizes: Sizes,
+    pub to: usize,
+}
+
+// A line that gave none: the first may choose the sizes, in a session that began with the fresh service.
+pub fn tell_setting(
+    out: &mut [u8],
+    at: usize,
+    number: u64,
+    fresh: bool,
+    sizes: Sizes,
+    line: &[u8],
+    table: &mut [u64; WORDS],
+    flags: &mut [bool; FLAGS],
+    blocks: &mut [u64; MAX_PLACES],
+    copies: &mut [u64; MAX_CELLS],
+    held: &mut [bool; MAX_CELLS],
+    dirty: &mut [bool; MAX_CELLS],
+    words: &mut [u64; SAID],
+    refusals: &mut [u64; REFUSAL_NUMBERS],
+) -> Set
+    requires { ⌜ length (now table) ≡ tableWords ⌝ }
+    requires { ⌜ length (now flags) ≡ lentFlags ⌝ }
+    requires { ⌜ length (now words) ≡ saidRoom ⌝ }
+    ensures { λ r. ⌜ ((l : Ledger) → TellsLine fresh
+        (stateHeld sizes (now (table .entry)) (now (flags .entry))
+        (lent (now (blocks .entry)) (now (copies .entry)) (now (held .entry)) (now (dirty .entry))) l
+        (now (refusals .entry)))
+        number (now (line .entry)) NoStep (now (out .entry)) at
+        (stateHeld (r .sizes) (now (table .exit)) (now (flags .exit))
+        (lent (now (blocks .exit)) (now (copies .exit)) (now (held .exit)) (now (dirty .exit))) l
+        (now (refusals .exit)))
+        (now (out .exit)) (r .to)) ⌝ }
+    ensures { λ _. ⌜ Long (now (table .entry)) (now (flags .entry)) (now (table .exit)) (now (flags .exit)) ⌝ }
+    ensures { λ _. ⌜ length (now (words .exit)) ≡ length (now (words .entry)) ⌝ }
+{
+    let chosen = choose_sizes(
+        fresh,
+        sizes,
+        number,
+        line,
+        table,
+        flags,
+        blocks,
+        copies,
+        held,
+        dirty,
+        words,
+    );
+    let after = chosen.sizes;
+    let setting = setting_at(fresh, number, line);
+    count_refusal(reply_of(chosen.said, words), refusals);
+    Set {
+        sizes: after,
+        to: explain_setting(out, at, number, chosen.said, words, setting),
+    }
+}
+
+// What a line that gave no step sets.
+fn setting_at(fresh: bool, number: u64, line: &[u8]) -> Setting
+    ensures { λ r. ⌜ r ≡ cond (fresh && eqb number 1) (settingOf (now (line .entry))) settings.Missing ⌝ }
+{
+    if fresh & (number == 1) {
+        return read_setting(line);
+    }
+    Setting::Missing
+}

@@ -1,9 +1,0 @@
--- `new` meets its contract by those of the default sizes, of the fresh service and of a start. Assumes nothing.
-use Rattle.player.proofs.session.Session.new.Statement.{statement}
-use Rattle.player.proofs.session.Session.new.Tie as tie
-
-returns : tie.Need-returns
-returns c = rw (c .start .ensures, c .before .new .ensures .0, c .before .before .default .ensures)
-
-pub new-spec : {M : Type 1} → statement M
-new-spec = tie.close (tie.spec (λ c κs. tt) (λ c κs. tt) (λ c κs. tt) returns)

@@ -1,0 +1,3 @@
+-- The player's next line, and the theorem of its run.
+pub mod Playing
+pub mod Run

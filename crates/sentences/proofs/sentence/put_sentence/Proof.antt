@@ -1,0 +1,208 @@
+-- `put_sentence` meets its contract, reply by reply. Assumes nothing.
+use Prim.Native.Nat.{ℕ, _%_}
+use mathlib.Core.Path.{_≡_, refl, sym, ap, _∙_}
+use mathlib.Core.List.{List}
+use native.Mathlib.Omega.{arith}
+use lib.ListN.{length}
+use denote.Ref.{now}
+use borrow.Author.Needs.{needs}
+use Rattle.sizes.specs.Sizes.{maxFiles}
+use Rattle.protocol.specs.declared.reply.Reply.{Reply}
+use Rattle.protocol.specs.Client.{sideOf}
+use Rattle.protocol.specs.Step.{clientOf, fileOf, blockOf, modeOf}
+use Rattle.words.specs.Rows.{entryHeld, sidesHeld}
+use Rattle.sentences.specs.Phrase.{modeByKind}
+use Rattle.sentences.specs.Accepted.{stillText}
+use Rattle.sentences.specs.Scene.{sceneHeld}
+use Rattle.sentences.specs.Explained.{saidOf}
+use Rattle.writer.proofs.Buffers.{wrote-as, wrote-then}
+use Rattle.sentences.proofs.Names.{client-named, file-named, block-named, mode-named}
+use Rattle.sentences.proofs.Names.{grant-as, wait-as, read-as, refusal-as, answer-as}
+use Rattle.sentences.proofs.sentence.put_sentence.Statement.{statement}
+use Rattle.sentences.proofs.sentence.put_sentence.Tie as tie
+
+module _ (c : tie.After-asked) where
+  abbrev row : List ℕ
+  row = now (c .before .before .args .row)
+
+  -- what the numbers name, the step names
+  client-is : c .asked .result .client ≡ clientOf (c .before .before .args .step)
+  client-is = client-named (c .before .before .args .step) (c .asked .ensures)
+
+  file-is : c .asked .result .file ≡ fileOf (c .before .before .args .step)
+  file-is = file-named (c .before .before .args .step) (c .asked .ensures)
+
+  block-is : c .asked .result .block ≡ blockOf (c .before .before .args .step)
+  block-is = block-named (c .before .before .args .step) (c .asked .ensures)
+
+  mode-is : modeByKind (c .asked .result .kind) ≡ modeOf (c .before .before .args .step)
+  mode-is = mode-named (c .before .before .args .step) (c .asked .ensures)
+
+  -- of the step that is answered so
+  abbrev said : Reply → List ℕ
+  said r =
+      let a = c .before .before .args in
+      saidOf (a .fresh)
+      (sceneHeld (a .sizes) (a .step) (now (a .row)) (now (a .table)) (now (a .flags)) (a .since) (a .told) (a .caching))
+      (a .step) (a .calls) r
+
+same : (i : ℕ) → i ≡ i
+same i = refl
+
+-- the answer and two bytes leave room for the grant
+put-grant-requires-2 : tie.Need-put-grant-requires-2
+put-grant-requires-2 c κs =
+    let text = c .before .before .before in
+    let answer = text .before .before .before .before .before in
+    let start = answer .before .before .before .before .before .before .before .before .before .before in
+    let long : length (text .put-text .last .0) ≡ length (now (start .args .out)) = search needs in
+    omega (arith, long, text .put-text .ensures .1, answer .put-answer2 .ensures .1, start .pre .1 .0)
+
+returns : tie.Need-returns
+returns c =
+    let put = c .before .before in
+    let is = put .before .before .before .before .before in
+    let asked = is .before .before in
+    let i = client-is asked in (
+      wrote-as
+          (grant-as (is .reply .given .0 .0) (put .before .before .before .mode-by-kind .ensures ∙ mode-is asked)
+          (put .before .side-in .ensures ∙ ap (sideOf (sidesHeld (row asked) 0)) i)
+          i
+          (file-is asked)
+          ∙ ap (said asked) (sym (is .reply .given .1)))
+          (put .put-grant .ensures .0),
+      search needs,
+    )
+
+returns-2 : tie.Need-returns-2
+returns-2 c =
+    let put = c .before .before in
+    let is = put .before .before .before .before in
+    let asked = is .before .before in
+    let a = asked .before .before .args in (
+      wrote-as
+          (wait-as (a .sizes .clients) (a .calls) (put .before .before .entry-in .ensures)
+          (put .before .before .before .mode-by-kind2 .ensures ∙ mode-is asked)
+          (client-is asked)
+          (file-is asked)
+          ∙ ap (said asked) (sym (is .enum-told .given .1)))
+          (put .put-wait .ensures .0),
+      search needs,
+    )
+
+returns-3 : tie.Need-returns-3
+returns-3 c =
+    let put = c .before .before in
+    let is = put .before .before in
+    let asked = is .before .before in
+    let a = asked .before .before .args in (
+      wrote-as
+          (read-as (a .fresh) (a .told) (client-is asked) (file-is asked) (block-is asked)
+          ∙ ap (said asked) (sym (is .enum-told2 .given .1)))
+          (put .put-read .ensures .0),
+      search needs,
+    )
+
+returns-4 : tie.Need-returns-4
+returns-4 c =
+    let put = c .before .before in
+    let is = put .before .before .before .before .before in
+    let asked = is .before .before in
+    let a = asked .before .before .args in (
+      wrote-as
+          (refusal-as (a .sizes) (a .since) (a .step) (is .reply2 .given .0 .0) (put .before .before .before .reported-in .ensures)
+          (put .before .before .entry-in2 .ensures)
+          ∙ ap (said asked) (sym (is .reply2 .given .1)))
+          (put .put-refusal .ensures .0),
+      search needs,
+    )
+
+returns-5 : tie.Need-returns-5
+returns-5 c =
+    let put = c .before .before in
+    let answer = put .before .before .before .before in
+    let is = answer .before .before .before .before in
+    let asked = is .before .before in
+    let a = asked .before .before .args in
+    let after = answer .before .before .entry-at .ensures ∙ ap (λ (f : ℕ). entryHeld (now (a .table)) (f % maxFiles)) (file-is asked) in (
+      wrote-as (ap (said asked) (sym (is .reply3 .given .1)))
+          (wrote-then (wrote-as (answer-as _ (client-is asked) (file-is asked)) (answer .put-answer .ensures .0))
+          (wrote-as (ap (stillText (a .sizes .clients)) after) (put .put-still .ensures .0))),
+      search needs,
+    )
+
+returns-6 : tie.Need-returns-6
+returns-6 c =
+    let put = c .before .before in
+    let text = put .before .before .before .before in
+    let answer = text .before .before .before .before .before in
+    let is = answer .before .before .before .before .before .before in
+    let asked = is .before .before in
+    let f = file-is asked in (
+      wrote-as (ap (said asked) (sym (is .reply4 .given .1)))
+          (wrote-then (wrote-as (answer-as _ (client-is asked) f) (answer .put-answer2 .ensures .0))
+          (wrote-then (text .put-text .ensures .0)
+          (wrote-as
+          (grant-as (is .reply4 .given .0 .1 .1 .0) (answer .before .before .before .mode-of .ensures) (answer .before .before .side-in2 .ensures)
+          (same (is .reply4 .given .0 .1 .0))
+          f)
+          (put .put-grant2 .ensures .0)))),
+      search needs,
+    )
+
+returns-7 : tie.Need-returns-7
+returns-7 c =
+    let put = c .before .before in
+    let is = put .before .before in
+    let asked = is .before .before in
+    (wrote-as (ap (said asked) (sym (is .enum-told3 .given .1))) (put .put-done .ensures .0), search needs)
+
+pub put-sentence-spec : {M : Type 1} → statement M
+put-sentence-spec =
+    tie.close
+    (tie.spec
+    (λ c κs. tt)
+    (search needs)
+    (λ c κs. tt)
+    (search needs)
+    (search needs)
+    (search needs)
+    (λ c κs. tt)
+    (search needs)
+    (search needs)
+    (search needs)
+    (search needs)
+    (search needs)
+    (search needs)
+    (search needs)
+    (search needs)
+    (search needs)
+    (search needs)
+    (search needs)
+    (search needs)
+    (search needs)
+    (search needs)
+    (λ c κs. tt)
+    (search needs)
+    (search needs)
+    (search needs)
+    (search needs)
+    (search needs)
+    (search needs)
+    put-grant-requires-2
+    (search needs)
+    (search needs)
+    (search needs)
+    returns
+    (search needs)
+    returns-2
+    (search needs)
+    returns-3
+    (search needs)
+    returns-4
+    (search needs)
+    returns-5
+    (search needs)
+    returns-6
+    (search needs)
+    returns-7)

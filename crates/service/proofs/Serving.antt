@@ -1,0 +1,261 @@
+-- The whole service in the lent arrays: what a step on a file, on a block and on the table leaves in them is what the
+-- definition of the step makes of the service that they held. Assumes nothing.
+use Prim.Native.Nat.{ℕ, _%_, _<_, _≤_, _+_}
+use mathlib.Core.Path.{_≡_, refl, sym, ap, ap₂, _∙_, subst⁻¹}
+use mathlib.Core.Bool.{Bool, true, false, not, _&&_}
+use mathlib.Core.List.{List}
+use native.Mathlib.Nat.{mod-lt}
+use native.Mathlib.Omega.{arith}
+use lib.Dec.{eqb, leb, ltb}
+use lib.ListN.{length, getD}
+use lib.Seq.{getD-take}
+use borrow.Author.Tests.{eqb-false, leb-true, ltb-true, not-false}
+use Rattle.sizes.specs.declared.sizes.Sizes.{Sizes}
+use Rattle.sizes.specs.Sizes.{maxClients, maxFiles, Permitted}
+use Rattle.sizes.proofs.Choosing.{conflict, and-left, and-right}
+use Rattle.protocol.specs.declared.client.ClientFile.{ClientFile}
+use Rattle.protocol.specs.declared.client.Sides.{Sides}
+use Rattle.protocol.specs.declared.reply.Reply.{Reply}
+use Rattle.protocol.specs.declared.reply.Reply.the-variants.{Done}
+use Rattle.protocol.specs.declared.shared.SharedFile.{SharedFile}
+use Rattle.protocol.specs.Step.{Class}
+use Rattle.protocol.specs.Step.{OnFile, OnBlock, OnTable}
+use Rattle.protocol.specs.declared.step.Step.{Step}
+use Rattle.protocol.specs.declared.step.Step.the-variants.{Crash}
+use Rattle.protocol.specs.Client.{sideOf}
+use Rattle.protocol.specs.Entry.{crashedEntry}
+use Rattle.protocol.specs.Reply.{letterOf, isRefused, noCalls}
+use Rattle.protocol.specs.Step.{classOf}
+use Rattle.blocks.specs.Stores.{Stores, lent}
+use Rattle.access.specs.BlockStep.{blockStep}
+use Rattle.access.specs.BlockStep.{Leaves as LeavesBlock}
+use Rattle.file.specs.FileStep.{FileAfter, fileStep}
+use Rattle.file.specs.Held.{Holds}
+use Rattle.table.specs.declared.recovery.Recovery.{Recovery}
+use Rattle.table.specs.declared.recovery.RecoveryOutcome.{RecoveryOutcome}
+use Rattle.table.specs.declared.recovery.Sweep.{Sweep}
+use Rattle.table.specs.declared.recovery.Sweep.the-variants.{Stay}
+use Rattle.table.specs.Recovery.{recoveryStep}
+use Rattle.table.specs.TableStep.{noEntry, noSides}
+use Rattle.table.proofs.Steps.{recoveryIn, refused-stays}
+use Rattle.table.specs.Swept.{Swept, Sweeps as SweepsRows}
+use Rattle.table.proofs.SweptRows.{swept-sides, swept-crash}
+use Rattle.words.specs.Said.{calls?}
+use Rattle.words.specs.Words.{sideHeld}
+use Rattle.words.specs.Rows.{listed, wordAt, entryHeld, sidesHeld, fileHeld, Puts}
+use Rattle.words.proofs.Changing.{side-held}
+use Rattle.words.proofs.Listing.{getD-listed, listed-set}
+use Rattle.words.proofs.Places.{others-held}
+use Rattle.service.specs.declared.service.Service.{Service}
+use Rattle.service.specs.declared.outcome.Outcome.{Outcome}
+use Rattle.service.specs.Contents.{tableIn, fileAt, withFile, clientAt, reportedAt}
+use Rattle.service.specs.Step.{stepOf, fileOutcome}
+use Rattle.service.specs.Lent.{lentFlags, recoveringHeld, reportedHeld, serviceHeld, isSide, mayChange, isOnTable, Keeps}
+use Rattle.service.specs.Served.{Serves, SweptBy}
+use Rattle.service.proofs.Arms.Result.{file-result, block-result, table-result}
+use Rattle.service.proofs.NineFlags.{same-flags}
+
+outcome-as :
+    (s s′ : Service) (r r′ : Reply) (k k′ : List ℕ)
+    → s ≡ s′
+    → r ≡ r′
+    → k ≡ k′
+    → _≡_ {A = Outcome} (record { service = s; reply = r; calls = k }) (record { service = s′; reply = r′; calls = k′ })
+outcome-as s s′ r r′ k k′ a b c = rw (a, b, c)
+
+-- a file put into its row is put into the service
+pub puts-service :
+    (given : Sizes) (flags : List Bool) (a₀ a : Stores) (f : ℕ) (x : SharedFile) (t₀ t : List ℕ)
+    → f < maxFiles
+    → Puts f x t₀ t
+    → serviceHeld given t flags a ≡ withFile (serviceHeld given t₀ flags a₀) f x a
+puts-service given flags a₀ a f x t₀ t there p =
+    rw (
+      listed-set maxFiles (λ g. entryHeld t₀ g) (λ g. entryHeld t g) f (x .entry) there
+          (ap (λ (y : SharedFile). y .entry) (p .here))
+          (λ g lt off. ap (λ (y : SharedFile). y .entry) (others-held p g off)),
+      listed-set maxFiles (λ g. sidesHeld t₀ g) (λ g. sidesHeld t g) f (x .sides) there
+          (ap (λ (y : SharedFile). y .sides) (p .here))
+          (λ g lt off. ap (λ (y : SharedFile). y .sides) (others-held p g off)),
+    )
+
+-- the file that the service has is the one that the row holds
+pub file-at :
+    (given : Sizes) (flags : List Bool) (a : Stores) (f : ℕ) (t : List ℕ)
+    → f < maxFiles
+    → fileAt (serviceHeld given t flags a) f ≡ fileHeld t f
+file-at given flags a f t there =
+    rw (
+      getD-listed maxFiles (λ g. entryHeld t g) noEntry f there,
+      getD-listed maxFiles (λ g. sidesHeld t g) noSides f there,
+    )
+
+-- ---- on a file
+
+module _
+    (sizes : Sizes)
+    (x : Step)
+    (f : ℕ)
+    (t₀ t : List ℕ)
+    (flags : List Bool)
+    (a₀ : Stores)
+    (b c : List ℕ)
+    (h d : List Bool)
+    (reply : Reply)
+    (calls : List ℕ)
+    (class : classOf x ≡ OnFile f)
+    (holds :
+    Holds (fileStep sizes (recoveringHeld flags) (fileHeld t₀ (f % maxFiles)) a₀ x) (f % maxFiles) t₀ t reply calls b c h d) where
+  file-keeps : Keeps x reply t₀ flags t flags
+  file-keeps =
+      record {
+        refused = λ e. (holds .refused e, refl);
+        words =
+            λ g k there below stays.
+            holds .puts .beside g k
+            (eqb-false g (f % maxFiles) (ap (λ (class : Class). mayChange class g k) (sym class) ∙ stays))
+            below;
+        reports = λ e. refl;
+      }
+
+  pub file-serves : (calls? (letterOf reply) ≡ false → calls ≡ noCalls) → Serves sizes x t₀ flags a₀ t flags (lent b c h d) reply calls
+  file-serves quiet =
+      let there : f % maxFiles < maxFiles = mod-lt f (omega arith) in
+      record {
+        long = holds .puts .long;
+        flagsLong = refl;
+        taken =
+            λ given force.
+            let s = serviceHeld given t₀ flags a₀ in
+            let after : SharedFile → FileAfter = λ y. fileStep sizes (recoveringHeld flags) y a₀ x in
+            let held = after (fileHeld t₀ (f % maxFiles)) in
+            outcome-as _ _ _ _ _ _
+            (ap (λ (a : Stores). serviceHeld given t flags a) (holds .storesAfter)
+            ∙ puts-service given flags a₀ (held .stores) (f % maxFiles) (held .file) t₀ t there (holds .puts))
+            (holds .replyAfter)
+            (holds .callsAfter)
+            ∙ ap (λ (y : SharedFile). fileOutcome s (f % maxFiles) (after y)) (sym (file-at given flags a₀ (f % maxFiles) t₀ there))
+            ∙ file-result s x sizes force f class;
+        quiet = quiet;
+        keeps = file-keeps;
+      }
+
+-- ---- on a block
+
+pub block-serves :
+    (sizes : Sizes) (x : Step) (i f : ℕ) (t : List ℕ) (flags : List Bool) (a₀ : Stores) (own : ClientFile) (b c : List ℕ)
+    (h d : List Bool) (reply : Reply)
+    → classOf x ≡ OnBlock i f
+    → own ≡ sideHeld (wordAt t (f % maxFiles) (10 + i % maxClients))
+    → LeavesBlock (blockStep sizes (recoveringHeld flags) (getD flags (i % maxClients) false) own a₀ x) reply b c h d
+    → Serves sizes x t flags a₀ t flags (lent b c h d) reply noCalls
+block-serves sizes x i f t flags a₀ own b c h d reply class is l =
+    let file : f % maxFiles < maxFiles = mod-lt f (omega arith) in
+    let client : i % maxClients < maxClients = mod-lt i (omega arith) in
+    record {
+      long = refl;
+      flagsLong = refl;
+      taken =
+          λ given force.
+          let s = serviceHeld given t flags a₀ in
+          let side : clientAt s (i % maxClients) (f % maxFiles) ≡ own =
+          ap (λ (y : Sides). sideOf y (i % maxClients)) (getD-listed maxFiles (λ g. sidesHeld t g) noSides (f % maxFiles) file)
+          ∙ side-held t (f % maxFiles) (i % maxClients) client
+          ∙ sym is in
+          let told : reportedAt s (i % maxClients) ≡ getD flags (i % maxClients) false =
+          getD-take maxClients flags (i % maxClients) false client in
+          block-result s x sizes force i f reply b c h d class
+          (rw (side, told) l);
+      quiet = λ e. refl;
+      keeps =
+          record { refused = λ e. (refl, refl); words = λ g k there below stays. refl; reports = λ e. refl };
+    }
+
+-- ---- on the table
+
+-- a word of a side
+is-side : (k : ℕ) → not (isSide k) ≡ false → (10 ≤ k) × (k < 18)
+is-side k e =
+    let side : isSide k ≡ true = not-false (isSide k) e in
+    (leb-true 10 k (and-left (leb 10 k) (ltb k 18) side), ltb-true k 18 (and-right (leb 10 k) (ltb k 18) side))
+
+recovery-as : (v w : Recovery) → v .recovering ≡ w .recovering → v .reported ≡ w .reported → v ≡ w
+recovery-as v w a b = ap₂ (λ (r : Bool) (l : List Bool). record { recovering = r; reported = l }) a b
+
+module _
+    (sizes : Sizes)
+    (x : Step)
+    (t₀ t : List ℕ)
+    (flags₀ flags : List Bool)
+    (a : Stores)
+    (v : Recovery)
+    (o : RecoveryOutcome)
+    (reply : Reply)
+    (class : classOf x ≡ OnTable)
+    (is : o ≡ recoveryStep sizes v x)
+    (recovers : v .recovering ≡ recoveringHeld flags₀)
+    (reports : v .reported ≡ reportedHeld flags₀)
+    (size : length flags₀ ≡ lentFlags)
+    (done : SweptBy sizes o t₀ flags₀ t flags reply) where
+  -- a refusal leaves the rows, and stores the flags as they were
+  refused-keeps : isRefused reply ≡ true → (t ≡ t₀) × (flags ≡ flags₀)
+  refused-keeps e =
+      let stays = refused-stays sizes v x (ap isRefused (ap (λ (o : RecoveryOutcome). o .reply) (sym is) ∙ sym (done .same)) ∙ e) in
+      let rests : o .recovery ≡ v = ap (λ (o : RecoveryOutcome). o .recovery) is ∙ stays .1 in (
+        done .rows .stays (ap (λ (o : RecoveryOutcome). o .sweep) is ∙ stays .0),
+        same-flags flags flags₀ (done .flagsLong ∙ size) size
+            (done .recovers ∙ ap (λ (w : Recovery). w .recovering) rests ∙ recovers)
+            (done .reports ∙ ap (λ (w : Recovery). w .reported) rests ∙ reports),
+      )
+
+  pub table-serves : Serves sizes x t₀ flags₀ a t flags a reply noCalls
+  table-serves =
+      record {
+        long = done .rows .long;
+        flagsLong = done .flagsLong;
+        taken =
+            λ given force.
+            let s = serviceHeld given t₀ flags₀ a in
+            let same : v ≡ recoveryIn (tableIn s) = recovery-as v (recoveryIn (tableIn s)) recovers reports in
+            outcome-as _ _ _ _ _ _ (rw (swept-sides (done .rows), done .recovers, done .reports)) (done .same) refl
+            ∙ table-result s x sizes force o (listed maxFiles (λ f. entryHeld t f)) class
+            (is ∙ ap (λ (w : Recovery). recoveryStep sizes w x) same)
+            (done .rows .files);
+        quiet = λ e. refl;
+        keeps =
+            record {
+              refused = refused-keeps;
+              words =
+                  λ g k there below stays.
+                  let (low, high) = is-side k (ap (λ (class : Class). mayChange class g k) (sym class) ∙ stays) in
+                  done .rows .sides g k low high;
+              reports = λ e. conflict refl (ap isOnTable (sym class) ∙ e);
+            };
+      }
+
+-- a crash by itself
+module _ (sizes : Sizes) (t₀ t : List ℕ) (flags₀ flags : List Bool) (v : Recovery) (o : RecoveryOutcome) where
+  pub crash-serves :
+      (a : Stores)
+      → Permitted sizes
+      → o ≡ recoveryStep sizes v Crash
+      → v .recovering ≡ recoveringHeld flags₀
+      → v .reported ≡ reportedHeld flags₀
+      → length flags₀ ≡ lentFlags
+      → SweepsRows (sizes .files) (λ f. crashedEntry (sizes .clients) (entryHeld t₀ f)) t₀ t
+      → recoveringHeld flags ≡ o .recovery .recovering
+      → reportedHeld flags ≡ o .recovery .reported
+      → length flags ≡ lentFlags
+      → Serves sizes Crash t₀ flags₀ a t flags a Done noCalls
+  unfolding recoveryStep
+  crash-serves a p is recovers reports size rows recovers′ reports′ long =
+      table-serves sizes Crash t₀ t flags₀ flags a v o Done refl is recovers reports size
+      (record {
+        rows =
+            subst⁻¹ (λ (s : Sweep). Swept sizes s t₀ t) (ap (λ (o : RecoveryOutcome). o .sweep) is)
+            (swept-crash sizes (p .files) t₀ t rows);
+        recovers = recovers′;
+        reports = reports′;
+        flagsLong = long ∙ sym size;
+        same = sym (ap (λ (o : RecoveryOutcome). o .reply) is);
+      })

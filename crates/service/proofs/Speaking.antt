@@ -1,0 +1,122 @@
+-- A step that is served and said is taken. Assumes nothing.
+use Prim.Native.Nat.{ℕ, _%_, _<_, _≤_}
+use mathlib.Core.Path.{_≡_, refl, sym, ap, _∙_, subst, subst⁻¹}
+use mathlib.Core.Bool.{Bool, false}
+use mathlib.Core.List.{List}
+use native.Mathlib.Omega.{arith}
+use lib.Dec.{ltb}
+use lib.ListN.{length}
+use borrow.Author.Tests.{lt-ltb, le-ltb}
+use Rattle.sizes.specs.declared.sizes.Sizes.{Sizes}
+use Rattle.sizes.specs.Sizes.{inForce}
+use Rattle.sizes.proofs.Choosing.{split, when, unless}
+use Rattle.protocol.specs.declared.reply.Reply.{Reply}
+use Rattle.protocol.specs.declared.reply.Reply.the-variants.{Refused}
+use Rattle.protocol.specs.Reply.{letterOf, noCalls}
+use Rattle.protocol.specs.declared.step.Numbers.{Numbers}
+use Rattle.protocol.specs.declared.step.Step.{Step}
+use Rattle.protocol.specs.Step.{kinds, numbersOf, stepAsked}
+use Rattle.protocol.proofs.Numbers.{asked-back, kind-low}
+use Rattle.blocks.specs.Stores.{Stores}
+use Rattle.words.specs.Said.{calls?, replySaid, callsSaid, SaysIn}
+use Rattle.service.specs.declared.service.Service.{Service}
+use Rattle.service.specs.declared.outcome.Outcome.{Outcome}
+use Rattle.service.specs.Step.{stepOf}
+use Rattle.service.specs.Lent.{serviceHeld, outcomeAsked, Keeps, Stepped}
+use Rattle.service.specs.Served.{Serves}
+
+-- the calls are read back: those that went out, or none
+calls-back :
+    (words₀ words : List ℕ) (said : ℕ) (reply : Reply) (calls : List ℕ)
+    → SaysIn words₀ said words reply calls
+    → (calls? (letterOf reply) ≡ false → calls ≡ noCalls)
+    → callsSaid said words ≡ calls
+calls-back words₀ words said reply calls s quiet =
+    let same : calls? (said % 256) ≡ calls? (letterOf reply) = ap calls? (s .says .letter) in
+    split (calls? (letterOf reply))
+    (λ e. when _ _ (same ∙ e) ∙ s .says .called e)
+    (λ e. unless _ _ (same ∙ e) ∙ sym (quiet e))
+
+module _ (given : Sizes) (kind i f b v : ℕ) (t₀ : List ℕ) (flags₀ : List Bool) (a₀ : Stores) (words₀ : List ℕ) where
+  abbrev came : Service
+  came = serviceHeld given t₀ flags₀ a₀
+
+  abbrev asked : Outcome
+  asked = outcomeAsked came kind i f b v
+
+  -- what is said of an outcome that is the one asked for
+  said-of :
+      (o : Outcome) (t : List ℕ) (flags : List Bool) (a : Stores) (words : List ℕ) (said : ℕ)
+      → asked ≡ o
+      → length t ≡ length t₀
+      → length flags ≡ length flags₀
+      → serviceHeld given t flags a ≡ o .service
+      → SaysIn words₀ said words (o .reply) (o .calls)
+      → (calls? (letterOf (o .reply)) ≡ false → o .calls ≡ noCalls)
+      → Keeps (stepAsked kind i f b v) (o .reply) t₀ flags₀ t flags
+      → Stepped given kind i f b v t₀ flags₀ a₀ words₀ t flags a words said
+  said-of o t flags a words said is long flagsLong service says quiet keeps =
+      record {
+        long = long;
+        flagsLong = flagsLong;
+        wordsLong = says .long;
+        short = says .short;
+        service = service ∙ sym (ap (λ (o : Outcome). o .service) is);
+        says = subst⁻¹ (λ (o : Outcome). SaysIn words₀ said words (o .reply) (o .calls)) is says;
+        calls = calls-back words₀ words said (o .reply) (o .calls) says quiet ∙ sym (ap (λ (o : Outcome). o .calls) is);
+        keeps = subst⁻¹ (λ (o : Outcome). Keeps (stepAsked kind i f b v) (o .reply) t₀ flags₀ t flags) is keeps;
+      }
+
+  -- a kind that is none
+  pub stepped-none :
+      (words : List ℕ) (said : ℕ)
+      → 10 < kind
+      → SaysIn words₀ said words (Refused 1) noCalls
+      → Stepped given kind i f b v t₀ flags₀ a₀ words₀ t₀ flags₀ a₀ words said
+  stepped-none words said past says =
+      said-of (record { service = came; reply = Refused 1; calls = noCalls }) t₀ flags₀ a₀ words said
+      (unless _ _ (le-ltb _ _ past))
+      refl refl refl says
+      (λ e. refl)
+      (record { refused = λ e. (refl, refl); words = λ g k there below stays. refl; reports = λ e. refl })
+
+  pub stepped-step :
+      (sizes : Sizes) (t : List ℕ) (flags : List Bool) (a : Stores) (words : List ℕ) (said : ℕ) (reply : Reply) (calls : List ℕ)
+      → kind ≤ 10
+      → sizes ≡ inForce given
+      → Serves sizes (stepAsked kind i f b v) t₀ flags₀ a₀ t flags a reply calls
+      → SaysIn words₀ said words reply calls
+      → Stepped given kind i f b v t₀ flags₀ a₀ words₀ t flags a words said
+  stepped-step sizes t flags a words said reply calls known force serves says =
+      said-of (record { service = serviceHeld given t flags a; reply = reply; calls = calls }) t flags a words said
+      (when _ _ (lt-ltb kind kinds (omega arith)) ∙ sym (serves .taken given force))
+      (serves .long)
+      (serves .flagsLong)
+      refl
+      says
+      (serves .quiet)
+      (serves .keeps)
+
+-- ---- a step that is given as a value
+
+-- its numbers ask for it
+pub asked-outcome :
+    (s : Service) (x : Step) (n : Numbers)
+    → n ≡ numbersOf x
+    → outcomeAsked s (n .kind) (n .client) (n .file) (n .block) (n .value) ≡ stepOf s x
+asked-outcome s x n is =
+    ap (λ (n : Numbers). outcomeAsked s (n .kind) (n .client) (n .file) (n .block) (n .value)) is
+    ∙ when _ _ (lt-ltb (numbersOf x .kind) kinds (kind-low x))
+    ∙ ap (stepOf s) (asked-back x)
+
+-- what the arrays hold and what was said, read back, is its outcome
+pub stepped-outcome :
+    (given : Sizes) (x : Step) (n : Numbers) (t₀ : List ℕ) (flags₀ : List Bool) (a₀ : Stores) (words₀ t : List ℕ)
+    (flags : List Bool) (a : Stores) (words : List ℕ) (said : ℕ)
+    → n ≡ numbersOf x
+    → Stepped given (n .kind) (n .client) (n .file) (n .block) (n .value) t₀ flags₀ a₀ words₀ t flags a words said
+    → _≡_ {A = Outcome}
+    (record { service = serviceHeld given t flags a; reply = replySaid said words; calls = callsSaid said words })
+    (stepOf (serviceHeld given t₀ flags₀ a₀) x)
+stepped-outcome given x n t₀ flags₀ a₀ words₀ t flags a words said is s =
+    rw (s .service, s .says .says .back, s .calls) (asked-outcome (serviceHeld given t₀ flags₀ a₀) x n is)

@@ -1,0 +1,52 @@
+-- What a step leaves, as the code finds it: by the sizes in force, with its reply as a value. Derived: the contract of
+-- `take_step` does not mention it.
+use Prim.Native.Nat.{ℕ, _%_}
+use mathlib.Core.Path.{_≡_}
+use mathlib.Core.Bool.{Bool, false, cond}
+use mathlib.Core.List.{List}
+use lib.Dec.{eqb}
+use lib.ListN.{length}
+use Rattle.records.specs.declared.record.Mode.{Mode}
+use Rattle.records.specs.declared.record.Mode.the-variants.{Read, Write}
+use Rattle.sizes.specs.declared.sizes.Sizes.{Sizes}
+use Rattle.sizes.specs.Sizes.{inForce}
+use Rattle.protocol.specs.declared.reply.Reply.{Reply}
+use Rattle.protocol.specs.declared.step.Step.{Step}
+use Rattle.protocol.specs.Reply.{letterOf, noCalls}
+use Rattle.blocks.specs.Stores.{Stores}
+use Rattle.table.specs.declared.recovery.RecoveryOutcome.{RecoveryOutcome}
+use Rattle.table.specs.Swept.{Swept}
+use Rattle.words.specs.Said.{calls?}
+use Rattle.service.specs.declared.outcome.Outcome.{Outcome}
+use Rattle.service.specs.Step.{stepOf}
+use Rattle.service.specs.Lent.{recoveringHeld, reportedHeld, serviceHeld, Keeps}
+
+-- the mode of an open or a close, by its kind
+abbrev pub modeAsked : ℕ → Mode
+modeAsked kind = cond (eqb (kind % 2) 1) Write Read
+
+-- the arrays hold the service that the step's definition makes of the one that they held, for all sizes given of which
+-- these are in force
+pub record Serves
+    (sizes : Sizes) (x : Step) (t₀ : List ℕ) (flags₀ : List Bool) (a₀ : Stores) (t : List ℕ) (flags : List Bool)
+    (a : Stores) (reply : Reply) (calls : List ℕ) : Type 0 where
+  pub long : length t ≡ length t₀
+  pub flagsLong : length flags ≡ length flags₀
+  pub taken :
+      (given : Sizes)
+      → sizes ≡ inForce given
+      → _≡_ {A = Outcome}
+      (record { service = serviceHeld given t flags a; reply = reply; calls = calls })
+      (stepOf (serviceHeld given t₀ flags₀ a₀) x)
+  pub quiet : calls? (letterOf reply) ≡ false → calls ≡ noCalls
+  pub keeps : Keeps x reply t₀ flags₀ t flags
+
+-- the rows and the flags do what a step on the table tells
+pub record SweptBy
+    (sizes : Sizes) (done : RecoveryOutcome) (t₀ : List ℕ) (flags₀ : List Bool) (t : List ℕ) (flags : List Bool)
+    (reply : Reply) : Type 0 where
+  pub rows : Swept sizes (done .sweep) t₀ t
+  pub recovers : recoveringHeld flags ≡ done .recovery .recovering
+  pub reports : reportedHeld flags ≡ done .recovery .reported
+  pub flagsLong : length flags ≡ length flags₀
+  pub same : reply ≡ done .reply

@@ -1,0 +1,290 @@
+// The one step function: a step on the service that lent arrays hold, its numbers in, a letter and words out.
+ghost use mathlib.Core.Path.{_≡_};
+ghost use Prim.Native.Nat.{ℕ, _<_};
+ghost use lib.ListN.{length};
+ghost use Rattle.sizes.specs.declared.sizes.Sizes as all;
+ghost use Rattle.sizes.specs.Sizes.{Permitted, inForce};
+ghost use Rattle.protocol.specs.Reply.{noCalls};
+ghost use Rattle.protocol.specs.Step.{kinds, stepAsked};
+ghost use Rattle.blocks.specs.Stores.{lent};
+ghost use Rattle.table.specs.Recovery.{Fits, recoveryStep};
+ghost use Rattle.words.specs.Rows.{tableWords};
+ghost use Rattle.words.specs.Said.{saidRoom};
+ghost use Rattle.service.specs.Lent.{lentFlags, Stepped};
+ghost use Rattle.service.specs.Served.{modeAsked, SweptBy, Serves};
+use crate::flags::FLAGS;
+use crate::flags::put_recovery;
+use crate::flags::recovery_of;
+use access::read_block;
+use access::write_block;
+use file::Response;
+use file::answer;
+use file::close;
+use file::flush;
+use file::open;
+use protocol::NO_STEP;
+use protocol::Reply;
+use records::Mode;
+use sizes::MAX_CELLS;
+use sizes::MAX_CLIENTS;
+use sizes::MAX_FILES;
+use sizes::MAX_PLACES;
+use sizes::Sizes;
+use table::Recovery;
+use table::RecoveryOutcome;
+use table::sweep_rows;
+use words::ROW;
+use words::SAID;
+use words::WORDS;
+use words::say;
+use words::side_of;
+
+// Takes the step that the five numbers are, as `stepAsked` has them; a kind past the last is none. Answers the letter of
+// the reply and 256 times the number of the words that follow it. A refusal leaves every word.
+pub fn take_step(
+    given: Sizes,
+    kind: u64,
+    client: usize,
+    file: usize,
+    block: usize,
+    value: u64,
+    table: &mut [u64; WORDS],
+    flags: &mut [bool; FLAGS],
+    blocks: &mut [u64; MAX_PLACES],
+    copies: &mut [u64; MAX_CELLS],
+    held: &mut [bool; MAX_CELLS],
+    dirty: &mut [bool; MAX_CELLS],
+    words: &mut [u64; SAID],
+) -> u64
+    requires { ⌜ length (now table) ≡ tableWords ⌝ }
+    requires { ⌜ length (now flags) ≡ lentFlags ⌝ }
+    requires { ⌜ length (now words) ≡ saidRoom ⌝ }
+    ensures { λ r. ⌜ Stepped given kind client file block value (now (table .entry)) (now (flags .entry))
+        (lent (now (blocks .entry)) (now (copies .entry)) (now (held .entry)) (now (dirty .entry)))
+        (now (words .entry)) (now (table .exit)) (now (flags .exit))
+        (lent (now (blocks .exit)) (now (copies .exit)) (now (held .exit)) (now (dirty .exit)))
+        (now (words .exit)) r ⌝ }
+{
+    step_in_force(
+        given.in_force(),
+        kind,
+        client,
+        file,
+        block,
+        value,
+        table,
+        flags,
+        blocks,
+        copies,
+        held,
+        dirty,
+        words,
+    )
+}
+
+// The same, by the sizes in force: a loop over steps finds them once.
+pub fn step_in_force(
+    sizes: Sizes,
+    kind: u64,
+    client: usize,
+    file: usize,
+    block: usize,
+    value: u64,
+    table: &mut [u64; WORDS],
+    flags: &mut [bool; FLAGS],
+    blocks: &mut [u64; MAX_PLACES],
+    copies: &mut [u64; MAX_CELLS],
+    held: &mut [bool; MAX_CELLS],
+    dirty: &mut [bool; MAX_CELLS],
+    words: &mut [u64; SAID],
+) -> u64
+    requires { ⌜ Permitted sizes ⌝ }
+    requires { ⌜ length (now table) ≡ tableWords ⌝ }
+    requires { ⌜ length (now flags) ≡ lentFlags ⌝ }
+    requires { ⌜ length (now words) ≡ saidRoom ⌝ }
+    ensures { λ r. ⌜ ((given : all.Sizes) → sizes ≡ inForce given → Stepped given kind client file block value
+        (now (table .entry)) (now (flags .entry))
+        (lent (now (blocks .entry)) (now (copies .entry)) (now (held .entry)) (now (dirty .entry)))
+        (now (words .entry)) (now (table .exit)) (now (flags .exit))
+        (lent (now (blocks .exit)) (now (copies .exit)) (now (held .exit)) (now (dirty .exit)))
+        (now (words .exit)) r) ⌝ }
+{
+    if 10 < kind {
+        return say(Reply::Refused(NO_STEP), [0; MAX_CLIENTS], words);
+    }
+    let response = respond(
+        sizes,
+        kind,
+        client,
+        file,
+        block,
+        value,
+        table,
+        flags,
+        blocks,
+        copies,
+        held,
+        dirty,
+    );
+    let reply = response.reply;
+    let calls = response.calls;
+    say(reply, calls, words)
+}
+
+// The same, its reply as a value. An arm for each kind of step: nothing else chooses among them.
+fn respond(
+    sizes: Sizes,
+    kind: u64,
+    client: usize,
+    file: usize,
+    block: usize,
+    value: u64,
+    table: &mut [u64; WORDS],
+    flags: &mut [bool; FLAGS],
+    blocks: &mut [u64; MAX_PLACES],
+    copies: &mut [u64; MAX_CELLS],
+    held: &mut [bool; MAX_CELLS],
+    dirty: &mut [bool; MAX_CELLS],
+) -> Response
+    requires { ⌜ Permitted sizes ⌝ }
+    requires { ⌜ kind < kinds ⌝ }
+    requires { ⌜ length (now table) ≡ tableWords ⌝ }
+    requires { ⌜ length (now flags) ≡ lentFlags ⌝ }
+    ensures { λ r. ⌜ Serves sizes (stepAsked kind client file block value) (now (table .entry)) (now (flags .entry))
+        (lent (now (blocks .entry)) (now (copies .entry)) (now (held .entry)) (now (dirty .entry)))
+        (now (table .exit)) (now (flags .exit))
+        (lent (now (blocks .exit)) (now (copies .exit)) (now (held .exit)) (now (dirty .exit)))
+        (r .reply) (r .calls) ⌝ }
+{
+    let recovering = flags[8];
+    let mode = mode_asked(kind);
+    match kind {
+        0 | 1 => open(
+            sizes,
+            recovering,
+            mode,
+            client,
+            file,
+            table,
+            copies,
+            held,
+            dirty,
+        ),
+        2 | 3 => silent(close(sizes, recovering, mode, client, file, table, dirty)),
+        4 => {
+            let own = side_of(table[file % MAX_FILES * ROW + (10 + client % MAX_CLIENTS)]);
+            silent(read_block(
+                sizes,
+                recovering,
+                flags[client % MAX_CLIENTS],
+                own,
+                client,
+                file,
+                block,
+                blocks,
+                copies,
+                held,
+                dirty,
+            ))
+        }
+        5 => {
+            let own = side_of(table[file % MAX_FILES * ROW + (10 + client % MAX_CLIENTS)]);
+            silent(write_block(
+                sizes,
+                recovering,
+                flags[client % MAX_CLIENTS],
+                own,
+                client,
+                file,
+                block,
+                value,
+                blocks,
+                copies,
+                held,
+                dirty,
+            ))
+        }
+        6 => silent(flush(
+            sizes,
+            recovering,
+            client,
+            file,
+            block,
+            table,
+            blocks,
+            copies,
+            dirty,
+        )),
+        7 => silent(answer(
+            sizes,
+            recovering,
+            client,
+            file,
+            table,
+            blocks,
+            copies,
+            held,
+            dirty,
+        )),
+        _ => {
+            let recovery = recovery_of(flags);
+            let done = recover(recovery, sizes, kind, client);
+            silent(sweep(sizes, done, table, flags))
+        }
+    }
+}
+
+// A step on the table, by the state of the recovery.
+fn recover(recovery: Recovery, sizes: Sizes, kind: u64, client: usize) -> RecoveryOutcome
+    requires { ⌜ Permitted sizes ⌝ }
+    ensures { λ r. ⌜ ((f b v : ℕ) → 7 < kind → r ≡ recoveryStep sizes recovery (stepAsked kind client f b v)) ⌝ }
+    ensures { λ r. ⌜ Fits (r .sweep) ⌝ }
+{
+    match kind {
+        8 => recovery.crash(sizes),
+        9 => recovery.report(sizes, client),
+        _ => recovery.end(sizes),
+    }
+}
+
+// The mode of an open or a close, by its kind.
+fn mode_asked(kind: u64) -> Mode
+    ensures { λ r. ⌜ r ≡ modeAsked kind ⌝ }
+{
+    if kind % 2 == 1 {
+        Mode::Write
+    } else {
+        Mode::Read
+    }
+}
+
+// A reply that no call goes out with.
+fn silent(reply: Reply) -> Response
+    ensures { λ r. ⌜ r ≡ record { reply = reply; calls = noCalls } ⌝ }
+{
+    Response {
+        reply,
+        calls: [0; MAX_CLIENTS],
+    }
+}
+
+// A step on the table was taken by the state of the recovery: the entries and the flags do as it tells.
+fn sweep(
+    sizes: Sizes,
+    done: RecoveryOutcome,
+    table: &mut [u64; WORDS],
+    flags: &mut [bool; FLAGS],
+) -> Reply
+    requires { ⌜ Permitted sizes ⌝ }
+    requires { ⌜ Fits (done .sweep) ⌝ }
+    requires { ⌜ length (now table) ≡ tableWords ⌝ }
+    requires { ⌜ length (now flags) ≡ lentFlags ⌝ }
+    ensures { λ r. ⌜ SweptBy sizes done (now (table .entry)) (now (flags .entry)) (now (table .exit)) (now (flags .exit)) r ⌝ }
+{
+    let sweep = done.sweep;
+    let after = done.recovery;
+    let reply = done.reply;
+    sweep_rows(sizes, sweep, table);
+    put_recovery(flags, after);
+    reply
+}

@@ -1,0 +1,2 @@
+-- The sizes of the service, and what stands where in its arrays.
+pub mod Sizes
