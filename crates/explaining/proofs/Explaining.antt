@@ -2,7 +2,7 @@
 -- Assumes nothing.
 use Prim.Native.Nat.{ℕ, _+_, _%_, _≤_, _<_}
 use mathlib.Core.Path.{_≡_, refl, sym, ap, subst, _∙_}
-use mathlib.Core.Bool.{Bool, true, false, cond, _&&_}
+use mathlib.Core.Bool.{Bool, true, false, cond, _&&_, true≢false}
 use mathlib.Core.List.{List, []}
 use native.Mathlib.Omega.{arith}
 use lib.Dec.{eqb}
@@ -14,6 +14,7 @@ use Rattle.protocol.specs.declared.reply.Reply.{Reply}
 use Rattle.protocol.specs.declared.step.Numbers.{Numbers}
 use Rattle.protocol.specs.declared.step.Step.{Step}
 use Rattle.protocol.specs.Client.{noClient}
+use Rattle.protocol.specs.Reply.{noCalls}
 use Rattle.protocol.specs.Step.{numbersOf, clientOf, fileOf, blockOf}
 use Rattle.blocks.specs.Stores.{Stores, lent}
 use Rattle.table.specs.TableStep.{noEntry, noSides}
@@ -31,9 +32,10 @@ use Rattle.service.proofs.Speaking.{asked-outcome, stepped-outcome}
 use Rattle.stepfile.specs.declared.parsed.Parsed.{Parsed}
 use Rattle.stepfile.specs.declared.parsed.Parsed.the-variants.{Is, NoStep}
 use Rattle.stepfile.specs.declared.setting.Setting.{Setting}
-use Rattle.stepfile.specs.declared.setting.Setting.the-variants.{Missing}
+use Rattle.stepfile.specs.declared.setting.Setting.the-variants.{Are, OutOfRange, Missing}
 use Rattle.stepfile.specs.Setting.{settingOf}
-use Rattle.stepfile.specs.Played.{outcomeOf}
+use Rattle.stepfile.specs.Played.{refusedWith, setOutcome, outcomeOf}
+use Rattle.reader.specs.FirstLine.{isSet}
 use Rattle.stepfile.specs.declared.parsed.Read.the-variants.{Line}
 use Rattle.stepfile.specs.Input.{readAt}
 use Rattle.writer.specs.Buffer.{WroteIfRoom}
@@ -45,12 +47,12 @@ use Rattle.ledger.proofs.Wrapping.{found-there, noted-wrapped}
 use Rattle.sentences.specs.declared.annotated.Annotated.{Annotated}
 use Rattle.sentences.specs.Scene.{rowOf, sceneHeld}
 use Rattle.sentences.specs.Explained.{saidOf, sentenceOf, noStepText, settingText, explainedText, explainedRoom, explainedLine, annotatedAfter, explainedBy, annotatedBy}
-use Rattle.playing.specs.Lines.{Answers}
 use Rattle.telling.specs.Lines.{canTell}
 use Rattle.telling.proofs.Reaching.{lineBytes, line-bytes}
-use Rattle.telling.proofs.LineByLine.{Reached, one-more}
+use Rattle.telling.specs.Reached.{Reached}
+use Rattle.telling.proofs.LineByLine.{one-more}
 use Rattle.explaining.specs.declared.tell.Seen.{Seen}
-use Rattle.explaining.specs.Lines.{explaining, stateHeld, TellsLine}
+use Rattle.explaining.specs.Lines.{explaining, settingAt, stateHeld, TellsLine}
 use Rattle.explaining.proofs.Scenes.{sceneBy, said-alike}
 
 -- ---- what the row of a file holds
@@ -226,34 +228,70 @@ module _
 
 -- ---- a line that gives no step
 
-pub set-told :
-    (fresh : Bool) (z : Sizes) (n : ℕ) (text t₀ : List ℕ) (flags₀ : List Bool) (a₀ : Stores) (words₀ : List ℕ) (z′ : Sizes)
-    (t : List ℕ) (flags : List Bool) (a : Stores) (words : List ℕ) (said : ℕ)
-    → Answers (outcomeOf fresh (serviceHeld z t₀ flags₀ a₀) n text NoStep) t₀ flags₀ words₀ z′ t flags a words said
-    → (setting : Setting) → setting ≡ cond (fresh && eqb n 1) (settingOf text) Missing
-    → (l : Ledger) (refusals₀ refusals out₀ : List ℕ) (at : ℕ) (out : List ℕ) (at′ : ℕ)
-    → ((reply : Reply) (calls : List ℕ) → Says said words reply calls
-    → WroteIfRoom explainedRoom out₀ at (explainedText n reply calls (settingText setting)) out at′)
-    → at′ ≤ at + explainedRoom
-    → refusals ≡ refusalsAfter (replySaid said words) refusals₀
-    → TellsLine fresh (stateHeld z t₀ flags₀ a₀ l refusals₀) n text NoStep out₀ at (stateHeld z′ t flags a l refusals) out at′
-set-told fresh z n text t₀ flags₀ a₀ words₀ z′ t flags a words said answers setting set l refusals₀ refusals out₀ at out at′ wrote most counts =
-    let o : Outcome = outcomeOf fresh (serviceHeld z t₀ flags₀ a₀) n text NoStep in
-    let counted : refusals ≡ refusalsAfter (o .reply) refusals₀ =
-    counts ∙ ap (λ (r : Reply). refusalsAfter r refusals₀) (answers .says .says .back) in
-    let words-are : settingText setting ≡ cond (fresh && eqb n 1) (settingText (settingOf text)) noStepText =
-    ap settingText set ∙ said-cond (fresh && eqb n 1) in
-    record {
-      next = λ k. record { service = answers .service k; ledger = l; refusals = counted k };
-      wrote =
-          subst (λ (k : List ℕ). WroteIfRoom explainedRoom out₀ at (explainedText n (o .reply) (o .calls) k) out at′) words-are
-          (wrote (o .reply) (o .calls) (answers .says .says));
-      most = most;
-    }
+-- it is told by what it sets
+module _ (fresh : Bool) (s : Service) (n : ℕ) (text : List ℕ) (x : Setting) (set : x ≡ settingAt fresh n text) where
+  outcome-set : setOutcome s x ≡ outcomeOf fresh s n text NoStep
+  outcome-set = ap (setOutcome s) set ∙ by (fresh && eqb n 1)
+    where
+      by : (first : Bool) → setOutcome s (cond first (settingOf text) Missing) ≡ cond first (setOutcome s (settingOf text)) (refusedWith s 1)
+      by true = refl
+      by false = refl
+
+  said-set : settingText x ≡ cond (fresh && eqb n 1) (settingText (settingOf text)) noStepText
+  said-set = ap settingText set ∙ by (fresh && eqb n 1)
+    where
+      by : (first : Bool) → settingText (cond first (settingOf text) Missing) ≡ cond first (settingText (settingOf text)) noStepText
+      by true = refl
+      by false = refl
+
+  no-calls : noCalls ≡ setOutcome s x .calls
+  no-calls = by x
+    where
+      by : (y : Setting) → noCalls ≡ setOutcome s y .calls
+      by (Are z) = refl
+      by OutOfRange = refl
+      by Missing = refl
+
+  pub set-told :
+      (l : Ledger) (s′ : Service) (reply : Reply) (refusals₀ refusals out₀ : List ℕ) (at : ℕ) (out : List ℕ) (at′ : ℕ)
+      → s′ ≡ setOutcome s x .service
+      → reply ≡ setOutcome s x .reply
+      → WroteIfRoom explainedRoom out₀ at (explainedText n reply noCalls (settingText x)) out at′
+      → at′ ≤ at + explainedRoom
+      → refusals ≡ refusalsAfter reply refusals₀
+      → TellsLine fresh (record { service = s; ledger = l; refusals = refusals₀ }) n text NoStep out₀ at
+      (record { service = s′; ledger = l; refusals = refusals }) out at′
+  set-told l s′ reply refusals₀ refusals out₀ at out at′ goes replies wrote most counts =
+      let o : Outcome = outcomeOf fresh s n text NoStep in
+      let outcome : _≡_ {A = Outcome} (record { service = s′; reply = reply; calls = noCalls }) o =
+      (λ k. record { service = goes k; reply = replies k; calls = no-calls k }) ∙ outcome-set in
+      let counted : refusals ≡ refusalsAfter (o .reply) refusals₀ =
+      counts ∙ ap (λ (o : Outcome). refusalsAfter (o .reply) refusals₀) outcome in
+      record {
+        next = λ k. record { service = outcome k .service; ledger = l; refusals = counted k };
+        wrote =
+            subst
+            (λ (t : List ℕ). WroteIfRoom explainedRoom out₀ at (explainedText n (o .reply) (o .calls) t) out at′)
+            said-set
+            (subst
+            (λ (o : Outcome). WroteIfRoom explainedRoom out₀ at (explainedText n (o .reply) (o .calls) (settingText x)) out at′)
+            outcome
+            wrote);
+        most = most;
+      }
+
+-- a line that does not choose the sizes sets nothing
+pub sets-nothing : (fresh : Bool) (n : ℕ) (text : List ℕ) → ((fresh && eqb n 1) && isSet (settingOf text)) ≡ false → Missing ≡ settingAt fresh n text
+sets-nothing fresh n text plain = sym (by (fresh && eqb n 1) plain)
   where
-    said-cond : (first : Bool) → settingText (cond first (settingOf text) Missing) ≡ cond first (settingText (settingOf text)) noStepText
-    said-cond true = refl
-    said-cond false = refl
+    unset : (x : Setting) → isSet x ≡ false → x ≡ Missing
+    unset (Are z) e = absurd (true≢false e)
+    unset OutOfRange e = absurd (true≢false e)
+    unset Missing e = refl
+
+    by : (first : Bool) → (first && isSet (settingOf text)) ≡ false → cond first (settingOf text) Missing ≡ Missing
+    by true e = unset (settingOf text) e
+    by false e = refl
 
 -- ---- one line more: it was read, and told
 

@@ -2,19 +2,25 @@
 -- says whether the session began with the fresh service: a first line may choose its sizes then.
 use Prim.Native.Nat.{ℕ, _+_, _≤_}
 use mathlib.Core.Path.{_≡_}
-use mathlib.Core.Bool.{Bool}
+use mathlib.Core.Bool.{Bool, false, cond, _&&_}
 use mathlib.Core.List.{List}
+use lib.Dec.{eqb}
+use lib.ListN.{length, drop}
 use Rattle.sizes.specs.declared.sizes.Sizes.{Sizes}
 use Rattle.blocks.specs.Stores.{Stores}
 use Rattle.service.specs.Lent.{serviceHeld}
 use Rattle.stepfile.specs.declared.parsed.Parsed.{Parsed}
+use Rattle.stepfile.specs.declared.setting.Setting.{Setting}
+use Rattle.stepfile.specs.declared.setting.Setting.the-variants.{Missing}
+use Rattle.stepfile.specs.Setting.{settingOf}
 use Rattle.writer.specs.Buffer.{WroteIfRoom}
 use Rattle.ledger.specs.declared.ledger.Ledger.{Ledger}
 use Rattle.sentences.specs.declared.annotated.Annotated.{Annotated}
 use Rattle.sentences.specs.Explained.{explainedLine, annotatedAfter, explainedBy, annotatedBy, explainedRoom}
 use Rattle.picture.specs.Picture.{pictureText, pictureRoom}
-use Rattle.telling.specs.Lines.{Telling, Reach, Tells}
-use Rattle.playing.specs.Lines.{Long}
+use Rattle.telling.specs.Lines.{Telling, Reach, Tells, canTell}
+use Rattle.telling.specs.Reached.{Reached}
+use Rattle.playing.specs.Lines.{choosesSizes, Long}
 use Rattle.explaining.specs.declared.lines.Progress.{Progress}
 
 -- a line is explained by what `play` prints for it and a sentence, and the end by the picture
@@ -31,6 +37,10 @@ explaining fresh =
 -- the service that the arrays hold, with the ledger and the counts of refusals beside it
 abbrev pub stateHeld : Sizes → List ℕ → List Bool → Stores → Ledger → List ℕ → Annotated
 stateHeld z t flags a l refusals = record { service = serviceHeld z t flags a; ledger = l; refusals = refusals }
+
+-- what line l, numbered n, sets: only the first may, in a session that began with the fresh service
+abbrev pub settingAt : Bool → ℕ → List ℕ → Setting
+settingAt fresh n l = cond (fresh && eqb n 1) (settingOf l) Missing
 
 -- Line l, numbered n, which gives p, is told from the state s: s′ is the state after it, and its text is written from
 -- the offset on, if there is room.
@@ -59,4 +69,19 @@ pub record Explains
     (refusals : List ℕ) : Type 0 where
   pub tells :
       Tells (explaining fresh) (stateHeld z t₀ flags₀ a₀ l₀ refusals₀) n input out₀ (reachHeld p t flags a l refusals) out
+  pub long : Long t₀ flags₀ t flags
+
+-- An input begins with a line that chooses the sizes, and it is told, or nothing is: no line that can be told next
+-- chooses them. The ledger notes nothing of it.
+pub record Begins
+    (fresh : Bool) (z : Sizes) (n : ℕ) (input out₀ t₀ : List ℕ) (flags₀ : List Bool) (a₀ : Stores) (l : Ledger)
+    (refusals₀ : List ℕ) (p : Progress) (out t : List ℕ) (flags : List Bool) (a : Stores) (refusals : List ℕ)
+    : Type 0 where
+  pub reached :
+      Reached (explaining fresh) (stateHeld z t₀ flags₀ a₀ l refusals₀) n input out₀
+      (stateHeld (p .sizes) t flags a l refusals) (p .number) (p .used) (p .written) out
+  pub chosen :
+      (choosesSizes fresh (p .number) (drop (p .used) input)
+      && canTell explainedRoom (length out) (p .written) (p .number))
+      ≡ false
   pub long : Long t₀ flags₀ t flags

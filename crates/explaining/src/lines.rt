@@ -4,18 +4,22 @@ ghost use lib.ListN.{length};
 ghost use Rattle.blocks.specs.Stores.{lent};
 ghost use Rattle.words.specs.Rows.{tableWords};
 ghost use Rattle.service.specs.Lent.{lentFlags};
+ghost use Rattle.ledger.specs.declared.ledger.Ledger.{Ledger};
 ghost use Rattle.ledger.specs.Ledger.{entered};
-ghost use Rattle.explaining.specs.Lines.{Explains};
+ghost use Rattle.explaining.specs.Lines.{Explains, Begins};
 use crate::tell::look;
+use crate::tell::tell_no_step;
 use crate::tell::tell_setting;
 use crate::tell::tell_step;
 use ledger::REFUSAL_NUMBERS;
 use protocol::asked;
+use reader::is_set;
 use reader::read_at;
+use reader::read_first_setting;
 use sentences::EXPLAINED_ROOM;
 use sentences::row_at;
 use service::FLAGS;
-use service::step_in_force;
+use service::take_step;
 use sizes::MAX_CELLS;
 use sizes::MAX_FILES;
 use sizes::MAX_PLACES;
@@ -67,48 +71,42 @@ pub fn explain_lines(
         (entered (now (written .exit)) (now (writers .exit)) (now (copied .exit)) (now (waiting .exit)))
         (now (refusals .exit)) ⌝ }
 {
+    let begun = explain_first(
+        fresh,
+        sizes,
+        first,
+        input,
+        out,
+        table,
+        flags,
+        blocks,
+        copies,
+        held,
+        dirty,
+        refusals,
+    );
+    let given = begun.sizes;
+    let force = given.in_force();
     let mut words = [0u64; SAID];
-    let mut given = sizes;
-    let mut force = sizes.in_force();
-    let mut number = first;
-    let mut used: usize = 0;
-    let mut to: usize = 0;
+    let mut number = begun.number;
+    let mut used = begun.used;
+    let mut to = begun.written;
     while can_tell(EXPLAINED_ROOM, out.len(), to, number) {
         let Read::Line { parsed, next } = read_at(input, used) else {
             break;
         };
         let line = number;
-        let at = used;
         used = next;
         number += 1;
         let Parsed::Is(step) = parsed else {
-            let set = tell_setting(
-                out,
-                to,
-                line,
-                fresh,
-                given,
-                &input[at..next - 1],
-                table,
-                flags,
-                blocks,
-                copies,
-                held,
-                dirty,
-                &mut words,
-                refusals,
-            );
-            let after = set.sizes;
-            given = after;
-            force = after.in_force();
-            to = set.to;
+            to = tell_no_step(out, to, line, &mut words, refusals);
             continue;
         };
         let named = asked(step);
         let row = row_at(table, named.file % MAX_FILES);
         let seen = look(named, &row, held, dirty, written, writers, copied);
-        let said = step_in_force(
-            force,
+        let said = take_step(
+            given,
             named.kind,
             named.client,
             named.file,
@@ -147,5 +145,63 @@ pub fn explain_lines(
         number,
         used,
         written: to,
+    }
+}
+
+// Explains the line that chooses the sizes, if the input begins with one: the sizes are then those of all other lines.
+fn explain_first(
+    fresh: bool,
+    sizes: Sizes,
+    first: u64,
+    input: &[u8],
+    out: &mut [u8],
+    table: &mut [u64; WORDS],
+    flags: &mut [bool; FLAGS],
+    blocks: &mut [u64; MAX_PLACES],
+    copies: &mut [u64; MAX_CELLS],
+    held: &mut [bool; MAX_CELLS],
+    dirty: &mut [bool; MAX_CELLS],
+    refusals: &mut [u64; REFUSAL_NUMBERS],
+) -> Progress
+    requires { ⌜ length (now table) ≡ tableWords ⌝ }
+    requires { ⌜ length (now flags) ≡ lentFlags ⌝ }
+    ensures { λ r. ⌜ ((l : Ledger) → Begins fresh sizes first (now (input .entry)) (now (out .entry))
+        (now (table .entry)) (now (flags .entry))
+        (lent (now (blocks .entry)) (now (copies .entry)) (now (held .entry)) (now (dirty .entry))) l
+        (now (refusals .entry)) r (now (out .exit)) (now (table .exit)) (now (flags .exit))
+        (lent (now (blocks .exit)) (now (copies .exit)) (now (held .exit)) (now (dirty .exit)))
+        (now (refusals .exit))) ⌝ }
+{
+    let line = read_first_setting(input);
+    let setting = line.setting;
+    let chooses = fresh & (first == 1) & is_set(setting);
+    if !(chooses & can_tell(EXPLAINED_ROOM, out.len(), 0, first)) {
+        return Progress {
+            sizes,
+            number: first,
+            used: 0,
+            written: 0,
+        };
+    }
+    let set = tell_setting(
+        out,
+        0,
+        first,
+        sizes,
+        setting,
+        table,
+        flags,
+        blocks,
+        copies,
+        held,
+        dirty,
+        refusals,
+    );
+    let after = set.sizes;
+    Progress {
+        sizes: after,
+        number: first + 1,
+        used: line.next,
+        written: set.to,
     }
 }

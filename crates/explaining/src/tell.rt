@@ -1,9 +1,8 @@
 // One line explained: what it finds is looked at, its text is written, and the line is noted beside the service.
 ghost use mathlib.Core.Path.{_≡_};
-ghost use mathlib.Core.Bool.{false, cond, _&&_};
+ghost use mathlib.Core.Bool.{Bool, false};
 ghost use mathlib.Core.List.{List, []};
 ghost use Prim.Native.Nat.{ℕ, _+_, _/_, _%_, _≤_};
-ghost use lib.Dec.{eqb};
 ghost use lib.ListN.{length, getD};
 ghost use Rattle.sizes.specs.Sizes.{maxClients, maxFiles, maxBlocks, Permitted, cell};
 ghost use Rattle.protocol.specs.declared.reply.Reply.{Reply};
@@ -12,10 +11,10 @@ ghost use Rattle.blocks.specs.Stores.{lent};
 ghost use Rattle.words.specs.Words.{sideHeld};
 ghost use Rattle.words.specs.Rows.{rowWords, tableWords};
 ghost use Rattle.words.specs.Said.{saidRoom, callsSaid, replySaid, Says};
+ghost use Rattle.service.specs.declared.service.Service.{Service};
 ghost use Rattle.service.specs.Lent.{lentFlags};
 ghost use Rattle.stepfile.specs.declared.parsed.Parsed.the-variants.{NoStep};
 ghost use Rattle.stepfile.specs.declared.setting.Setting.the-variants as settings;
-ghost use Rattle.stepfile.specs.Setting.{settingOf};
 ghost use Rattle.writer.specs.Buffer.{WroteIfRoom};
 ghost use Rattle.ledger.specs.declared.ledger.Ledger.{Ledger};
 ghost use Rattle.ledger.specs.Ledger.{entered, noted, toldOf};
@@ -24,7 +23,7 @@ ghost use Rattle.ledger.specs.Wrapped.{wrappedStep};
 ghost use Rattle.sentences.specs.Scene.{sceneHeld};
 ghost use Rattle.sentences.specs.Explained.{saidOf, explainedText, explainedRoom};
 ghost use Rattle.playing.specs.Lines.{Long};
-ghost use Rattle.explaining.specs.Lines.{stateHeld, TellsLine};
+ghost use Rattle.explaining.specs.Lines.{settingAt, stateHeld, TellsLine};
 use blocks::cell_of;
 use ledger::REFUSAL_NUMBERS;
 use ledger::Told;
@@ -32,10 +31,12 @@ use ledger::count_refusal;
 use ledger::note_line;
 use ledger::read_told;
 use playing::choose_sizes;
+use playing::reply_to;
+use protocol::NO_STEP;
 use protocol::Numbers;
+use protocol::Reply;
 use protocol::Step;
 use protocol::asked;
-use reader::read_setting;
 use sentences::explain_setting;
 use sentences::explain_step;
 use service::FLAGS;
@@ -49,6 +50,7 @@ use words::ROW;
 use words::SAID;
 use words::WORDS;
 use words::reply_of;
+use words::say;
 use words::side_of;
 
 // What a line looks at before its step is taken.
@@ -178,72 +180,71 @@ pub fn tell_step(
     )
 }
 
-// The sizes after a line, and the offset past its text.
+// The sizes after a setting, and the offset past its text.
 pub struct Set {
     pub sizes: Sizes,
     pub to: usize,
 }
 
-// A line that gave none: the first may choose the sizes, in a session that began with the fresh service.
+// A line that sets the sizes.
 pub fn tell_setting(
     out: &mut [u8],
     at: usize,
     number: u64,
-    fresh: bool,
     sizes: Sizes,
-    line: &[u8],
+    setting: Setting,
     table: &mut [u64; WORDS],
     flags: &mut [bool; FLAGS],
     blocks: &mut [u64; MAX_PLACES],
     copies: &mut [u64; MAX_CELLS],
     held: &mut [bool; MAX_CELLS],
     dirty: &mut [bool; MAX_CELLS],
-    words: &mut [u64; SAID],
     refusals: &mut [u64; REFUSAL_NUMBERS],
 ) -> Set
     requires { ⌜ length (now table) ≡ tableWords ⌝ }
     requires { ⌜ length (now flags) ≡ lentFlags ⌝ }
-    requires { ⌜ length (now words) ≡ saidRoom ⌝ }
-    ensures { λ r. ⌜ ((l : Ledger) → TellsLine fresh
+    ensures { λ r. ⌜ ((fresh : Bool) (l : Ledger) (text : List ℕ)
+        → setting ≡ settingAt fresh number text
+        → TellsLine fresh
         (stateHeld sizes (now (table .entry)) (now (flags .entry))
         (lent (now (blocks .entry)) (now (copies .entry)) (now (held .entry)) (now (dirty .entry))) l
         (now (refusals .entry)))
-        number (now (line .entry)) NoStep (now (out .entry)) at
+        number text NoStep (now (out .entry)) at
         (stateHeld (r .sizes) (now (table .exit)) (now (flags .exit))
         (lent (now (blocks .exit)) (now (copies .exit)) (now (held .exit)) (now (dirty .exit))) l
         (now (refusals .exit)))
         (now (out .exit)) (r .to)) ⌝ }
     ensures { λ _. ⌜ Long (now (table .entry)) (now (flags .entry)) (now (table .exit)) (now (flags .exit)) ⌝ }
-    ensures { λ _. ⌜ length (now (words .exit)) ≡ length (now (words .entry)) ⌝ }
 {
-    let chosen = choose_sizes(
-        fresh,
-        sizes,
-        number,
-        line,
-        table,
-        flags,
-        blocks,
-        copies,
-        held,
-        dirty,
-        words,
-    );
-    let after = chosen.sizes;
-    let setting = setting_at(fresh, number, line);
-    count_refusal(reply_of(chosen.said, words), refusals);
+    let chosen = choose_sizes(sizes, setting, table, flags, blocks, copies, held, dirty);
+    let mut words = [0u64; SAID];
+    let reply = reply_to(setting);
+    let said = say(reply, [0; MAX_CLIENTS], &mut words);
+    count_refusal(reply, refusals);
     Set {
-        sizes: after,
-        to: explain_setting(out, at, number, chosen.said, words, setting),
+        sizes: chosen,
+        to: explain_setting(out, at, number, said, &words, setting),
     }
 }
 
-// What a line that gave no step sets.
-fn setting_at(fresh: bool, number: u64, line: &[u8]) -> Setting
-    ensures { λ r. ⌜ r ≡ cond (fresh && eqb number 1) (settingOf (now (line .entry))) settings.Missing ⌝ }
+// A line that gives no step, and sets nothing.
+pub fn tell_no_step(
+    out: &mut [u8],
+    at: usize,
+    number: u64,
+    words: &mut [u64; SAID],
+    refusals: &mut [u64; REFUSAL_NUMBERS],
+) -> usize
+    requires { ⌜ length (now words) ≡ saidRoom ⌝ }
+    ensures { λ r. ⌜ ((fresh : Bool) (s : Service) (l : Ledger) (text : List ℕ)
+        → settings.Missing ≡ settingAt fresh number text
+        → TellsLine fresh (record { service = s; ledger = l; refusals = now (refusals .entry) })
+        number text NoStep (now (out .entry)) at
+        (record { service = s; ledger = l; refusals = now (refusals .exit) })
+        (now (out .exit)) r) ⌝ }
+    ensures { λ _. ⌜ length (now (words .exit)) ≡ length (now (words .entry)) ⌝ }
 {
-    if fresh & (number == 1) {
-        return read_setting(line);
-    }
-    Setting::Missing
+    let said = say(Reply::Refused(NO_STEP), [0; MAX_CLIENTS], words);
+    count_refusal(Reply::Refused(NO_STEP), refusals);
+    explain_setting(out, at, number, said, words, Setting::Missing)
 }

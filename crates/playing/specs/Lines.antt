@@ -2,22 +2,23 @@
 -- choose the sizes.
 use Prim.Native.Nat.{ℕ}
 use mathlib.Core.Path.{_≡_}
-use mathlib.Core.Bool.{Bool}
+use mathlib.Core.Bool.{Bool, false, _&&_}
 use mathlib.Core.List.{List}
-use lib.ListN.{length}
+use lib.Dec.{eqb}
+use lib.ListN.{length, drop}
 use Rattle.sizes.specs.declared.sizes.Sizes.{Sizes}
 use Rattle.protocol.specs.declared.step.Numbers.{Numbers}
 use Rattle.protocol.specs.Step.{five, kinds, numbersOf}
 use Rattle.blocks.specs.Stores.{Stores}
-use Rattle.words.specs.Said.{SaysIn}
 use Rattle.service.specs.declared.service.Service.{Service}
-use Rattle.service.specs.declared.outcome.Outcome.{Outcome}
 use Rattle.service.specs.Lent.{serviceHeld}
 use Rattle.stepfile.specs.declared.parsed.Parsed.{Parsed}
 use Rattle.stepfile.specs.declared.parsed.Parsed.the-variants.{Is, NoStep}
 use Rattle.stepfile.specs.Played.{replyLine, serviceAfter, summaryOf}
+use Rattle.reader.specs.FirstLine.{isSet, firstSetting}
 use Rattle.writer.specs.Buffer.{lineRoom, summaryRoom}
-use Rattle.telling.specs.Lines.{Telling, Reach, Tells}
+use Rattle.telling.specs.Lines.{Telling, Reach, Tells, canTell}
+use Rattle.telling.specs.Reached.{Reached}
 use Rattle.playing.specs.declared.lines.Progress.{Progress}
 
 -- the player tells the reply to each line, and at the end the summary
@@ -41,13 +42,9 @@ pub record Long (t₀ : List ℕ) (flags₀ : List Bool) (t : List ℕ) (flags :
   pub rows : length t ≡ length t₀
   pub reports : length flags ≡ length flags₀
 
--- The outcome is in the arrays: they hold its service, by the sizes z, and its reply and its calls are said.
-pub record Answers
-    (o : Outcome) (t₀ : List ℕ) (flags₀ : List Bool) (words₀ : List ℕ) (z : Sizes) (t : List ℕ) (flags : List Bool)
-    (a : Stores) (words : List ℕ) (said : ℕ) : Type 0 where
-  pub long : Long t₀ flags₀ t flags
-  pub service : serviceHeld z t flags a ≡ o .service
-  pub says : SaysIn words₀ said words (o .reply) (o .calls)
+-- whether the first line of an input, numbered n, chooses the sizes
+abbrev pub choosesSizes : Bool → ℕ → List ℕ → Bool
+choosesSizes settable n input = (settable && eqb n 1) && isSet (firstSetting input .setting)
 
 -- how far it went, with the service that the arrays hold then
 abbrev pub reachHeld : Progress → List ℕ → List Bool → Stores → Reach Service
@@ -65,4 +62,17 @@ pub record Plays
     (settable : Bool) (z : Sizes) (n : ℕ) (input out₀ t₀ : List ℕ) (flags₀ : List Bool) (a₀ : Stores) (p : Progress)
     (out t : List ℕ) (flags : List Bool) (a : Stores) : Type 0 where
   pub tells : Tells (playing settable) (serviceHeld z t₀ flags₀ a₀) n input out₀ (reachHeld p t flags a) out
+  pub long : Long t₀ flags₀ t flags
+
+-- An input begins with a line that chooses the sizes, and it is told, or nothing is: no line that can be told next
+-- chooses them.
+pub record Begins
+    (settable : Bool) (z : Sizes) (n : ℕ) (input out₀ t₀ : List ℕ) (flags₀ : List Bool) (a₀ : Stores) (p : Progress)
+    (out t : List ℕ) (flags : List Bool) (a : Stores) : Type 0 where
+  pub reached :
+      Reached (playing settable) (serviceHeld z t₀ flags₀ a₀) n input out₀ (serviceHeld (p .sizes) t flags a) (p .number)
+      (p .used) (p .written) out
+  pub chosen :
+      (choosesSizes settable (p .number) (drop (p .used) input) && canTell lineRoom (length out) (p .written) (p .number))
+      ≡ false
   pub long : Long t₀ flags₀ t flags

@@ -9,7 +9,7 @@ pub use lines::Progress;
 pub use lines::play_lines;
 pub use session::Advance;
 pub use session::Session;
-pub use setting::Chosen;
 pub use setting::choose_sizes;
+pub use setting::reply_to;
 pub use turn::Turn;
 pub use turn::play_turn;

@@ -4,4 +4,5 @@ pub mod Shapes
 pub mod Words
 pub mod Whole
 pub mod Settings
+pub mod FirstSettings
 pub mod LineFeeds

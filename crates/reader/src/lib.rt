@@ -6,4 +6,7 @@ mod step;
 
 pub use line::read_at;
 pub use line::read_line;
+pub use setting::FirstSetting;
+pub use setting::is_set;
+pub use setting::read_first_setting;
 pub use setting::read_setting;

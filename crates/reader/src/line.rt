@@ -39,7 +39,7 @@ pub fn read_at(input: &[u8], at: usize) -> Read
 }
 
 // The line that starts at the offset, which is no step.
-fn no_step_at(input: &[u8], at: usize) -> Read
+pub fn no_step_at(input: &[u8], at: usize) -> Read
     ensures { λ r. ⌜ r ≡ noStepAt (now (input .entry)) at ⌝ }
 {
     let mut i = at;

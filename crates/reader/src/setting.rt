@@ -4,10 +4,45 @@ ghost use mathlib.Core.List.{[]};
 ghost use lib.ListN.{getD, drop};
 ghost use Rattle.stepfile.specs.Grammar.{found};
 ghost use Rattle.stepfile.specs.Setting.{beginsWithSet, sizesAt, settled, settingOf};
+ghost use Rattle.reader.specs.FirstLine.{isSet, firstSetting};
+use crate::line::no_step_at;
 use crate::number::Number;
 use crate::number::argument_at;
 use sizes::Sizes;
+use stepfile::Read;
 use stepfile::Setting;
+
+// What the first line of an input sets, and the offset past it.
+pub struct FirstSetting {
+    pub setting: Setting,
+    pub next: usize,
+}
+
+pub fn read_first_setting(input: &[u8]) -> FirstSetting
+    ensures { λ r. ⌜ r ≡ firstSetting (now (input .entry)) ⌝ }
+{
+    let Read::Line { parsed: _, next } = no_step_at(input, 0) else {
+        return FirstSetting {
+            setting: Setting::Missing,
+            next: 0,
+        };
+    };
+    FirstSetting {
+        setting: read_setting(&input[..next - 1]),
+        next,
+    }
+}
+
+// Whether a line is a settings line, in range or not.
+pub fn is_set(setting: Setting) -> bool
+    ensures { λ r. ⌜ r ≡ isSet setting ⌝ }
+{
+    match setting {
+        Setting::Are(_) => true,
+        Setting::OutOfRange => true,
+        Setting::Missing => false,
+    }
+}
 
 // What a whole line gives as settings.
 pub fn read_setting(line: &[u8]) -> Setting

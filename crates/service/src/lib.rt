@@ -16,5 +16,4 @@ pub use holding::hold_fresh;
 pub use outcome::Outcome;
 pub use service::Server;
 pub use service::Service;
-pub use taking::step_in_force;
 pub use taking::take_step;

@@ -2,8 +2,7 @@
 ghost use mathlib.Core.Path.{_≡_};
 ghost use Prim.Native.Nat.{ℕ, _<_};
 ghost use lib.ListN.{length};
-ghost use Rattle.sizes.specs.declared.sizes.Sizes as all;
-ghost use Rattle.sizes.specs.Sizes.{Permitted, inForce};
+ghost use Rattle.sizes.specs.Sizes.{Permitted};
 ghost use Rattle.protocol.specs.Reply.{noCalls};
 ghost use Rattle.protocol.specs.Step.{kinds, stepAsked};
 ghost use Rattle.blocks.specs.Stores.{lent};
@@ -65,53 +64,10 @@ pub fn take_step(
         (lent (now (blocks .exit)) (now (copies .exit)) (now (held .exit)) (now (dirty .exit)))
         (now (words .exit)) r ⌝ }
 {
-    step_in_force(
-        given.in_force(),
-        kind,
-        client,
-        file,
-        block,
-        value,
-        table,
-        flags,
-        blocks,
-        copies,
-        held,
-        dirty,
-        words,
-    )
-}
-
-// The same, by the sizes in force: a loop over steps finds them once.
-pub fn step_in_force(
-    sizes: Sizes,
-    kind: u64,
-    client: usize,
-    file: usize,
-    block: usize,
-    value: u64,
-    table: &mut [u64; WORDS],
-    flags: &mut [bool; FLAGS],
-    blocks: &mut [u64; MAX_PLACES],
-    copies: &mut [u64; MAX_CELLS],
-    held: &mut [bool; MAX_CELLS],
-    dirty: &mut [bool; MAX_CELLS],
-    words: &mut [u64; SAID],
-) -> u64
-    requires { ⌜ Permitted sizes ⌝ }
-    requires { ⌜ length (now table) ≡ tableWords ⌝ }
-    requires { ⌜ length (now flags) ≡ lentFlags ⌝ }
-    requires { ⌜ length (now words) ≡ saidRoom ⌝ }
-    ensures { λ r. ⌜ ((given : all.Sizes) → sizes ≡ inForce given → Stepped given kind client file block value
-        (now (table .entry)) (now (flags .entry))
-        (lent (now (blocks .entry)) (now (copies .entry)) (now (held .entry)) (now (dirty .entry)))
-        (now (words .entry)) (now (table .exit)) (now (flags .exit))
-        (lent (now (blocks .exit)) (now (copies .exit)) (now (held .exit)) (now (dirty .exit)))
-        (now (words .exit)) r) ⌝ }
-{
     if 10 < kind {
         return say(Reply::Refused(NO_STEP), [0; MAX_CLIENTS], words);
     }
+    let sizes = given.in_force();
     let response = respond(
         sizes,
         kind,
@@ -131,7 +87,7 @@ pub fn step_in_force(
     say(reply, calls, words)
 }
 
-// The same, its reply as a value. An arm for each kind of step: nothing else chooses among them.
+// The same, by the sizes in force, its reply as a value. An arm for each kind of step: nothing else chooses among them.
 fn respond(
     sizes: Sizes,
     kind: u64,

@@ -17,8 +17,9 @@ use Rattle.sizes.proofs.Choosing.{and-left, and-right}
 use Rattle.stepfile.proofs.FirstLines.{whole-none}
 use Rattle.writer.specs.Buffer.{written, Wrote, WroteIfRoom}
 use Rattle.writer.proofs.Buffers.{length-written, wrote-none, wrote-then, wrote-as, if-room-wrote}
-use Rattle.telling.specs.Lines.{Telling, Reach, Tells, lastNumber, canTell, saidOver, stoppedAt, reachOf, reach}
-use Rattle.telling.proofs.Reaching.{LineAt, line-at, At, at-start, at-next, transcript-next, reach-next, reach-full, reach-none}
+use Rattle.telling.specs.Lines.{Telling, Reach, Tells, lastNumber, isNumber, canTell, saidOver, stoppedAt, reachOf, reach}
+use Rattle.telling.specs.Reached.{At, Reached}
+use Rattle.telling.proofs.Reaching.{LineAt, line-at, at-start, at-next, transcript-next, reach-next, reach-full, reach-none}
 use Rattle.telling.proofs.Resting.{no-lf}
 
 abbrev isLine : Read → Bool
@@ -28,6 +29,8 @@ isLine Part = false
 -- a line that was read at an offset
 pub record ReadLine (input : List ℕ) (used : ℕ) (p : Parsed) (next : ℕ) : Type 0 where
   pub line : List ℕ
+  pub rest : List ℕ
+  pub first : firstLine (drop used input) ≡ found line rest
   pub gives : parseLine line ≡ p
   pub at : LineAt input used line next
   pub offset : used + length line + 1 ≡ next
@@ -40,7 +43,7 @@ read-line input used p next h e = from (firstLine (drop used input)) refl e
     from (found l r) q f =
         let gives : parseLine l ≡ p = cc in
         let offset : used + length l + 1 ≡ next = cc in
-        record { line = l; gives = gives; at = line-at input used h l r next offset q; offset = offset }
+        record { line = l; rest = r; first = q; gives = gives; at = line-at input used h l r next offset q; offset = offset }
     from nothing q f = absurd (false≢true (ap isLine f))
 
 -- fewer bytes are left past it
@@ -55,20 +58,26 @@ no-line input used e = from (firstLine (drop used input)) refl e
     from (found l r) q f = absurd (true≢false (ap isLine f))
     from nothing q f = whole-none (drop used input) (no-lf (drop used input) q)
 
--- another line can be told: there is room for it, and a number for the next
+-- another line can be told: there is room for it, and its number is one
 module _ (need room to number : ℕ) (can : canTell need room to number ≡ true) where
   pub has-room : to + need ≤ room
-  has-room = leb-true (to + need) room (and-left (leb (to + need) room) (ltb number lastNumber) can)
+  has-room = leb-true (to + need) room (and-left (leb (to + need) room) (isNumber number) can)
+
+  numbered : isNumber number ≡ true
+  numbered = and-right (leb (to + need) room) (isNumber number) can
+
+  pub from-1 : 0 < number
+  from-1 = ltb-true 0 number (and-left (ltb 0 number) (ltb number lastNumber) numbered)
 
   pub has-number : number < lastNumber
-  has-number = ltb-true number lastNumber (and-right (leb (to + need) room) (ltb number lastNumber) can)
+  has-number = ltb-true number lastNumber (and-right (ltb 0 number) (ltb number lastNumber) numbered)
 
--- What the loop has done when it stands before a line: what is said so far is written, and the rest of the input gives
--- what the whole was to give.
-pub record Reached {S : Type 0} (t : Telling S) (s : S) (n : ℕ) (input out : List ℕ) (x : S) (number used to : ℕ) (out′ : List ℕ) : Type 0 where
-  pub at : At t s n input x number used to
-  pub writes : Wrote out 0 (saidOver t s n (take used input)) out′ to
-  pub on : reachOf t (length out) (wholeLines (drop used input)) x number used to ≡ reach t s n input out
+-- whatever was told before and however it was reached: from one line on, another is reached
+abbrev pub GoesOn : {S : Type 0} → Telling S → List ℕ → S → ℕ → ℕ → ℕ → List ℕ → S → ℕ → ℕ → ℕ → List ℕ → Type 0
+GoesOn {S} t input x₀ number₀ used₀ to₀ out₀ x number used to out₁ =
+    (s : S) (n : ℕ) (out : List ℕ)
+    → Reached t s n input out x₀ number₀ used₀ to₀ out₀
+    → Reached t s n input out x number used to out₁
 
 module _ {S : Type 0} (t : Telling S) (s : S) (n : ℕ) (input out : List ℕ) where
   -- before the first line

@@ -10,11 +10,12 @@ use lib.Seq.{length-take-le, take-at, drop-at}
 use Rattle.sizes.proofs.Choosing.{when, unless, split, conflict}
 use Rattle.stepfile.specs.Grammar.{Reading, found, nothing}
 use Rattle.stepfile.specs.Input.{firstLine, wholeLines}
-use Rattle.stepfile.specs.Transcript.{lines, transcript, after, BreaksLine}
+use Rattle.stepfile.specs.Transcript.{lines, transcript, after}
 use Rattle.stepfile.proofs.FirstLines.{first-line, whole-first, whole-none}
 use Rattle.stepfile.proofs.Splitting.{NoLF, breaks-none, breaks-line, count-more}
 use Rattle.stepfile.proofs.Transcripts.{after-more, transcript-more}
 use Rattle.telling.specs.Lines.{Telling, Reach, canTell, saidOver, stateAfter, stoppedAt, reachOf, reach}
+use Rattle.telling.specs.Reached.{At}
 use Rattle.telling.proofs.Resting.{no-lf}
 
 -- the line that starts at an offset, and the offset past its LF
@@ -80,15 +81,6 @@ first-whole input used h l ls e = from (firstLine (drop used input)) refl
     from nothing q =
         let f : [] ≡ l ∷ ls = sym (whole-none (drop used input) (no-lf (drop used input) q)) ∙ e in
         absurd (nil≢cons f)
-
--- the input is told up to an offset where a line starts: x is the state there, the next line has the number, and so many
--- bytes are said
-pub record At {S : Type 0} (t : Telling S) (s : S) (n : ℕ) (input : List ℕ) (x : S) (number used to : ℕ) : Type 0 where
-  pub inside : used ≤ length input
-  pub breaks : BreaksLine (take used input)
-  pub numbers : number ≡ n + length (lines (take used input))
-  pub state : x ≡ stateAfter t s n (take used input)
-  pub size : to ≡ length (saidOver t s n (take used input))
 
 module _ {S : Type 0} (t : Telling S) (s : S) (n : ℕ) (input : List ℕ) where
   -- before the first line

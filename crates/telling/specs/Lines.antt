@@ -18,13 +18,16 @@ pub record Telling (S : Type 0) : Type 0 where
   pub close : S → List ℕ
   pub closeRoom : ℕ
 
--- the largest line number: a line is told only if its number is below, so that there is one for the next
+-- "line number from 1": a line has its number if it is below the largest, so that there is one for the next
 abbrev pub lastNumber : ℕ
 lastNumber = 18446744073709551615
 
--- whether another line can be told: there is so much room for it, and another number after its own
+abbrev pub isNumber : ℕ → Bool
+isNumber n = ltb 0 n && ltb n lastNumber
+
+-- whether another line can be told: there is so much room for it, and its number is one
 abbrev pub canTell : ℕ → ℕ → ℕ → ℕ → Bool
-canTell need room to number = leb (to + need) room && ltb number lastNumber
+canTell need room to number = leb (to + need) room && isNumber number
 
 -- what is said of an input from state s on, its first line numbered n, and the state after it
 abbrev pub saidOver : {S : Type 0} → Telling S → S → ℕ → List ℕ → List ℕ

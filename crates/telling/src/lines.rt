@@ -2,7 +2,7 @@
 ghost use mathlib.Core.Path.{_≡_};
 ghost use Rattle.telling.specs.Lines.{canTell};
 
-// Whether another line can be told: there is so much room for it, and another number after its own.
+// Whether another line can be told: there is so much room for it, and its number is one, with another after it.
 pub fn can_tell(need: usize, room: usize, to: usize, number: u64) -> bool
     ensures { λ r. ⌜ r ≡ canTell need room to number ⌝ }
 {
@@ -12,5 +12,5 @@ pub fn can_tell(need: usize, room: usize, to: usize, number: u64) -> bool
     if room - need < to {
         return false;
     }
-    number < u64::MAX
+    (0 < number) & (number < u64::MAX)
 }

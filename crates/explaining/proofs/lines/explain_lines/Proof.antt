@@ -1,13 +1,15 @@
--- `explain_lines` meets its contract: each line is told, by the step that was taken or by the choice of the sizes, and
+-- `explain_lines` meets its contract: the setting and each line after it are told, and
 -- `line-told` carries it from line to line. Assumes nothing.
 use Prim.Native.Nat.{ℕ, _+_, _-_, _<_}
 use mathlib.Core.Path.{_≡_, refl, sym, ap, subst, _∙_}
-use mathlib.Core.Bool.{Bool, true}
+use mathlib.Core.Bool.{Bool, true, false, _&&_}
 use mathlib.Core.List.{List}
 use native.Mathlib.Omega.{arith}
-use lib.ListN.{length}
+use lib.Dec.{eqb}
+use lib.ListN.{length, drop}
 use denote.Ref.{now}
 use borrow.Author.Needs.{needs}
+use Rattle.sizes.specs.declared.sizes.Sizes.{Sizes}
 use Rattle.sizes.specs.Sizes.{Permitted, inForce}
 use Rattle.sizes.proofs.InForce.{in-force-permitted}
 use Rattle.blocks.specs.Stores.{lent}
@@ -18,37 +20,45 @@ use Rattle.service.specs.Lent.{lentFlags}
 use Rattle.stepfile.specs.declared.parsed.Parsed.{Parsed}
 use Rattle.stepfile.specs.declared.parsed.Read.the-variants.{Line}
 use Rattle.stepfile.specs.Input.{readAt}
+use Rattle.stepfile.specs.Setting.{settingOf}
+use Rattle.reader.specs.FirstLine.{isSet}
 use Rattle.telling.specs.Lines.{canTell}
+use Rattle.telling.specs.Reached.{Reached}
 use Rattle.telling.proofs.Reaching.{lineBytes}
-use Rattle.telling.proofs.LineByLine.{ReadLine, read-line, has-number, fewer, Reached, none-yet, same-length, stops-full, stops-whole}
+use Rattle.telling.proofs.LineByLine.{ReadLine, read-line, from-1, has-number, fewer, GoesOn, same-length, stops-full, stops-whole}
 use Rattle.ledger.specs.declared.ledger.Ledger.{Ledger}
 use Rattle.ledger.specs.Ledger.{entered}
 use Rattle.sentences.specs.declared.annotated.Annotated.{Annotated}
 use Rattle.sentences.specs.Explained.{explainedRoom}
-use Rattle.playing.specs.Lines.{Long}
+use Rattle.playing.specs.Lines.{choosesSizes, Long}
+use Rattle.playing.proofs.FirstLines.{none-later, not-chosen}
 use Rattle.explaining.specs.Lines.{explaining, stateHeld, TellsLine}
-use Rattle.explaining.proofs.Explaining.{step-told, line-told}
+use Rattle.explaining.proofs.Explaining.{step-told, sets-nothing, line-told}
 use Rattle.explaining.proofs.lines.explain_lines.Statement.{statement}
 use Rattle.explaining.proofs.lines.explain_lines.Tie as tie
 
--- the lines before this one are told, the sizes are those in force, and the arrays have their lengths
+-- the lines before this one are told, no line that can be told chooses the sizes, and the arrays have their lengths
 abbrev Inv-loop : tie.InvT-loop
-Inv-loop fresh first input out₀ table₀ flags₀ blocks₀ copies₀ held₀ dirty₀ written₀ writers₀ copied₀ waiting₀ refusals₀ words₀ given₀ force₀ number₀ used₀ to₀ out table flags blocks copies held dirty written writers copied waiting refusals words given force number used to =
-    Reached (explaining fresh)
-    (stateHeld given₀ table₀ flags₀ (lent blocks₀ copies₀ held₀ dirty₀) (entered written₀ writers₀ copied₀ waiting₀) refusals₀)
-    first input out₀
+Inv-loop fresh first input out₀ table₀ flags₀ blocks₀ copies₀ held₀ dirty₀ written₀ writers₀ copied₀ waiting₀ refusals₀ given force words₀ number₀ used₀ to₀ out table flags blocks copies held dirty written writers copied waiting refusals words number used to =
+    GoesOn (explaining fresh) input
+    (stateHeld given table₀ flags₀ (lent blocks₀ copies₀ held₀ dirty₀) (entered written₀ writers₀ copied₀ waiting₀) refusals₀)
+    number₀ used₀ to₀ out₀
     (stateHeld given table flags (lent blocks copies held dirty) (entered written writers copied waiting) refusals)
     number used to out
-    × ((force ≡ inForce given) × (Long table₀ flags₀ table flags × (length words ≡ saidRoom)))
+    × (((choosesSizes fresh number (drop used input) && canTell explainedRoom (length out) to number) ≡ false)
+    × (Long table₀ flags₀ table flags × (length words ≡ saidRoom)))
 
 abbrev μ-loop : tie.MeasureT-loop
-μ-loop fresh first input out₀ table₀ flags₀ blocks₀ copies₀ held₀ dirty₀ written₀ writers₀ copied₀ waiting₀ refusals₀ words₀ given₀ force₀ number₀ used₀ to₀ out table flags blocks copies held dirty written writers copied waiting refusals words given force number used to =
+μ-loop fresh first input out₀ table₀ flags₀ blocks₀ copies₀ held₀ dirty₀ written₀ writers₀ copied₀ waiting₀ refusals₀ given force words₀ number₀ used₀ to₀ out table flags blocks copies held dirty written writers copied waiting refusals words number used to =
     length input - used
 
 -- Before a line, or the end.
 module _ (c : tie.At-loop Inv-loop μ-loop) where
+  abbrev begun : tie.After-explain-first Inv-loop μ-loop
+  begun = c .before .before .before .before .before
+
   abbrev start : tie.Start Inv-loop μ-loop
-  start = c .before .before .before .before
+  start = begun .before .before .before .before .before .before .before .before .before .before .before
 
   abbrev fresh₀ : Bool
   fresh₀ = start .args .fresh
@@ -62,12 +72,17 @@ module _ (c : tie.At-loop Inv-loop μ-loop) where
   abbrev out₀ : List ℕ
   out₀ = now (start .args .out)
 
+  abbrev ledger₀ : Ledger
+  ledger₀ = let a = start .args in entered (now (a .written)) (now (a .writers)) (now (a .copied)) (now (a .waiting))
+
   abbrev came : Annotated
   came =
       let a = start .args in
-      stateHeld (a .sizes) (now (a .table)) (now (a .flags)) (lent (now (a .blocks)) (now (a .copies)) (now (a .held)) (now (a .dirty)))
-      (entered (now (a .written)) (now (a .writers)) (now (a .copied)) (now (a .waiting)))
+      stateHeld (a .sizes) (now (a .table)) (now (a .flags)) (lent (now (a .blocks)) (now (a .copies)) (now (a .held)) (now (a .dirty))) ledger₀
       (now (a .refusals))
+
+  abbrev given : Sizes
+  given = begun .explain-first .result .sizes
 
   -- what stands when this turn of the loop begins
   abbrev ledger : Ledger
@@ -76,34 +91,30 @@ module _ (c : tie.At-loop Inv-loop μ-loop) where
   abbrev stands : Annotated
   stands =
       let l = c .loop in
-      stateHeld (l .given) (l .table) (l .flags) (lent (l .blocks) (l .copies) (l .held) (l .dirty)) ledger (l .refusals)
+      stateHeld given (l .table) (l .flags) (lent (l .blocks) (l .copies) (l .held) (l .dirty)) ledger (l .refusals)
 
   reached : Reached (explaining fresh₀) came first₀ input₀ out₀ stands (c .loop .number) (c .loop .used) (c .loop .to) (c .loop .out)
-  reached = c .loop .inv .0
+  reached = c .loop .inv .0 came first₀ out₀ (begun .explain-first .ensures ledger₀ .reached)
 
-  in-force : c .loop .force ≡ inForce (c .loop .given)
-  in-force = c .loop .inv .1 .0
+  in-force : c .before .in-force .result ≡ inForce given
+  in-force = c .before .in-force .ensures .0
 
-  permitted : Permitted (c .loop .force)
-  permitted = subst Permitted (sym in-force) (in-force-permitted (c .loop .given))
+  permitted : Permitted (c .before .in-force .result)
+  permitted = subst Permitted (sym in-force) (in-force-permitted given)
+
+  long : Long (now (start .args .table)) (now (start .args .flags)) (c .loop .table) (c .loop .flags)
+  long =
+      let first = begun .explain-first .ensures ledger₀ .long in
+      record { rows = c .loop .inv .1 .1 .0 .rows ∙ first .rows; reports = c .loop .inv .1 .1 .0 .reports ∙ first .reports }
 
   table-long : length (c .loop .table) ≡ tableWords
-  table-long = c .loop .inv .1 .1 .0 .rows ∙ start .pre .0
+  table-long = long .rows ∙ start .pre .0
 
   flags-long : length (c .loop .flags) ≡ lentFlags
-  flags-long = c .loop .inv .1 .1 .0 .reports ∙ start .pre .1
+  flags-long = long .reports ∙ start .pre .1
 
   words-long : length (c .loop .words) ≡ saidRoom
   words-long = c .loop .inv .1 .1 .1
-
-  -- arrays that keep their lengths in this turn keep them in all
-  still-long : {t : List ℕ} {flags : List Bool} → Long (c .loop .table) (c .loop .flags) t flags
-      → Long (now (start .args .table)) (now (start .args .flags)) t flags
-  still-long w =
-      record {
-        rows = w .rows ∙ c .loop .inv .1 .1 .0 .rows;
-        reports = w .reports ∙ c .loop .inv .1 .1 .0 .reports;
-      }
 
   kept-length : length (c .loop .out) ≡ length out₀
   kept-length = same-length (explaining fresh₀) came first₀ input₀ out₀ stands (c .loop .number) (c .loop .used) (c .loop .to) (c .loop .out) reached
@@ -132,27 +143,42 @@ module _ (c : tie.After-known-told Inv-loop μ-loop) where
   fewer-left : length (input₀ at-line) - next < length (input₀ at-line) - at-line .loop .used
   fewer-left = fewer (input₀ at-line) (at-line .loop .used) gives next the-line
 
+  plain : ((fresh₀ at-line && eqb (at-line .loop .number) 1) && isSet (settingOf (lineBytes (input₀ at-line) (at-line .loop .used) next))) ≡ false
+  plain =
+      not-chosen (fresh₀ at-line) (at-line .loop .number) (input₀ at-line) (at-line .loop .used) gives next _ the-line
+      (at-line .loop .inv .1 .0)
+      can
+
   -- it is told, by what it gives
   told-so : (p : Parsed) (s : Annotated) (out : List ℕ) (to : ℕ) → gives ≡ p
       → TellsLine (fresh₀ at-line) (stands at-line) (at-line .loop .number) (lineBytes (input₀ at-line) (at-line .loop .used) next) p
       (at-line .loop .out) (at-line .loop .to) s out to
-      → Reached (explaining (fresh₀ at-line)) (came at-line) (first₀ at-line) (input₀ at-line) (out₀ at-line) s (at-line .loop .number + 1) next to out
-  told-so p s out to e told =
+      → (s₀ : Annotated) (n : ℕ) (out₁ : List ℕ)
+      → Reached (explaining (fresh₀ at-line)) s₀ n (input₀ at-line) out₁ (stands at-line) (at-line .loop .number) (at-line .loop .used) (at-line .loop .to) (at-line .loop .out)
+      → Reached (explaining (fresh₀ at-line)) s₀ n (input₀ at-line) out₁ s (at-line .loop .number + 1) next to out
+  told-so p s out to e told s₀ n out₁ w =
       let l = at-line .loop in
-      line-told (fresh₀ at-line) (came at-line) (first₀ at-line) (input₀ at-line) (out₀ at-line) (stands at-line) (l .number) (l .used) (l .to)
-      (l .out) gives next s to out (reached at-line) is-read can
+      line-told (fresh₀ at-line) s₀ n (input₀ at-line) out₁ (stands at-line) (l .number) (l .used) (l .to)
+      (l .out) gives next s to out w is-read can
       (subst
       (λ (k : Parsed).
       TellsLine (fresh₀ at-line) (stands at-line) (l .number) (lineBytes (input₀ at-line) (l .used) next) k (l .out) (l .to) s out to)
       (sym e)
       told)
 
+  -- and no line after it chooses the sizes
+  none-next : (input : List ℕ) (told : Bool) → (choosesSizes (fresh₀ at-line) (at-line .loop .number + 1) input && told) ≡ false
+  none-next input told =
+      let l = at-line .loop in
+      none-later (fresh₀ at-line) (l .number) input told (from-1 explainedRoom (length (l .out)) (l .to) (l .number) can)
+
 loop-holds : tie.Need-loop-holds Inv-loop μ-loop
 loop-holds c =
-    let start = c .before .before .before in
-    let a = start .args in (
-      none-yet (explaining (a .fresh)) _ (a .first) (now (a .input)) (now (a .out)),
-      (c .in-force .ensures .0, (record { rows = refl; reports = refl }, search needs)),
+    let begun = c .before .before .before .before in
+    let a = begun .before .before .before .before .before .before .before .before .before .before .before .args in
+    let ledger = entered (now (a .written)) (now (a .writers)) (now (a .copied)) (now (a .waiting)) in (
+      λ s n out w. w,
+      (begun .explain-first .ensures ledger .chosen, (record { rows = refl; reports = refl }, search needs)),
     )
 
 add-number : tie.Need-add-number Inv-loop μ-loop
@@ -162,31 +188,21 @@ add-number c =
 
 -- ---- a line that gives no step
 
-sub-tell-setting : tie.Need-sub-tell-setting Inv-loop μ-loop
-sub-tell-setting c = let line = the-line (c .before .before .before) .at in omega (arith, line .later, line .inside)
-
-sub-tell-setting-2 : tie.Need-sub-tell-setting-2 Inv-loop μ-loop
-sub-tell-setting-2 c = let line = the-line (c .before .before .before) .at in omega (arith, line .later, line .inside)
-
-part-tell-setting-start : tie.Need-part-tell-setting-start Inv-loop μ-loop
-part-tell-setting-start c = let line = the-line (c .before .before .before) .at in omega (arith, line .later, line .inside)
-
-part-tell-setting-end : tie.Need-part-tell-setting-end Inv-loop μ-loop
-part-tell-setting-end c = let line = the-line (c .before .before .before) .at in omega (arith, line .later, line .inside)
-
-tell-setting-requires : tie.Need-tell-setting-requires Inv-loop μ-loop
-tell-setting-requires c κs =
-    let at = at-line (c .before .before .before .before .before .before .before .before .before .before .before .before) in
-    (table-long at, (flags-long at, words-long at))
+tell-no-step-requires : tie.Need-tell-no-step-requires Inv-loop μ-loop
+tell-no-step-requires c κs = words-long (at-line (c .before .before .before .before .before))
 
 loop-again : tie.Need-loop-again Inv-loop μ-loop
 loop-again c =
-    let told = c .before .before .before .before .tell-setting in
-    let line = c .before .before .before .before .before .before .before .before .before .before .before .before .before .before .before .before .before in
+    let told = c .before .before .tell-no-step in
+    let line = c .before .before .before .before .before .before .before .before in
+    let none = c .before .before .before .before .before .before .enum-told2 .given .1 in
     let at = at-line line in
-    let none = c .before .before .before .before .before .before .before .before .before .before .before .before .before .before .before .enum-told2 .given .1 in (
-      told-so line _ _ _ (told .result .to) none (told .ensures .0 (ledger at)),
-      (c .in-force2 .ensures .0, (still-long at (told .ensures .1 .0), told .ensures .1 .1 ∙ words-long at)),
+    let l = at .loop in
+    let tells =
+    told .ensures .0 (fresh₀ at) _ (ledger at) (lineBytes (input₀ at) (l .used) (next line))
+    (sets-nothing (fresh₀ at) (l .number) (lineBytes (input₀ at) (l .used) (next line)) (plain line)) in (
+      λ s n out w. told-so line _ _ _ (told .result) none tells s n out (l .inv .0 s n out w),
+      (none-next line _ _, (l .inv .1 .1 .0, told .ensures .1 ∙ words-long at)),
     )
 
 -- ---- a line that gives a step
@@ -195,7 +211,7 @@ row-at-requires : tie.Need-row-at-requires Inv-loop μ-loop
 row-at-requires c κs = (omega arith, table-long (at-line (c .before .before .before .before .before .before)))
 
 -- the step was taken
-module _ (c : tie.After-step-in-force Inv-loop μ-loop) where
+module _ (c : tie.After-take-step Inv-loop μ-loop) where
   abbrev line-of : tie.After-known-told Inv-loop μ-loop
   line-of = c .before .before .before .before .before .before .before .before .before .before .before .before .before .before .before .before .before .before .before .before .before .before
 
@@ -205,16 +221,16 @@ module _ (c : tie.After-step-in-force Inv-loop μ-loop) where
 look-requires : tie.Need-look-requires Inv-loop μ-loop
 look-requires c κs = search needs
 
-step-in-force-requires : tie.Need-step-in-force-requires Inv-loop μ-loop
-step-in-force-requires c κs =
+take-step-requires : tie.Need-take-step-requires Inv-loop μ-loop
+take-step-requires c κs =
     let at = at-line (c .before .before .before .before .before .before .before .before .before .before .before .before .before .before .before .before .before .before .before .before .before) in
-    (permitted at, (table-long at, (flags-long at, words-long at)))
+    (table-long at, (flags-long at, words-long at))
 
 tell-step-requires : tie.Need-tell-step-requires Inv-loop μ-loop
 tell-step-requires c κs =
     let taken = c .before .before .before .before .before .before .before .before .before .before in
     let at = at-line (line-of taken) in
-    let steps = taken .step-in-force .ensures (at .loop .given) (in-force at) in (
+    let steps = taken .take-step .ensures in (
       permitted at,
       (
         steps .short,
@@ -236,26 +252,33 @@ loop-again-2 c =
     let line = line-of taken in
     let at = at-line line in
     let l = at .loop in
-    let steps = taken .step-in-force .ensures (l .given) (in-force at) in (
-      told-so line _ _ _ (told .result) (parsed .given .1)
-          (step-told (fresh₀ at) (l .given) (l .force) (in-force at) (l .number) (parsed .given .0 .0) (asked .result) (asked .ensures) (l .table)
-          (l .flags) _ (l .words) _ _ _ _ _ steps (ledger at) (row .result) (row .ensures) (seen .result)
-          (seen .ensures .0)
-          (seen .ensures .1 .0)
-          (seen .ensures .1 .1)
-          (l .refusals)
-          (l .out)
-          (l .to)
-          _
-          _
-          _
-          (told .result)
-          (told .ensures .0)
-          (told .ensures .1 .0)
-          (told .ensures .1 .1 .0)
-          (told .ensures .1 .1 .1)
-          _),
-      (in-force at, (still-long at (record { rows = steps .long; reports = steps .flagsLong }), steps .wordsLong ∙ words-long at)),
+    let steps = taken .take-step .ensures in
+    let tells =
+    step-told (fresh₀ at) (given at) (at .before .in-force .result) (in-force at) (l .number) (parsed .given .0 .0) (asked .result) (asked .ensures)
+    (l .table) (l .flags) _ (l .words) _ _ _ _ _ steps (ledger at) (row .result) (row .ensures) (seen .result)
+    (seen .ensures .0)
+    (seen .ensures .1 .0)
+    (seen .ensures .1 .1)
+    (l .refusals)
+    (l .out)
+    (l .to)
+    _
+    _
+    _
+    (told .result)
+    (told .ensures .0)
+    (told .ensures .1 .0)
+    (told .ensures .1 .1 .0)
+    (told .ensures .1 .1 .1)
+    (lineBytes (input₀ at) (l .used) (next line)) in (
+      λ s n out w. told-so line _ _ _ (told .result) (parsed .given .1) tells s n out (l .inv .0 s n out w),
+      (
+        none-next line _ _,
+        (
+          record { rows = steps .long ∙ l .inv .1 .1 .0 .rows; reports = steps .flagsLong ∙ l .inv .1 .1 .0 .reports },
+          steps .wordsLong ∙ words-long at,
+        ),
+      ),
     )
 
 returns : tie.Need-returns Inv-loop μ-loop
@@ -266,7 +289,7 @@ returns c =
       tells =
           stops-full (explaining (fresh₀ at)) (came at) (first₀ at) (input₀ at) (out₀ at) (stands at) (l .number) (l .used) (l .to) (l .out) (reached at)
           (sym (c .before .can-tell .ensures) ∙ c .if1 .left);
-      long = l .inv .1 .1 .0;
+      long = long at;
     }
 
 returns-2 : tie.Need-returns-2 Inv-loop μ-loop
@@ -277,7 +300,7 @@ returns-2 c =
       tells =
           stops-whole (explaining (fresh₀ at)) (came at) (first₀ at) (input₀ at) (out₀ at) (stands at) (l .number) (l .used) (l .to) (l .out) (reached at)
           (sym (c .before .before .read-at .ensures) ∙ c .enum-told .given .1);
-      long = l .inv .1 .1 .0;
+      long = long at;
     }
 
 pub explain-lines-spec : {M : Type 1} → statement M
@@ -286,6 +309,7 @@ explain-lines-spec =
     (tie.spec
     Inv-loop
     μ-loop
+    (λ c κs. c .before .before .before .before .before .before .before .before .before .before .pre)
     (λ c κs. tt)
     loop-holds
     (λ c κs. tt)
@@ -295,18 +319,13 @@ explain-lines-spec =
     add-number
     (search needs)
     (search needs)
-    sub-tell-setting
-    sub-tell-setting-2
-    part-tell-setting-start
-    part-tell-setting-end
-    tell-setting-requires
-    (λ c κs. tt)
-    (λ c. fewer-left (c .before .before .before .before .before .before .before .before .before .before .before .before .before .before .before .before .before))
+    tell-no-step-requires
+    (λ c. fewer-left (c .before .before .before .before .before .before .before .before))
     loop-again
     (λ c κs. tt)
     row-at-requires
     look-requires
-    step-in-force-requires
+    take-step-requires
     tell-step-requires
     (λ c. fewer-left (line-of (c .before .before .before .before .before .before .before .before .before .before .before .before .before)))
     loop-again-2
