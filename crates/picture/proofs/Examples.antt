@@ -20,7 +20,7 @@ use Rattle.stepfile.specs.Setting.{settingOf}
 use Rattle.stepfile.specs.Transcript.{lines, after}
 use Rattle.stepfile.specs.Played.{serviceAfter}
 use Rattle.ledger.specs.Ledger.{emptyLedger, ledgerAfter}
-use Rattle.sentences.specs.Phrase.{numbersText}
+use Rattle.phrases.specs.Phrase.{numbersText}
 use Rattle.sentences.specs.Explained.{unannotated, annotatedAfter}
 use Rattle.picture.specs.Picture.{stationsText, filesText, timesText, pictureText}
 

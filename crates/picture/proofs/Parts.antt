@@ -24,9 +24,9 @@ use Rattle.service.specs.Contents.{sizesOf, tableIn, entryAt, sidesAt}
 use Rattle.stepfile.specs.Summary.{isListed}
 use Rattle.ledger.specs.Ledger.{waitingSince}
 use Rattle.ledger.specs.Refusals.{timesRefused}
+use Rattle.phrases.specs.Phrase.{listText}
+use Rattle.phrases.proofs.Lists.{list-agree}
 use Rattle.sentences.specs.declared.annotated.Annotated.{Annotated}
-use Rattle.sentences.specs.Phrase.{listText}
-use Rattle.sentences.proofs.Lists.{list-agree}
 use Rattle.picture.specs.Picture.{isConcerned, concerned, isPictured, stationIfText, stationsText}
 use Rattle.picture.specs.Picture.{headText, waitIfText, fileIfText, filesText, refusedText, timesText}
 

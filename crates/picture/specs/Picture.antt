@@ -21,9 +21,9 @@ use Rattle.stepfile.specs.Text.{bytes, argumentText}
 use Rattle.stepfile.specs.Summary.{versionIn, isListed}
 use Rattle.ledger.specs.Ledger.{waitingSince}
 use Rattle.ledger.specs.Refusals.{refusalNumbers, timesRefused}
+use Rattle.phrases.specs.Phrase.{clientText, stateText, listText}
+use Rattle.phrases.specs.Refusal.{missingText, openWaitsText}
 use Rattle.sentences.specs.declared.annotated.Annotated.{Annotated}
-use Rattle.sentences.specs.Phrase.{clientText, stateText, listText}
-use Rattle.sentences.specs.Refusal.{missingText, openWaitsText}
 
 -- ---- the server
 

@@ -10,10 +10,10 @@ ghost use Rattle.picture.specs.Picture.{isPictured, waitIfText, fileText
 use crate::heading::put_head;
 use crate::station::count_concerned;
 use crate::station::put_stations;
+use phrases::put_open_waits;
+use phrases::put_text;
 use protocol::Entry;
 use protocol::Sides;
-use sentences::put_open_waits;
-use sentences::put_text;
 use sizes::MAX_CELLS;
 use sizes::Sizes;
 use writer::is_listed;

@@ -7,7 +7,7 @@ ghost use Rattle.writer.specs.Buffer.{Wrote};
 ghost use Rattle.picture.specs.Picture.{numbersGiven, refusedText, timesText, refusalsText};
 use decision::one_if;
 use ledger::REFUSAL_NUMBERS;
-use sentences::put_text;
+use phrases::put_text;
 use writer::put_argument;
 use writer::put_byte;
 

@@ -25,10 +25,10 @@ use Rattle.stepfile.specs.Played.{outcomeOf}
 use Rattle.ledger.specs.declared.ledger.Ledger.{Ledger}
 use Rattle.ledger.specs.Ledger.{emptyLedger, ledgerAfter}
 use Rattle.ledger.specs.Refusals.{noRefusals, refusalsAfter}
+use Rattle.phrases.specs.Accepted.{readText, grantText, waitText, answerText, stillText, doneText}
+use Rattle.phrases.specs.Refusal.{refusalText}
 use Rattle.sentences.specs.declared.annotated.Annotated.{Annotated}
 use Rattle.sentences.specs.Scene.{Scene, sceneOf}
-use Rattle.sentences.specs.Accepted.{readText, grantText, waitText, answerText, stillText, doneText}
-use Rattle.sentences.specs.Refusal.{refusalText}
 
 -- What is said of the step x, by its reply. An answer that grants gives the open that waited: the waiter's, in the mode
 -- in which it waits.

@@ -1,6 +1,6 @@
 -- `put_head` meets its contract: its parts, one after the other. Assumes nothing.
 use mathlib.Core.Path.{ap}
-use Rattle.sentences.specs.Phrase.{stateText}
+use Rattle.phrases.specs.Phrase.{stateText}
 use Rattle.writer.proofs.Buffers.{wrote-then, wrote-as}
 use borrow.Author.Needs.{needs}
 use Rattle.picture.proofs.heading.put_head.Statement.{statement}

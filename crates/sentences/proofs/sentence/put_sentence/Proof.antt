@@ -11,12 +11,13 @@ use Rattle.protocol.specs.declared.reply.Reply.{Reply}
 use Rattle.protocol.specs.Client.{sideOf}
 use Rattle.protocol.specs.Step.{clientOf, fileOf, blockOf, modeOf}
 use Rattle.words.specs.Rows.{entryHeld, sidesHeld}
-use Rattle.sentences.specs.Phrase.{modeByKind}
-use Rattle.sentences.specs.Accepted.{stillText}
+use Rattle.phrases.specs.Phrase.{modeByKind}
+use Rattle.phrases.specs.Accepted.{stillText}
 use Rattle.sentences.specs.Scene.{sceneHeld}
 use Rattle.sentences.specs.Explained.{saidOf}
 use Rattle.writer.proofs.Buffers.{wrote-as, wrote-then}
-use Rattle.sentences.proofs.Names.{client-named, file-named, block-named, mode-named}
+use Rattle.phrases.proofs.Names.{mode-named}
+use Rattle.sentences.proofs.Names.{client-named, file-named, block-named}
 use Rattle.sentences.proofs.Names.{grant-as, wait-as, read-as, refusal-as, answer-as}
 use Rattle.sentences.proofs.sentence.put_sentence.Statement.{statement}
 use Rattle.sentences.proofs.sentence.put_sentence.Tie as tie

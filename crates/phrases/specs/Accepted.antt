@@ -1,0 +1,121 @@
+-- What is said of an accepted step.
+use Prim.Native.Nat.{ℕ}
+use mathlib.Core.Bool.{Bool, cond, not}
+use mathlib.Core.List.{List, [], _∷_, _++_}
+use lib.Dec.{eqb}
+use Rattle.records.specs.declared.record.Mode.{Mode}
+use Rattle.records.specs.declared.version.Version.{Version}
+use Rattle.records.specs.Version.{numberOf}
+use Rattle.sizes.specs.Sizes.{maxClients}
+use Rattle.decision.specs.Callback.{orderedCalls, asksNothing, writesBack, invalidates}
+use Rattle.decision.specs.State.{stateOf}
+use Rattle.protocol.specs.declared.client.ClientFile.{ClientFile}
+use Rattle.protocol.specs.declared.entry.Entry.{Entry}
+use Rattle.protocol.specs.declared.reply.Grant.{Grant}
+use Rattle.protocol.specs.declared.step.Step.{Step}
+use Rattle.protocol.specs.declared.step.Step.the-variants.{Open, Close, Read, Write, Flush, Answer, Crash, Report, End}
+use Rattle.protocol.specs.Client.{keepsBlocks}
+use Rattle.protocol.specs.Entry.{recordAt, callTo}
+use Rattle.stepfile.specs.Text.{bytes, argumentText}
+use Rattle.ledger.specs.declared.told.Told.{Told}
+use Rattle.phrases.specs.Phrase.{clientText, fileText, blockText, forText, openText, stateText, listText}
+
+-- ---- reads
+
+-- which copy: the client's own, with the line at which it was fetched or written there, or the server's
+abbrev pub ownText : Bool → ℕ → List ℕ
+ownText dirty since =
+    bytes ": from its own copy" ++ (cond dirty (bytes ", dirty") [] ++ (bytes ", since line" ++ argumentText since))
+
+abbrev pub sourceText : Told → List ℕ
+sourceText t = cond (t .own) (ownText (t .dirty) (t .since)) (bytes ": from the server")
+
+-- no line wrote it: it is 0, or the session began with an image
+abbrev pub unwrittenText : Bool → List ℕ
+unwrittenText fresh = cond fresh (bytes "; never written") (bytes "; as the image has it")
+
+-- whose write, which line; `fresh` says whether the session began with the fresh service
+abbrev pub originText : Bool → Told → List ℕ
+originText fresh t =
+    cond (eqb (t .line) 0)
+    (unwrittenText fresh)
+    (bytes "; written by " ++ (clientText (t .client) ++ (bytes " at line" ++ argumentText (t .line))))
+
+abbrev pub readText : Bool → Told → ℕ → ℕ → ℕ → List ℕ
+readText fresh t i f b = clientText i ++ (bytes "," ++ (blockText f b ++ (sourceText t ++ originText fresh t)))
+
+-- ---- opens
+
+-- "with permission, the copy is kept when its label equals the latest version, or for a write open the previous one";
+-- label 0 is no copy
+abbrev pub keptText : Bool → Version → List ℕ
+keptText keep label =
+    cond (eqb (numberOf label) 0)
+    (bytes "; it had no copy")
+    (bytes "; its copy of version"
+    ++ (argumentText (numberOf label) ++ cond keep (bytes " is kept") (bytes " is dropped")))
+
+abbrev pub permissionText : Bool → List ℕ
+permissionText caching = cond caching (bytes " and may cache") (bytes " and may not cache")
+
+-- client i is granted; `own` is its side of the file before
+abbrev pub termsText : Mode → Grant → ClientFile → List ℕ
+termsText mode g own =
+    bytes " at version"
+    ++ (argumentText (numberOf (g .latest))
+    ++ (permissionText (g .caching) ++ keptText (keepsBlocks mode g own) (own .label)))
+
+abbrev pub grantText : Mode → Grant → ClientFile → ℕ → ℕ → List ℕ
+grantText mode g own i f = openText mode i f ++ termsText mode g own
+
+-- "1 write-back, 2 invalidate, 3 both"
+abbrev pub kindText : ℕ → List ℕ
+kindText kind =
+    cond (writesBack kind)
+    (cond (invalidates kind) (bytes "write back and drop its copy") (bytes "write back"))
+    (bytes "drop its copy")
+
+-- who is called, and for what
+abbrev pub callText : ℕ × ℕ → List ℕ
+callText call = bytes "; " ++ (clientText (call .0) ++ (bytes " is called to " ++ kindText (call .1)))
+
+unfoldable pub callsText : List (ℕ × ℕ) → List ℕ
+callsText [] = []
+callsText (call ∷ calls) = callText call ++ callsText calls
+
+-- the open waits: the state of the file is why they are called (document 01, "Opening")
+abbrev pub waiterText : Mode → ℕ → ℕ → List ℕ
+waiterText mode i f = clientText i ++ (bytes " waits to open" ++ (fileText f ++ forText mode))
+
+abbrev pub stateInText : ℕ → Entry → List ℕ
+stateInText n e = bytes ", which is " ++ stateText (stateOf n (recordAt e) (e .last))
+
+abbrev pub waitText : ℕ → Entry → Mode → ℕ → ℕ → List ℕ → List ℕ
+waitText n e mode i f kinds =
+    waiterText mode i f ++ (stateInText n e ++ callsText (orderedCalls maxClients kinds))
+
+-- ---- answers
+
+-- how many blocks came back
+abbrev pub answerText : ℕ → ℕ → ℕ → List ℕ
+answerText sent i f =
+    clientText i ++ (bytes " answers for" ++ (fileText f ++ (bytes ", blocks sent:" ++ argumentText sent)))
+
+-- who has still to answer, where e is the entry after the step
+abbrev pub stillText : ℕ → Entry → List ℕ
+stillText n e = bytes "; stations still to answer:" ++ listText n (λ j. not (asksNothing (callTo n e j)))
+
+-- ---- all other steps
+
+-- where a write goes: "with permission the copy is written, held and dirty; without, the server's block"
+abbrev pub doneText : Bool → Step → List ℕ
+doneText caching (Open m i f) = []
+doneText caching (Close m i f) = clientText i ++ (bytes " closes" ++ (fileText f ++ forText m))
+doneText caching (Read i f b) = []
+doneText caching (Write i f b v) =
+    clientText i ++ (bytes " writes" ++ (blockText f b ++ cond caching (bytes " in its copy") (bytes " at the server")))
+doneText caching (Flush i f b) = clientText i ++ (bytes " sends" ++ (blockText f b ++ bytes " to the server"))
+doneText caching (Answer i f) = []
+doneText caching Crash = bytes "the server crashes; every station has to report"
+doneText caching (Report i) = clientText i ++ bytes " reports what it has open"
+doneText caching End = bytes "the recovery ends"

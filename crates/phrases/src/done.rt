@@ -1,0 +1,126 @@
+// What is said of an accepted close, write, flush, crash, report or end, and of an answer.
+ghost use Prim.Native.Nat.{_+_, _≤_};
+ghost use mathlib.Core.Bool.{false, cond};
+ghost use lib.ListN.{length};
+ghost use Rattle.stepfile.specs.Text.{bytes};
+ghost use Rattle.writer.specs.Buffer.{Wrote};
+ghost use Rattle.phrases.specs.Accepted.{answerText, doneText};
+use crate::phrase::put_block;
+use crate::phrase::put_client;
+use crate::phrase::put_file;
+use crate::phrase::put_for;
+use crate::phrase::put_text;
+use protocol::Step;
+use records::Mode;
+use writer::put_argument;
+
+// The sentence of a step that is answered K; caching says of a write whether its client may cache.
+pub fn put_done(out: &mut [u8], at: usize, caching: bool, step: Step) -> usize
+    requires { ⌜ at + 102 ≤ length (now out) ⌝ }
+    ensures { λ r. ⌜ Wrote (now (out .entry)) at (doneText caching step) (now (out .exit)) r ⌝ }
+    ensures { λ r. ⌜ r ≤ at + 102 ⌝ }
+{
+    match step {
+        Step::Open {
+            mode: _,
+            client: _,
+            file: _,
+        } => at,
+        Step::Close { mode, client, file } => put_close(out, at, mode, client, file),
+        Step::Read {
+            client: _,
+            file: _,
+            block: _,
+        } => at,
+        Step::Write {
+            client,
+            file,
+            block,
+            value: _,
+        } => put_write(out, at, caching, client, file, block),
+        Step::Flush {
+            client,
+            file,
+            block,
+        } => put_flush(out, at, client, file, block),
+        Step::Answer { client: _, file: _ } => at,
+        Step::Crash => put_text(out, at, b"the server crashes; every station has to report"),
+        Step::Report { client } => put_report(out, at, client),
+        Step::End => put_text(out, at, b"the recovery ends"),
+    }
+}
+
+fn put_close(out: &mut [u8], at: usize, mode: Mode, client: usize, file: usize) -> usize
+    requires { ⌜ at + 71 ≤ length (now out) ⌝ }
+    ensures { λ r. ⌜ Wrote (now (out .entry)) at (doneText false (Step.Close mode client file)) (now (out .exit)) r ⌝ }
+    ensures { λ r. ⌜ r ≤ at + 71 ⌝ }
+{
+    let word = put_client(out, at, client);
+    let named = put_text(out, word, b" closes");
+    let mode_at = put_file(out, named, file);
+    put_for(out, mode_at, mode)
+}
+
+fn put_write(
+    out: &mut [u8],
+    at: usize,
+    caching: bool,
+    client: usize,
+    file: usize,
+    block: usize,
+) -> usize
+    requires { ⌜ at + 102 ≤ length (now out) ⌝ }
+    ensures { λ r. ⌜ Wrote (now (out .entry)) at
+        (doneText caching (Step.Write client file block 0)) (now (out .exit)) r ⌝ }
+    ensures { λ r. ⌜ r ≤ at + 102 ⌝ }
+{
+    let word = put_client(out, at, client);
+    let named = put_text(out, word, b" writes");
+    let to = put_block(out, named, file, block);
+    put_goal(out, to, caching)
+}
+
+fn put_goal(out: &mut [u8], at: usize, caching: bool) -> usize
+    requires { ⌜ at + 14 ≤ length (now out) ⌝ }
+    ensures { λ r. ⌜ Wrote (now (out .entry)) at
+        (cond caching (bytes " in its copy") (bytes " at the server")) (now (out .exit)) r ⌝ }
+    ensures { λ r. ⌜ r ≤ at + 14 ⌝ }
+{
+    if caching {
+        return put_text(out, at, b" in its copy");
+    }
+    put_text(out, at, b" at the server")
+}
+
+fn put_flush(out: &mut [u8], at: usize, client: usize, file: usize, block: usize) -> usize
+    requires { ⌜ at + 101 ≤ length (now out) ⌝ }
+    ensures { λ r. ⌜ Wrote (now (out .entry)) at (doneText false (Step.Flush client file block)) (now (out .exit)) r ⌝ }
+    ensures { λ r. ⌜ r ≤ at + 101 ⌝ }
+{
+    let word = put_client(out, at, client);
+    let named = put_text(out, word, b" sends");
+    let to = put_block(out, named, file, block);
+    put_text(out, to, b" to the server")
+}
+
+fn put_report(out: &mut [u8], at: usize, client: usize) -> usize
+    requires { ⌜ at + 53 ≤ length (now out) ⌝ }
+    ensures { λ r. ⌜ Wrote (now (out .entry)) at (doneText false (Step.Report client)) (now (out .exit)) r ⌝ }
+    ensures { λ r. ⌜ r ≤ at + 53 ⌝ }
+{
+    let word = put_client(out, at, client);
+    put_text(out, word, b" reports what it has open")
+}
+
+// How many blocks an answer sent.
+pub fn put_answer(out: &mut [u8], at: usize, sent: usize, client: usize, file: usize) -> usize
+    requires { ⌜ at + 101 ≤ length (now out) ⌝ }
+    ensures { λ r. ⌜ Wrote (now (out .entry)) at (answerText sent client file) (now (out .exit)) r ⌝ }
+    ensures { λ r. ⌜ r ≤ at + 101 ⌝ }
+{
+    let word = put_client(out, at, client);
+    let named = put_text(out, word, b" answers for");
+    let count = put_file(out, named, file);
+    let number = put_text(out, count, b", blocks sent:");
+    put_argument(out, number, sent as u64)
+}

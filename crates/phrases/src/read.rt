@@ -1,0 +1,94 @@
+// What is said of an accepted read.
+ghost use Prim.Native.Nat.{_+_, _≤_};
+ghost use mathlib.Core.Bool.{cond};
+ghost use mathlib.Core.List.{[]};
+ghost use lib.ListN.{length};
+ghost use Rattle.stepfile.specs.Text.{bytes};
+ghost use Rattle.writer.specs.Buffer.{Wrote};
+ghost use Rattle.phrases.specs.Accepted.{ownText, sourceText, unwrittenText, originText, readText};
+use crate::phrase::put_block;
+use crate::phrase::put_client;
+use crate::phrase::put_text;
+use ledger::Told;
+use writer::put_argument;
+
+// The sentence of an accepted read.
+pub fn put_read(
+    out: &mut [u8],
+    at: usize,
+    fresh: bool,
+    told: Told,
+    client: usize,
+    file: usize,
+    block: usize,
+) -> usize
+    requires { ⌜ at + 211 ≤ length (now out) ⌝ }
+    ensures { λ r. ⌜ Wrote (now (out .entry)) at (readText fresh told client file block) (now (out .exit)) r ⌝ }
+    ensures { λ r. ⌜ r ≤ at + 211 ⌝ }
+{
+    let comma = put_client(out, at, client);
+    let place = put_text(out, comma, b",");
+    let source = put_block(out, place, file, block);
+    let origin = put_source(out, source, told);
+    put_origin(out, origin, fresh, told)
+}
+
+// Which copy the value is from.
+fn put_source(out: &mut [u8], at: usize, told: Told) -> usize
+    requires { ⌜ at + 59 ≤ length (now out) ⌝ }
+    ensures { λ r. ⌜ Wrote (now (out .entry)) at (sourceText told) (now (out .exit)) r ⌝ }
+    ensures { λ r. ⌜ r ≤ at + 59 ⌝ }
+{
+    if told.own {
+        return put_own(out, at, told.dirty, told.since);
+    }
+    put_text(out, at, b": from the server")
+}
+
+fn put_own(out: &mut [u8], at: usize, dirty: bool, since: u64) -> usize
+    requires { ⌜ at + 59 ≤ length (now out) ⌝ }
+    ensures { λ r. ⌜ Wrote (now (out .entry)) at (ownText dirty since) (now (out .exit)) r ⌝ }
+    ensures { λ r. ⌜ r ≤ at + 59 ⌝ }
+{
+    let flag = put_text(out, at, b": from its own copy");
+    let word = put_dirty(out, flag, dirty);
+    let number = put_text(out, word, b", since line");
+    put_argument(out, number, since)
+}
+
+fn put_dirty(out: &mut [u8], at: usize, dirty: bool) -> usize
+    requires { ⌜ at + 7 ≤ length (now out) ⌝ }
+    ensures { λ r. ⌜ Wrote (now (out .entry)) at (cond dirty (bytes ", dirty") []) (now (out .exit)) r ⌝ }
+    ensures { λ r. ⌜ r ≤ at + 7 ⌝ }
+{
+    if dirty {
+        return put_text(out, at, b", dirty");
+    }
+    at
+}
+
+// Whose write it is, and of which line.
+fn put_origin(out: &mut [u8], at: usize, fresh: bool, told: Told) -> usize
+    requires { ⌜ at + 70 ≤ length (now out) ⌝ }
+    ensures { λ r. ⌜ Wrote (now (out .entry)) at (originText fresh told) (now (out .exit)) r ⌝ }
+    ensures { λ r. ⌜ r ≤ at + 70 ⌝ }
+{
+    if told.line == 0 {
+        return put_unwritten(out, at, fresh);
+    }
+    let writer = put_text(out, at, b"; written by ");
+    let word = put_client(out, writer, told.client as usize);
+    let number = put_text(out, word, b" at line");
+    put_argument(out, number, told.line)
+}
+
+fn put_unwritten(out: &mut [u8], at: usize, fresh: bool) -> usize
+    requires { ⌜ at + 21 ≤ length (now out) ⌝ }
+    ensures { λ r. ⌜ Wrote (now (out .entry)) at (unwrittenText fresh) (now (out .exit)) r ⌝ }
+    ensures { λ r. ⌜ r ≤ at + 21 ⌝ }
+{
+    if fresh {
+        return put_text(out, at, b"; never written");
+    }
+    put_text(out, at, b"; as the image has it")
+}
