@@ -1,3 +1,2 @@
--- What the proofs of several functions use, and that an image that is written fits its buffer.
-pub mod Texts
+-- That an image that is written fits its buffer.
 pub mod Written

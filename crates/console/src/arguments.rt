@@ -7,10 +7,10 @@ use crate::help::print_version;
 use crate::inputs::Images;
 use crate::inputs::play_file;
 use crate::inputs::play_stdin;
-use crate::options::Act;
-use crate::options::Argument;
-use crate::options::Request;
-use crate::options::argument_of;
+use options::Act;
+use options::Argument;
+use options::Request;
+use options::argument_of;
 
 // Runs `explain`, or else `play`. They differ in their name, in what they print of a line, and in what they print at
 // the end. A program calls this with a constant, and as a bool the compiler follows it everywhere and leaves the other

@@ -7,7 +7,6 @@ mod files;
 mod help;
 mod images;
 mod inputs;
-mod options;
 mod play_loop;
 mod turns;
 

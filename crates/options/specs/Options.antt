@@ -5,14 +5,14 @@ use mathlib.Core.List.{List, [], _∷_}
 use lib.Dec.{eqb, leb}
 use Rattle.stepfile.specs.Text.{bytes}
 use Rattle.stepfile.specs.Grammar.{same}
-use Rattle.console.specs.declared.options.Argument.{Argument}
-use Rattle.console.specs.declared.options.Argument.the-variants.{Name, Stdin, Dashes, Help, Version}
-use Rattle.console.specs.declared.options.Argument.the-variants.{WriteImage, ReadImage, ImageName, NoName}
-use Rattle.console.specs.declared.options.Argument.the-variants.{Repeated, Unknown}
-use Rattle.console.specs.declared.options.Request.{Request}
-use Rattle.console.specs.declared.options.Act.{Act}
-use Rattle.console.specs.declared.options.Act.the-variants.{Nothing, RefuseName, PrintHelp, PrintVersion}
-use Rattle.console.specs.declared.options.Act.the-variants.{RefuseInputs, PlayStdin, PlayNames}
+use Rattle.options.specs.declared.options.Argument.{Argument}
+use Rattle.options.specs.declared.options.Argument.the-variants.{Name, Stdin, Dashes, Help, Version}
+use Rattle.options.specs.declared.options.Argument.the-variants.{WriteImage, ReadImage, ImageName, NoName}
+use Rattle.options.specs.declared.options.Argument.the-variants.{Repeated, Unknown}
+use Rattle.options.specs.declared.options.Request.{Request}
+use Rattle.options.specs.declared.options.Act.{Act}
+use Rattle.options.specs.declared.options.Act.the-variants.{Nothing, RefuseName, PrintHelp, PrintVersion}
+use Rattle.options.specs.declared.options.Act.the-variants.{RefuseInputs, PlayStdin, PlayNames}
 
 -- the text begins with a dash
 abbrev pub dashed : List ℕ → Bool

@@ -5,10 +5,10 @@ use denote.Ref.{now}
 use borrow.Author.Needs.{needs}
 use Rattle.stepfile.specs.Text.{bytes}
 use Rattle.stepfile.specs.Grammar.{same}
-use Rattle.console.specs.Options.{dashed, argumentOf}
-use Rattle.console.proofs.Texts.{differs}
-use Rattle.console.proofs.options.argument_of.Statement.{statement}
-use Rattle.console.proofs.options.argument_of.Tie as tie
+use Rattle.options.specs.Options.{dashed, argumentOf}
+use Rattle.options.proofs.Texts.{differs}
+use Rattle.options.proofs.options.argument_of.Statement.{statement}
+use Rattle.options.proofs.options.argument_of.Tie as tie
 
 -- the function's entry, from the place after each test that failed
 abbrev start1 : tie.Else1 → tie.Start

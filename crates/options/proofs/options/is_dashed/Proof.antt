@@ -8,9 +8,9 @@ use lib.Dec.{eqb}
 use lib.ListN.{length, getD}
 use denote.Ref.{now}
 use borrow.Author.Needs.{needs}
-use Rattle.console.specs.Options.{dashed}
-use Rattle.console.proofs.options.is_dashed.Statement.{statement}
-use Rattle.console.proofs.options.is_dashed.Tie as tie
+use Rattle.options.specs.Options.{dashed}
+use Rattle.options.proofs.options.is_dashed.Statement.{statement}
+use Rattle.options.proofs.options.is_dashed.Tie as tie
 
 empty : (l : List ℕ) → length l ≡ 0 → false ≡ dashed l
 empty [] e = refl

@@ -1,6 +1,6 @@
 -- `is_missing` meets its contract by that of `is_given`. Assumes nothing.
-use Rattle.console.proofs.options.is_missing.Statement.{statement}
-use Rattle.console.proofs.options.is_missing.Tie as tie
+use Rattle.options.proofs.options.is_missing.Statement.{statement}
+use Rattle.options.proofs.options.is_missing.Tie as tie
 
 returns : tie.Need-returns
 returns c = rw (c .is-given .ensures)

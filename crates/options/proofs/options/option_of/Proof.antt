@@ -7,10 +7,10 @@ use denote.Ref.{now}
 use borrow.Author.Needs.{needs}
 use Rattle.stepfile.specs.Text.{bytes}
 use Rattle.stepfile.specs.Grammar.{same}
-use Rattle.console.specs.Options.{optionOf}
-use Rattle.console.proofs.Texts.{differs}
-use Rattle.console.proofs.options.option_of.Statement.{statement}
-use Rattle.console.proofs.options.option_of.Tie as tie
+use Rattle.options.specs.Options.{optionOf}
+use Rattle.options.proofs.Texts.{differs}
+use Rattle.options.proofs.options.option_of.Statement.{statement}
+use Rattle.options.proofs.options.option_of.Tie as tie
 
 abbrev textOf : tie.Start → List ℕ
 textOf s = now (s .args .text)

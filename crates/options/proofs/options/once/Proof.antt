@@ -1,7 +1,7 @@
 -- `once` meets its contract, by its test. Assumes nothing.
 use borrow.Author.Tests.{eq-eqb, ne-eqb}
-use Rattle.console.proofs.options.once.Statement.{statement}
-use Rattle.console.proofs.options.once.Tie as tie
+use Rattle.options.proofs.options.once.Statement.{statement}
+use Rattle.options.proofs.options.once.Tie as tie
 
 returns : tie.Need-returns
 returns c = rw (eq-eqb (c .before .args .place) 0 (c .if1 .taken))

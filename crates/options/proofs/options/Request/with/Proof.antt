@@ -1,7 +1,7 @@
 -- `Request::with` meets its contract, for each kind of argument. Assumes nothing.
 use borrow.Author.Needs.{needs}
-use Rattle.console.proofs.options.Request.with.Statement.{statement}
-use Rattle.console.proofs.options.Request.with.Tie as tie
+use Rattle.options.proofs.options.Request.with.Statement.{statement}
+use Rattle.options.proofs.options.Request.with.Tie as tie
 
 pub with-spec : {M : Type 1} → statement M
 with-spec =

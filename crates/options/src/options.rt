@@ -1,7 +1,7 @@
 // What the arguments mean: each by its text and its place, and what they ask for together.
 ghost use mathlib.Core.Path.{_≡_};
-ghost use Rattle.console.specs.Options.{argumentOf, imageNameOf, optionOf, once as whenFirst, dashed, noRequest};
-ghost use Rattle.console.specs.Options.{withName, withArgument, isGiven, isMissing, actOf};
+ghost use Rattle.options.specs.Options.{argumentOf, imageNameOf, optionOf, once as whenFirst, dashed, noRequest};
+ghost use Rattle.options.specs.Options.{withName, withArgument, isGiven, isMissing, actOf};
 use check::same;
 
 // What an argument is.

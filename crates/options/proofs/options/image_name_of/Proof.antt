@@ -1,9 +1,9 @@
 -- `image_name_of` meets its contract, by its test. Assumes nothing.
 use borrow.Author.Needs.{needs}
-use Rattle.console.specs.Options.{imageNameOf}
-use Rattle.console.proofs.Texts.{differs}
-use Rattle.console.proofs.options.image_name_of.Statement.{statement}
-use Rattle.console.proofs.options.image_name_of.Tie as tie
+use Rattle.options.specs.Options.{imageNameOf}
+use Rattle.options.proofs.Texts.{differs}
+use Rattle.options.proofs.options.image_name_of.Statement.{statement}
+use Rattle.options.proofs.options.image_name_of.Tie as tie
 
 returns : tie.Need-returns
 unfolding imageNameOf

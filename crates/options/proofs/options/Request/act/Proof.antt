@@ -2,10 +2,10 @@
 use mathlib.Core.Path.{_≡_}
 use mathlib.Core.Bool.{Bool, true, false, _&&_, _||_}
 use borrow.Author.Needs.{needs}
-use Rattle.console.specs.declared.options.Request.{Request}
-use Rattle.console.specs.Options.{hasImage, lacksName}
-use Rattle.console.proofs.options.Request.act.Statement.{statement}
-use Rattle.console.proofs.options.Request.act.Tie as tie
+use Rattle.options.specs.declared.options.Request.{Request}
+use Rattle.options.specs.Options.{hasImage, lacksName}
+use Rattle.options.proofs.options.Request.act.Statement.{statement}
+use Rattle.options.proofs.options.Request.act.Tie as tie
 
 -- what the second test finds, by the definition
 name-test : (c : tie.After-is-missing2) (b : Bool)

@@ -1,2 +1,0 @@
--- What the arguments of the program mean.
-pub mod Options

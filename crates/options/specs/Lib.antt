@@ -1,0 +1,2 @@
+-- What the arguments of the programs mean.
+pub mod Options
