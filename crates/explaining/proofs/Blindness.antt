@@ -11,10 +11,11 @@ use Rattle.stepfile.specs.Grammar.{parseLine}
 use Rattle.stepfile.specs.Played.{outcomeOf}
 use Rattle.stepfile.proofs.Longest.{too-long, no-setting}
 use Rattle.stepfile.proofs.LongLines.{Blind, outcome-alike}
+use Rattle.ledger.specs.declared.annotated.Annotated.{Annotated}
 use Rattle.ledger.specs.declared.ledger.Ledger.{Ledger}
 use Rattle.ledger.specs.Refusals.{refusalsAfter}
-use Rattle.sentences.specs.declared.annotated.Annotated.{Annotated}
-use Rattle.sentences.specs.Explained.{noStepText, settingText, saidOfLine, explainedText, ledgerOf, explainedLine, annotatedAfter}
+use Rattle.ledger.specs.Annotated.{ledgerOf, annotatedAfter}
+use Rattle.sentences.specs.Explained.{noStepText, settingText, saidOfLine, explainedText, explainedLine}
 
 module _ (fresh : Bool) (t : Annotated) (n : ℕ) where
   -- in words that do not name the line

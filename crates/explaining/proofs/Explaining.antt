@@ -39,14 +39,15 @@ use Rattle.reader.specs.FirstLine.{isSet}
 use Rattle.stepfile.specs.declared.parsed.Read.the-variants.{Line}
 use Rattle.stepfile.specs.Input.{readAt}
 use Rattle.writer.specs.Buffer.{WroteIfRoom}
+use Rattle.ledger.specs.declared.annotated.Annotated.{Annotated}
 use Rattle.ledger.specs.declared.ledger.Ledger.{Ledger}
 use Rattle.ledger.specs.Ledger.{entered, noted, toldOf, mayCache, holdsBlock, stepTold, ledgerAfter}
 use Rattle.ledger.specs.Refusals.{refusalsAfter}
 use Rattle.ledger.specs.Wrapped.{wrappedStep}
+use Rattle.ledger.specs.Annotated.{annotatedBy, annotatedAfter}
 use Rattle.ledger.proofs.Wrapping.{found-there, noted-wrapped}
-use Rattle.sentences.specs.declared.annotated.Annotated.{Annotated}
 use Rattle.sentences.specs.Scene.{rowOf, sceneHeld}
-use Rattle.sentences.specs.Explained.{saidOf, sentenceOf, noStepText, settingText, explainedText, explainedRoom, explainedLine, annotatedAfter, explainedBy, annotatedBy}
+use Rattle.sentences.specs.Explained.{saidOf, sentenceOf, noStepText, settingText, explainedText, explainedRoom, explainedLine, explainedBy}
 use Rattle.telling.specs.Lines.{canTell}
 use Rattle.telling.proofs.Reaching.{lineBytes, line-bytes}
 use Rattle.telling.specs.Reached.{Reached}

@@ -12,7 +12,7 @@ use Rattle.service.specs.Fresh.{fresh as freshService}
 use Rattle.service.specs.Lent.{serviceHeld}
 use Rattle.ledger.specs.Ledger.{emptyLedger}
 use Rattle.ledger.specs.Refusals.{noRefusals}
-use Rattle.sentences.specs.Explained.{unannotated}
+use Rattle.ledger.specs.Annotated.{unannotated}
 use Rattle.telling.specs.Lines.{stateAfter}
 use Rattle.telling.specs.Session.{standingAt}
 use Rattle.telling.specs.Run.{Leg, input}

@@ -14,9 +14,10 @@ use Rattle.stepfile.specs.declared.setting.Setting.{Setting}
 use Rattle.stepfile.specs.declared.setting.Setting.the-variants.{Missing}
 use Rattle.stepfile.specs.Setting.{settingOf}
 use Rattle.writer.specs.Buffer.{WroteIfRoom}
+use Rattle.ledger.specs.declared.annotated.Annotated.{Annotated}
 use Rattle.ledger.specs.declared.ledger.Ledger.{Ledger}
-use Rattle.sentences.specs.declared.annotated.Annotated.{Annotated}
-use Rattle.sentences.specs.Explained.{explainedLine, annotatedAfter, explainedBy, annotatedBy, explainedRoom}
+use Rattle.ledger.specs.Annotated.{annotatedBy, annotatedAfter}
+use Rattle.sentences.specs.Explained.{explainedLine, explainedBy, explainedRoom}
 use Rattle.picture.specs.Picture.{pictureText, pictureRoom}
 use Rattle.telling.specs.Lines.{Telling, Reach, Tells, canTell}
 use Rattle.telling.specs.Reached.{Reached}

@@ -6,8 +6,8 @@ use mathlib.Core.List.{List, _++_}
 use Rattle.sizes.specs.Sizes.{defaultSizes}
 use Rattle.service.specs.declared.service.Service.{Service}
 use Rattle.service.specs.Fresh.{fresh as freshService}
-use Rattle.sentences.specs.declared.annotated.Annotated.{Annotated}
-use Rattle.sentences.specs.Explained.{unannotated}
+use Rattle.ledger.specs.declared.annotated.Annotated.{Annotated}
+use Rattle.ledger.specs.Annotated.{unannotated}
 use Rattle.picture.specs.Picture.{pictureText}
 use Rattle.telling.specs.Lines.{saidOver, stateAfter}
 use Rattle.telling.specs.Session.{Standing, standingAt}

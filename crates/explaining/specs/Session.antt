@@ -8,8 +8,8 @@ use mathlib.Core.List.{List}
 use Rattle.sizes.specs.declared.sizes.Sizes.{Sizes}
 use Rattle.sizes.specs.Sizes.{defaultSizes}
 use Rattle.blocks.specs.Stores.{Stores}
+use Rattle.ledger.specs.declared.annotated.Annotated.{Annotated}
 use Rattle.ledger.specs.declared.ledger.Ledger.{Ledger}
-use Rattle.sentences.specs.declared.annotated.Annotated.{Annotated}
 use Rattle.telling.specs.Session.{Standing, Moved, Moves}
 use Rattle.playing.specs.Lines.{Long}
 use Rattle.explaining.specs.declared.session.Session.{Session}

@@ -4,8 +4,8 @@ use mathlib.Core.Bool.{Bool}
 use mathlib.Core.List.{List}
 use Rattle.sizes.specs.declared.sizes.Sizes.{Sizes}
 use Rattle.blocks.specs.Stores.{Stores}
+use Rattle.ledger.specs.declared.annotated.Annotated.{Annotated}
 use Rattle.ledger.specs.declared.ledger.Ledger.{Ledger}
-use Rattle.sentences.specs.declared.annotated.Annotated.{Annotated}
 use Rattle.telling.specs.Turn.{Turned, Turns}
 use Rattle.playing.specs.Lines.{Long}
 use Rattle.explaining.specs.declared.turn.Turn.{Turn}

@@ -1,9 +1,11 @@
-// The ledger: which line wrote what each client reads, and refusals, counted.
+// The ledger: which line wrote what each client reads, and refusals, counted; and both beside the service.
+mod annotated;
 mod ledger;
 mod note;
 mod refusals;
 mod told;
 
+pub use annotated::Annotated;
 pub use ledger::Ledger;
 pub use note::note_line;
 pub use refusals::REFUSAL_NUMBERS;

@@ -20,8 +20,8 @@ use Rattle.stepfile.specs.Setting.{settingOf}
 use Rattle.stepfile.specs.Transcript.{lines, after}
 use Rattle.stepfile.specs.Played.{serviceAfter}
 use Rattle.ledger.specs.Ledger.{emptyLedger, ledgerAfter}
+use Rattle.ledger.specs.Annotated.{unannotated, annotatedAfter}
 use Rattle.phrases.specs.Phrase.{numbersText}
-use Rattle.sentences.specs.Explained.{unannotated, annotatedAfter}
 use Rattle.picture.specs.Picture.{stationsText, filesText, timesText, pictureText}
 
 -- the picture after an input, from the fresh service and an empty ledger

@@ -22,11 +22,11 @@ use Rattle.blocks.proofs.Wrapped.{wrapped-cell}
 use Rattle.table.specs.TableStep.{entryOf, sidesIn}
 use Rattle.service.specs.Contents.{sizesOf, tableIn, entryAt, sidesAt}
 use Rattle.stepfile.specs.Summary.{isListed}
+use Rattle.ledger.specs.declared.annotated.Annotated.{Annotated}
 use Rattle.ledger.specs.Ledger.{waitingSince}
 use Rattle.ledger.specs.Refusals.{timesRefused}
 use Rattle.phrases.specs.Phrase.{listText}
 use Rattle.phrases.proofs.Lists.{list-agree}
-use Rattle.sentences.specs.declared.annotated.Annotated.{Annotated}
 use Rattle.picture.specs.Picture.{isConcerned, concerned, isPictured, stationIfText, stationsText}
 use Rattle.picture.specs.Picture.{headText, waitIfText, fileIfText, filesText, refusedText, timesText}
 

@@ -19,11 +19,11 @@ use Rattle.table.specs.declared.table.Table.{Table}
 use Rattle.service.specs.Contents.{sizesOf, tableIn, entryAt, sidesAt, storesOf}
 use Rattle.stepfile.specs.Text.{bytes, argumentText}
 use Rattle.stepfile.specs.Summary.{versionIn, isListed}
+use Rattle.ledger.specs.declared.annotated.Annotated.{Annotated}
 use Rattle.ledger.specs.Ledger.{waitingSince}
 use Rattle.ledger.specs.Refusals.{refusalNumbers, timesRefused}
 use Rattle.phrases.specs.Phrase.{clientText, stateText, listText}
 use Rattle.phrases.specs.Refusal.{missingText, openWaitsText}
-use Rattle.sentences.specs.declared.annotated.Annotated.{Annotated}
 
 -- ---- the server
 

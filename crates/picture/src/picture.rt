@@ -7,7 +7,7 @@ ghost use Rattle.picture.specs.Picture.{filesText, pictureText, pictureR
 use crate::files::put_file;
 use crate::refused::put_refusals;
 use crate::server::put_server;
-use sentences::Annotated;
+use ledger::Annotated;
 
 // The room that the picture is given: more than any picture takes.
 pub const PICTURE_ROOM: usize = 300000;

@@ -24,10 +24,11 @@ use Rattle.stepfile.specs.Line.{callsText as replyCalls}
 use Rattle.stepfile.specs.Transcript.{lines, transcript}
 use Rattle.stepfile.specs.Played.{serviceAfter}
 use Rattle.ledger.specs.Ledger.{emptyLedger, ledgerAfter}
+use Rattle.ledger.specs.Annotated.{unannotated, annotatedAfter}
 use Rattle.phrases.specs.Phrase.{numbersText}
 use Rattle.phrases.specs.Accepted.{callsText}
 use Rattle.phrases.specs.Refusal.{refusalText}
-use Rattle.sentences.specs.Explained.{unannotated, sentenceOf, explainedText, explainedLine, annotatedAfter}
+use Rattle.sentences.specs.Explained.{sentenceOf, explainedText, explainedLine}
 
 -- what is said of an input, line by line, from the fresh service and an empty ledger
 abbrev explained : List ℕ → List ℕ

@@ -22,12 +22,10 @@ use Rattle.stepfile.specs.Grammar.{parseLine}
 use Rattle.stepfile.specs.Setting.{settingOf}
 use Rattle.stepfile.specs.Line.{replyText}
 use Rattle.stepfile.specs.Played.{outcomeOf}
+use Rattle.ledger.specs.declared.annotated.Annotated.{Annotated}
 use Rattle.ledger.specs.declared.ledger.Ledger.{Ledger}
-use Rattle.ledger.specs.Ledger.{emptyLedger, ledgerAfter}
-use Rattle.ledger.specs.Refusals.{noRefusals, refusalsAfter}
 use Rattle.phrases.specs.Accepted.{readText, grantText, waitText, answerText, stillText, doneText}
 use Rattle.phrases.specs.Refusal.{refusalText}
-use Rattle.sentences.specs.declared.annotated.Annotated.{Annotated}
 use Rattle.sentences.specs.Scene.{Scene, sceneOf}
 
 -- What is said of the step x, by its reply. An answer that grants gives the open that waited: the waiter's, in the mode
@@ -75,36 +73,15 @@ saidOfLine fresh s l n l′ NoStep = cond (fresh && eqb n 1) (settingText (setti
 unfoldable pub explainedText : ℕ → Reply → List ℕ → List ℕ → List ℕ
 explainedText n r kinds said = replyText n r kinds ++ (bytes "    " ++ (said ++ bytes "\n"))
 
--- the service with nothing noted yet
-abbrev pub unannotated : Service → Annotated
-unannotated s = record { service = s; ledger = emptyLedger; refusals = noRefusals }
-
--- a line that gives no step notes nothing in the ledger
-abbrev pub ledgerOf : Service → Ledger → ℕ → Parsed → Ledger
-ledgerOf s l n (Is x) = ledgerAfter n s x l
-ledgerOf s l n NoStep = l
-
--- the text of line l, numbered n, which gives p, and the state after it
+-- the text of line l, numbered n, which gives p; `annotatedBy` (crates/ledger/specs/Annotated.antt) is the state after it
 abbrev pub explainedBy : Bool → Annotated → ℕ → List ℕ → Parsed → List ℕ
 explainedBy fresh t n l p =
     let o = outcomeOf fresh (t .service) n l p in
     explainedText n (o .reply) (o .calls) (saidOfLine fresh (t .service) (t .ledger) n l p)
 
-abbrev pub annotatedBy : Bool → Annotated → ℕ → List ℕ → Parsed → Annotated
-annotatedBy fresh t n l p =
-    let o = outcomeOf fresh (t .service) n l p in
-    record {
-      service = o .service;
-      ledger = ledgerOf (t .service) (t .ledger) n p;
-      refusals = refusalsAfter (o .reply) (t .refusals);
-    }
-
 -- for `transcript` (crates/stepfile/specs/Transcript.antt)
 unfoldable pub explainedLine : Bool → Annotated → ℕ → List ℕ → List ℕ
 explainedLine fresh t n l = explainedBy fresh t n l (parseLine l)
-
-unfoldable pub annotatedAfter : Bool → Annotated → ℕ → List ℕ → Annotated
-annotatedAfter fresh t n l = annotatedBy fresh t n l (parseLine l)
 
 -- the room that an explained line is given: more than it takes
 abbrev pub explainedRoom : ℕ

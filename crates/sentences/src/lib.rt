@@ -1,10 +1,8 @@
 // What is said of each line: definitions, in specs/, and the functions that write it into a lent buffer.
-mod annotated;
 mod explained;
 mod scene;
 mod sentence;
 
-pub use annotated::Annotated;
 pub use explained::EXPLAINED_ROOM;
 pub use explained::explain_setting;
 pub use explained::explain_step;

@@ -15,8 +15,8 @@ use Rattle.reader.specs.declared.setting.FirstSetting.{FirstSetting}
 use Rattle.telling.specs.Lines.{canTell}
 use Rattle.telling.proofs.Reaching.{lineBytes}
 use Rattle.telling.proofs.LineByLine.{from-1, has-number, none-yet}
+use Rattle.ledger.specs.declared.annotated.Annotated.{Annotated}
 use Rattle.ledger.specs.declared.ledger.Ledger.{Ledger}
-use Rattle.sentences.specs.declared.annotated.Annotated.{Annotated}
 use Rattle.sentences.specs.Explained.{explainedRoom}
 use Rattle.playing.proofs.FirstLines.{none-later, left-alone, can-be-told, is-first, first-read, first-sets}
 use Rattle.explaining.specs.Lines.{explaining, stateHeld}

@@ -26,9 +26,9 @@ use Rattle.telling.specs.Lines.{canTell}
 use Rattle.telling.specs.Reached.{Reached}
 use Rattle.telling.proofs.Reaching.{lineBytes}
 use Rattle.telling.proofs.LineByLine.{ReadLine, read-line, from-1, has-number, fewer, GoesOn, same-length, stops-full, stops-whole}
+use Rattle.ledger.specs.declared.annotated.Annotated.{Annotated}
 use Rattle.ledger.specs.declared.ledger.Ledger.{Ledger}
 use Rattle.ledger.specs.Ledger.{entered}
-use Rattle.sentences.specs.declared.annotated.Annotated.{Annotated}
 use Rattle.sentences.specs.Explained.{explainedRoom}
 use Rattle.playing.specs.Lines.{choosesSizes, Long}
 use Rattle.playing.proofs.FirstLines.{none-later, not-chosen}

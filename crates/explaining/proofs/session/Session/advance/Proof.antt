@@ -4,9 +4,9 @@ use mathlib.Core.Path.{refl}
 use denote.Ref.{now}
 use borrow.Author.Needs.{needs}
 use Rattle.blocks.specs.Stores.{Stores, lent}
+use Rattle.ledger.specs.declared.annotated.Annotated.{Annotated}
 use Rattle.ledger.specs.declared.ledger.Ledger.{Ledger}
 use Rattle.ledger.specs.Ledger.{entered}
-use Rattle.sentences.specs.declared.annotated.Annotated.{Annotated}
 use Rattle.telling.specs.Lines.{Telling}
 use Rattle.telling.specs.Session.{Standing}
 use Rattle.telling.proofs.Parts.{last-move, other-move}

@@ -11,9 +11,9 @@ use Rattle.blocks.specs.Stores.{Stores, lent}
 use Rattle.service.specs.declared.service.Service.{Service}
 use Rattle.service.specs.Lent.{serviceHeld}
 use Rattle.writer.specs.Buffer.{WroteIfRoom}
+use Rattle.ledger.specs.declared.annotated.Annotated.{Annotated}
 use Rattle.ledger.specs.declared.ledger.Ledger.{Ledger}
 use Rattle.ledger.specs.Ledger.{entered}
-use Rattle.sentences.specs.declared.annotated.Annotated.{Annotated}
 use Rattle.picture.specs.Picture.{pictureText, pictureRoom}
 use Rattle.telling.specs.Lines.{Telling}
 use Rattle.telling.specs.Session.{Standing, closedBy, outClosed}

@@ -2,11 +2,11 @@
 use mathlib.Core.Path.{ap}
 use borrow.Author.Needs.{needs}
 use Rattle.service.specs.declared.service.Service.{Service}
+use Rattle.ledger.specs.declared.annotated.Annotated.{Annotated}
 use Rattle.ledger.specs.declared.ledger.Ledger.{Ledger}
 use Rattle.ledger.specs.Refusals.{noRefusals}
-use Rattle.sentences.specs.declared.annotated.Annotated.{Annotated}
-use Rattle.sentences.proofs.annotated.Annotated.new.Statement.{statement}
-use Rattle.sentences.proofs.annotated.Annotated.new.Tie as tie
+use Rattle.ledger.proofs.annotated.Annotated.new.Statement.{statement}
+use Rattle.ledger.proofs.annotated.Annotated.new.Tie as tie
 
 new-requires : tie.Need-new-requires
 new-requires c κs = search needs

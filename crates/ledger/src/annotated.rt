@@ -1,8 +1,8 @@
 // The service with what is noted beside it.
 ghost use mathlib.Core.Path.{_≡_};
-ghost use Rattle.sentences.specs.Explained.{unannotated};
-use ledger::Ledger;
-use ledger::REFUSAL_NUMBERS;
+ghost use Rattle.ledger.specs.Annotated.{unannotated};
+use crate::ledger::Ledger;
+use crate::refusals::REFUSAL_NUMBERS;
 use service::Service;
 
 pub struct Annotated {
