@@ -1,5 +1,5 @@
--- What is promised of every accepted read of every list of lines: the ledger says what the past says, and the reference
--- memory is the value of the latest write, so Demand 3 gives the value. Assumes nothing.
+-- What is told of an accepted read: the ledger says what the past says, and the reference memory is the value of the
+-- latest write, so Demand 3 gives the value. Crate history has it for whole histories. Assumes nothing.
 use Prim.Native.Nat.{ℕ, _+_, _<_}
 use mathlib.Core.Path.{_≡_, refl, ap, _∙_, subst, subst⁻¹}
 use mathlib.Core.Bool.{Bool, true, false, cond, _&&_}
@@ -9,7 +9,6 @@ use lib.Dec.{eqb}
 use lib.ListN.{length-replicate}
 use Rattle.sizes.specs.declared.sizes.Sizes.{Sizes}
 use Rattle.sizes.specs.Sizes.{maxFiles, maxPlaces, maxCells, inForce, Permitted, place, cell}
-use Rattle.sizes.proofs.InForce.{in-force-permitted}
 use Rattle.decision.proofs.Beyond.{getD-alike}
 use Rattle.protocol.specs.declared.reply.Reply.{Reply}
 use Rattle.protocol.specs.declared.reply.Reply.the-variants.{Value}
@@ -20,27 +19,18 @@ use Rattle.service.specs.declared.outcome.Outcome.{Outcome}
 use Rattle.service.specs.Contents.{sizesOf, clientAt, heldAt}
 use Rattle.service.specs.Step.{stepOf}
 use Rattle.service.specs.Fresh.{fresh}
-use Rattle.service.specs.Demand3.{refused, after, Memory, blank, written, fed, Recovery, none, recoveryAfter, Holds}
+use Rattle.service.specs.Demand3.{refused, after, Memory, blank, fed}
 use Rattle.service.proofs.Tests.{split, conflict}
 use Rattle.service.proofs.Accepted.{when-accepted}
-use Rattle.service.proofs.Demand3.{demand3}
-use Rattle.stepfile.specs.declared.parsed.Parsed.{Parsed}
-use Rattle.stepfile.specs.declared.parsed.Parsed.the-variants.{Is, NoStep}
 use Rattle.ledger.specs.declared.told.Told.{Told}
 use Rattle.ledger.specs.declared.ledger.Ledger.{Ledger}
 use Rattle.ledger.specs.Ledger.{emptyLedger, writtenAt, writerAt, copiedAt, waitingSince, ledgerAfter}
 use Rattle.ledger.specs.Ledger.{readTold}
 use Rattle.ledger.specs.Provenance.{Event, Origin, never, by, originAfter, latestWrite, latestLine}
-use Rattle.ledger.specs.Provenance.{copies, beginsWait, NamesWrite, ReadIsTold, LineIsTold, AllTold, Provenance}
+use Rattle.ledger.specs.Provenance.{copies, beginsWait, NamesWrite, ReadIsTold, LineIsTold}
 use Rattle.ledger.proofs.Entries.{Ruled, ruled-after, Names, valueOf, wait-after, names-after, copy-after}
 use Rattle.ledger.proofs.Entries.{names-there}
 use Rattle.ledger.proofs.Holding.{held-before}
-
--- the steps of the lines
-abbrev stepsOf : List Parsed → List Step
-stepsOf [] = []
-stepsOf (Is x ∷ lines) = x ∷ stepsOf lines
-stepsOf (NoStep ∷ lines) = stepsOf lines
 
 -- the reference memory is the value of the latest write
 fed-value :
@@ -82,21 +72,21 @@ same-sizes s End = refl
 
 -- The ledger says what the past says, of all that is in force; the reference memory is the value of the latest write;
 -- and a copy that is held was fetched or written at some line.
-record Agrees (z : Sizes) (s : Service) (m : Memory) (l : Ledger) (past : List Event) : Type 0 where
-  sizes : sizesOf s ≡ z
-  ruled : Ruled l
-  names :
+pub record Agrees (z : Sizes) (s : Service) (m : Memory) (l : Ledger) (past : List Event) : Type 0 where
+  pub sizes : sizesOf s ≡ z
+  pub ruled : Ruled l
+  pub names :
       (f b : ℕ) → f < z .files → b < z .blocks → Names (writtenAt l f b) (writerAt l f b) (latestWrite f b past)
-  memory : (f b : ℕ) → m f b ≡ valueOf (latestWrite f b past)
-  copied :
+  pub memory : (f b : ℕ) → m f b ≡ valueOf (latestWrite f b past)
+  pub copied :
       (i f b : ℕ) → i < z .clients → f < z .files → b < z .blocks
       → copiedAt l i f b ≡ latestLine (copies i f b) past
-  waiting : (f : ℕ) → f < z .files → waitingSince l f ≡ latestLine (beginsWait f) past
-  held :
+  pub waiting : (f : ℕ) → f < z .files → waitingSince l f ≡ latestLine (beginsWait f) past
+  pub held :
       (i f b : ℕ) → i < z .clients → f < z .files → b < z .blocks → heldAt s i f b ≡ true → 0 < copiedAt l i f b
 
 module _ {z : Sizes} (most : Permitted z) where
-  agrees-after :
+  pub agrees-after :
       (s : Service) (m : Memory) (l : Ledger) (past : List Event) (n : ℕ) (x : Step)
       → 0 < n
       → Agrees z s m l past
@@ -134,7 +124,7 @@ module _ {z : Sizes} (most : Permitted z) where
   names-write t reply v never line e r = (line, r ∙ ap Value e)
   names-write t reply v (by w) (some, line, client) e r = (some, line, client, r ∙ ap Value e)
 
-  line-told :
+  pub line-told :
       (s : Service) (m : Memory) (l : Ledger) (past : List Event) (x : Step)
       → Agrees z s m l past
       → ((i f b : ℕ) → x ≡ Read i f b → refused s x ≡ false → stepOf s x .reply ≡ Value (m f b))
@@ -177,24 +167,9 @@ module _ {z : Sizes} (most : Permitted z) where
           → ReadIsTold s l past i f b
       read i f b latest e a = told i f b latest (subst (λ y. refused s y ≡ false) e a)
 
-  all-told :
-      (s : Service) (m : Memory) (r : Recovery) (l : Ledger) (past : List Event) (n : ℕ) (lines : List Parsed)
-      → 0 < n
-      → Agrees z s m l past
-      → Holds s m r (stepsOf lines)
-      → AllTold s l past n lines
-  all-told s m r l past n [] some h holds = tt
-  all-told s m r l past n (Is x ∷ lines) some h (latest, _, later) = (
-    line-told s m l past x h latest,
-    all-told (after s x) (fed m x (refused s x)) (recoveryAfter s r x (refused s x)) (ledgerAfter n s x l) _ (n + 1)
-        lines (omega arith) (agrees-after s m l past n x some h) later,
-  )
-  all-told s m r l past n (NoStep ∷ lines) some h holds =
-      all-told s m r l past (n + 1) lines (omega arith) h holds
-
 -- ---- the start
 
-fresh-agrees : (z : Sizes) → Agrees (inForce z) (fresh z) blank emptyLedger []
+pub fresh-agrees : (z : Sizes) → Agrees (inForce z) (fresh z) blank emptyLedger []
 unfolding fresh emptyLedger latestWrite latestLine
 fresh-agrees z =
     record {
@@ -212,8 +187,3 @@ fresh-agrees z =
       waiting = λ f hf. getD-alike maxFiles 0 f;
       held = λ i f b hi hf hb e. conflict e (getD-alike maxCells false (cell i f b));
     }
-
-pub provenance : Provenance
-provenance z n lines some =
-    all-told (in-force-permitted z) (fresh z) blank none emptyLedger [] n lines some (fresh-agrees z)
-    (demand3 z .always (stepsOf lines))

@@ -1,12 +1,11 @@
--- What is promised of every accepted read of every list of lines: the line that is named is that of the latest
--- accepted write to the file and block, with its client, and its value is the value read; the copy is told where the
--- read takes it.
-use Prim.Native.Nat.{ℕ, _+_, _<_}
+-- What is promised of an accepted read, wherever it comes: the line that is named is that of the latest accepted write
+-- to the file and block, with its client, and its value is the value read; the copy is told where the read takes it.
+-- Crate history promises it in every history.
+use Prim.Native.Nat.{ℕ, _<_}
 use mathlib.Core.Path.{_≡_}
 use mathlib.Core.Bool.{Bool, true, false, cond, not, _&&_}
 use mathlib.Core.List.{List, [], _∷_}
 use lib.Dec.{eqb}
-use Rattle.sizes.specs.declared.sizes.Sizes.{Sizes}
 use Rattle.protocol.specs.declared.reply.Reply.{Reply}
 use Rattle.protocol.specs.declared.reply.Reply.the-variants.{Value}
 use Rattle.protocol.specs.declared.step.Step.{Step}
@@ -14,14 +13,10 @@ use Rattle.protocol.specs.declared.step.Step.the-variants.{Open, Close, Read, W
 use Rattle.service.specs.declared.service.Service.{Service}
 use Rattle.service.specs.Contents.{sizesOf, blockAt, clientAt, copyAt, heldAt}
 use Rattle.service.specs.Step.{stepOf}
-use Rattle.service.specs.Fresh.{fresh}
-use Rattle.service.specs.Demand3.{refused, after}
-use Rattle.stepfile.specs.declared.parsed.Parsed.{Parsed}
-use Rattle.stepfile.specs.declared.parsed.Parsed.the-variants.{Is, NoStep}
+use Rattle.service.specs.Demand3.{refused}
 use Rattle.ledger.specs.declared.told.Told.{Told}
 use Rattle.ledger.specs.declared.ledger.Ledger.{Ledger}
-use Rattle.ledger.specs.Ledger.{emptyLedger, waitingSince, isWaiting, fetches, writesCopy}
-use Rattle.ledger.specs.Ledger.{ledgerAfter, readTold}
+use Rattle.ledger.specs.Ledger.{waitingSince, isWaiting, fetches, writesCopy, readTold}
 
 -- ---- the past
 
@@ -116,15 +111,3 @@ pub record ReadIsTold (s : Service) (l : Ledger) (past : List Event) (i f b : �
 pub record LineIsTold (s : Service) (l : Ledger) (past : List Event) (x : Step) : Type 0 where
   pub reads : (i f b : ℕ) → x ≡ Read i f b → refused s x ≡ false → ReadIsTold s l past i f b
   pub waits : (f : ℕ) → f < sizesOf s .files → waitingSince l f ≡ latestLine (beginsWait f) past
-
--- Lines with the numbers n, n + 1 and so on; one that gives no step changes nothing.
-abbrev pub AllTold : Service → Ledger → List Event → ℕ → List Parsed → Type 0
-AllTold s l past n [] = Unit {0}
-AllTold s l past n (Is x ∷ lines) =
-    LineIsTold s l past x
-    × AllTold (after s x) (ledgerAfter n s x l) (record { line = n; step = x; before = s } ∷ past) (n + 1) lines
-AllTold s l past n (NoStep ∷ lines) = AllTold s l past (n + 1) lines
-
--- for the fresh service of any sizes, and every list of lines from any number above 0 on: a first line SET is past then
-abbrev pub Provenance : Type 0
-Provenance = (z : Sizes) (n : ℕ) (lines : List Parsed) → 0 < n → AllTold (fresh z) emptyLedger [] n lines

@@ -14,5 +14,4 @@ pub mod GivenBack
 pub mod Bounds
 pub mod Exact
 pub mod ReadsBack
-pub mod Events
 pub mod Examples

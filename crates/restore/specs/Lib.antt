@@ -2,4 +2,3 @@
 pub mod Decoded
 pub mod Reading
 pub mod Exact
-pub mod Events

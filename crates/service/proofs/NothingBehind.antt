@@ -63,7 +63,7 @@ module _
       shown none h = promises .owes (viewOf z s f 0) (m f 0) i (h .views f 0 hf (most .someBlock)) hi
       shown (since t) h = promises .owesStill (viewOf z s f 0) (m f 0) i _ _ (h .views f 0 hf (most .someBlock)) hi
 
-  nothing-behind :
+  pub nothing-behind :
       (s : Service) (m : Memory) (r : Recovery)
       → Sound z Running Recovering s m r
       → Owed z s
@@ -121,7 +121,7 @@ module _
   accepted-owed s m (since t) (Open mode i f) h (_, (_, (runs, _))) owed = conflict (h .state) runs
   accepted-owed s m (since t) (Answer i f) h (_, (_, (runs, _))) owed = conflict (h .state) runs
 
-  after-owed :
+  pub after-owed :
       (s : Service) (m : Memory) (r : Recovery) (x : Step)
       → Sound z Running Recovering s m r
       → Owed z s
@@ -145,7 +145,7 @@ module _
       (after-kept most Running Recovering promises s m r x h) (after-owed s m r x h owed)
 
 -- nobody is marked in the fresh service
-fresh-owed : (z : Sizes) → Owed (inForce z) (fresh z)
+pub fresh-owed : (z : Sizes) → Owed (inForce z) (fresh z)
 fresh-owed z i f hi hf m =
     let is : clientAt (fresh z) i f ≡ noClient =
     client-is (inForce z) (fresh z) f 0 hi ∙ ap (λ (v : View). v .client i) (fresh-view z f 0 hf) in

@@ -18,8 +18,11 @@ use Rattle.service.specs.Contents.{entryAt}
 use Rattle.service.specs.Fresh.{fresh}
 use Rattle.service.specs.Demand3.{refused, after, Memory, blank, fed, Recovery, none, since, recoveryAfter}
 use Rattle.service.specs.Demand3.{ReadIsLatest, EndRestores}
+use Rattle.service.specs.NothingBehind.{NothingBehind}
 use Rattle.service.proofs.Views.{Sized}
 use Rattle.service.proofs.Invariant.{Sound}
+use Rattle.service.proofs.Owing.{Owed}
+use Rattle.service.proofs.NothingBehind.{nothing-behind, after-owed}
 use Rattle.service.proofs.Consistent.{sized, after-kept, read-latest, end-restores, fresh-runs}
 
 module _ (z : Sizes) where
@@ -67,3 +70,13 @@ module _ (z : Sizes) where
       h .views f 0 hf (in-force-permitted z .someBlock) .sound .clients .versionNotZero
   version-not-zero s m (since t) h f hf =
       h .views f 0 hf (in-force-permitted z .someBlock) .sound .clients .versionNotZero
+
+-- what every client that is last writer, or marked, has to write back
+module _ (z : Sizes) (s : Service) (m : Memory) (r : Recovery) (h : Reached z s m r) (owed : Owed (inForce z) s) where
+  pub owed-after : (x : Step) → Owed (inForce z) (after s x)
+  owed-after x =
+      after-owed (in-force-permitted z) (Running (inForce z .clients)) (Recovering (inForce z .clients)) (kept-promises z) s m r x h owed
+
+  pub behind-at : NothingBehind s
+  behind-at =
+      nothing-behind (in-force-permitted z) (Running (inForce z .clients)) (Recovering (inForce z .clients)) (kept-promises z) s m r h owed

@@ -1,0 +1,5 @@
+-- The proof of what is promised of every history, in reading order.
+pub mod Along
+pub mod Reading
+pub mod Moving
+pub mod Histories
