@@ -1,8 +1,10 @@
 // The state of a file, named from the records of its clients.
 ghost use mathlib.Core.Path.{_≡_};
-ghost use mathlib.Core.Bool.{cond};
+ghost use mathlib.Core.Bool.{cond, _&&_};
 ghost use Prim.Native.Nat.{_≤_};
+ghost use lib.Dec.{ltb};
 ghost use lib.ListN.{set};
+ghost use Rattle.records.specs.Record.{isOpen};
 ghost use Rattle.sizes.specs.Sizes.{maxClients};
 ghost use Rattle.decision.specs.State.{codeOf, recordIn, has, talliesOf, stateOf};
 use records::ClientRecord;
@@ -162,18 +164,40 @@ fn one_open(
     requires { ⌜ counted .«open» ≡ 1 ⌝ }
     ensures { λ r. ⌜ r ≡ stateOf clients (recordIn records) last ⌝ }
 {
-    if 0 < counted.uncached {
-        return FileState::WriteShared;
+    let uncached = counted.uncached;
+    match uncached {
+        0 => one_cached(records, clients, last, counted),
+        _ => FileState::WriteShared,
     }
-    if 0 < counted.writing {
-        return FileState::OneWriter;
+}
+
+// The same, where that client may cache.
+fn one_cached(
+    records: [ClientRecord; MAX_CLIENTS],
+    clients: usize,
+    last: u8,
+    counted: Tallies,
+) -> FileState
+    requires { ⌜ counted ≡ talliesOf clients (recordIn records) ⌝ }
+    requires { ⌜ counted .«open» ≡ 1 ⌝ }
+    requires { ⌜ counted .uncached ≡ 0 ⌝ }
+    ensures { λ r. ⌜ r ≡ stateOf clients (recordIn records) last ⌝ }
+{
+    let writing = counted.writing;
+    match writing {
+        0 => one_reader(records, clients, last),
+        _ => FileState::OneWriter,
     }
-    if clients <= last as usize {
-        return FileState::OneReader;
-    }
-    if record_of(records, last as usize).is_open() {
-        FileState::OneReaderDirty
-    } else {
-        FileState::OneReader
+}
+
+// The same, where it only reads: it may have been the last to write.
+fn one_reader(records: [ClientRecord; MAX_CLIENTS], clients: usize, last: u8) -> FileState
+    ensures { λ r. ⌜ r ≡ cond (ltb last clients && isOpen (recordIn records last)) FileState.OneReaderDirty FileState.OneReader ⌝ }
+{
+    let reader = record_of(records, last as usize);
+    let dirty = one_if(((last as usize) < clients) & reader.is_open());
+    match dirty {
+        0 => FileState::OneReader,
+        _ => FileState::OneReaderDirty,
     }
 }

@@ -130,7 +130,7 @@ impl Session {
         let sizes = self.sizes;
         let state = held_table(table, flags);
         let done = SUMMARY_ROOM <= out.len();
-        let written = write_summary(out, 0, sizes.in_force(), state);
+        let written = write_summary(out, 0, sizes, state);
         Advance {
             session: Session {
                 settable: self.settable,

@@ -2,7 +2,7 @@
 ghost use Prim.Native.Nat.{_+_, _≤_};
 ghost use mathlib.Core.Path.{_≡_};
 ghost use lib.ListN.{length};
-ghost use Rattle.sizes.specs.Sizes.{maxClients, Permitted};
+ghost use Rattle.sizes.specs.Sizes.{maxClients, Permitted, inForce};
 ghost use Rattle.stepfile.specs.Summary.{codeIn, versionIn, isListed, listedBelow};
 ghost use Rattle.stepfile.specs.Summary.{headingText, writerText, fieldsText, fileText, filesText, summaryText};
 ghost use Rattle.writer.specs.Buffer.{Wrote, WroteIfRoom, summaryRoom};
@@ -18,11 +18,10 @@ use table::Table;
 // The room that the summary is given: more than any summary takes.
 pub const SUMMARY_ROOM: usize = 8192;
 
-// Writes the summary, and answers the offset past it. Where the buffer has less than SUMMARY_ROOM bytes from the offset
+// Writes the summary, by the sizes in force, and answers the offset past it. Where the buffer has less than SUMMARY_ROOM bytes from the offset
 // on, writes nothing and answers the offset.
-pub fn write_summary(out: &mut [u8], at: usize, sizes: Sizes, table: Table) -> usize
-    requires { ⌜ Permitted sizes ⌝ }
-    ensures { λ r. ⌜ WroteIfRoom summaryRoom (now (out .entry)) at (summaryText sizes (table .files))
+pub fn write_summary(out: &mut [u8], at: usize, given: Sizes, table: Table) -> usize
+    ensures { λ r. ⌜ WroteIfRoom summaryRoom (now (out .entry)) at (summaryText (inForce given) (table .files))
         (now (out .exit)) r ⌝ }
     ensures { λ r. ⌜ r ≤ at + summaryRoom ⌝ }
 {
@@ -32,6 +31,7 @@ pub fn write_summary(out: &mut [u8], at: usize, sizes: Sizes, table: Table) -> u
     if out.len() - SUMMARY_ROOM < at {
         return at;
     }
+    let sizes = given.in_force();
     put_summary(out, at, sizes, table)
 }
 

@@ -7,7 +7,6 @@ use lib.Dec.{leb}
 use lib.ListN.{length}
 use denote.Ref.{now}
 use borrow.Author.Needs.{needs}
-use Rattle.sizes.specs.declared.sizes.Sizes.{Sizes}
 use Rattle.sizes.specs.Sizes.{inForce}
 use Rattle.blocks.specs.Stores.{Stores, lent}
 use Rattle.table.specs.declared.table.Table.{Table}
@@ -27,9 +26,9 @@ use Rattle.playing.proofs.session.Session.close.Statement.{statement}
 use Rattle.playing.proofs.session.Session.close.Tie as tie
 
 module _
-    (σ : Session) (t : List ℕ) (flags : List Bool) (out out′ : List ℕ) (force : Sizes) (table : Table) (r : ℕ)
-    (sizes : force ≡ inForce (σ .sizes)) (state : table ≡ tableHeld t flags)
-    (wrote : WroteIfRoom summaryRoom out 0 (summaryText force (table .files)) out′ r) where
+    (σ : Session) (t : List ℕ) (flags : List Bool) (out out′ : List ℕ) (table : Table) (r : ℕ)
+    (state : table ≡ tableHeld t flags)
+    (wrote : WroteIfRoom summaryRoom out 0 (summaryText (inForce (σ .sizes)) (table .files)) out′ r) where
   abbrev tells : Telling Service
   tells = playing (σ .settable)
 
@@ -38,7 +37,7 @@ module _
 
   -- the summary is that of the service that the arrays hold
   placed : (a : Stores) → WroteIfRoom summaryRoom out 0 (summaryOf (serviceHeld (σ .sizes) t flags a)) out′ r
-  placed a = rw (sizes, state) at wrote
+  placed a = rw state at wrote
 
   -- the session after it, and how much was written
   abbrev after : ℕ → Advance
@@ -66,27 +65,21 @@ module _
   fits : r ≤ 0 + summaryRoom → r ≤ length out
   fits most = let a = lent [] [] [] [] in close-fits tells (stands a) out out′ r (placed a) most
 
-write-summary-requires : tie.Need-write-summary-requires
-write-summary-requires c κs = c .in-force .ensures .1
-
 returns : tie.Need-returns
 returns c =
     let summary = c .before .before .write-summary in
-    let force = c .before .before .before in
-    let table = force .before .before in
+    let table = c .before .before .before .before in
     let a = table .before .before .before .args in
     let σ = a .self in
     let t = now (a .table) in
     let flags = now (a .flags) in
-    let sizes = force .in-force .ensures .0 in
     let state = table .held-table .ensures in (
-      is-closed σ t flags (now (a .out)) _ (force .in-force .result) (table .held-table .result) (summary .result) sizes state (summary .ensures .0),
+      is-closed σ t flags (now (a .out)) _ (table .held-table .result) (summary .result) state (summary .ensures .0),
       (
-        is-written σ t flags (now (a .out)) _ (force .in-force .result) (table .held-table .result) (summary .result) sizes state (summary .ensures .0),
+        is-written σ t flags (now (a .out)) _ (table .held-table .result) (summary .result) state (summary .ensures .0),
         (
           refl,
-          fits σ t flags (now (a .out)) _ (force .in-force .result) (table .held-table .result) (summary .result) sizes state (summary .ensures .0)
-              (summary .ensures .1),
+          fits σ t flags (now (a .out)) _ (table .held-table .result) (summary .result) state (summary .ensures .0) (summary .ensures .1),
         ),
       ),
     )
@@ -94,4 +87,4 @@ returns c =
 pub close-spec : {M : Type 1} → statement M
 close-spec =
     tie.close
-    (tie.spec (search needs) (search needs) write-summary-requires (search needs) returns)
+    (tie.spec (search needs) (λ c κs. tt) (search needs) returns)

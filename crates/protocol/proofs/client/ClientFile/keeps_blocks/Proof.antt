@@ -8,4 +8,4 @@ keeps-blocks-spec =
     tie.close
     (tie.spec
     (search needs)
-    (λ c. rw (c .before .keeps-copy .ensures)))
+    (λ c. rw (c .before .keeps-copy .ensures .0)))
