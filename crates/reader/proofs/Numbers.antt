@@ -1,7 +1,7 @@
 -- Reading a number at an offset, a byte at a time: what the grammar gives at a byte that is known. Assumes nothing.
 use Prim.Native.Nat.{ℕ, _+_, _-_, _*_, _^_, _≤_, _<_}
-use mathlib.Core.Path.{_≡_, _∙_, ap}
-use mathlib.Core.Bool.{true, false}
+use mathlib.Core.Path.{_≡_, sym, _∙_, ap, ap₂}
+use mathlib.Core.Bool.{true, false, cond}
 use mathlib.Core.List.{List}
 use native.Mathlib.Omega.{arith}
 use lib.Dec.{eqb, leb}
@@ -126,6 +126,25 @@ module _ (s : List ℕ) (i : ℕ) (space : getD s i 0 ≡ 32) (is : isDigit (get
   argument-two h some more end =
       argument-space s i (omega arith) space
       ∙ two-digits s (i + 1) (i + 2) (omega arith) is (i + 3) (omega arith) (omega arith) some more end
+
+  -- as many as there are, up to two: more is the number of digits after the first
+  pub argument-short : (more value : ℕ) → more ≡ cond (isDigit (getD s (i + 2) 0)) 1 0
+      → value ≡ cond (isDigit (getD s (i + 2) 0)) ((getD s (i + 1) 0 - 48) * 10 + (getD s (i + 2) 0 - 48)) (getD s (i + 1) 0 - 48)
+      → i + 4 ≤ length s → more ≤ getD s (i + 1) 0 - 48 → isDigit (getD s (i + 2 + more) 0) ≡ false
+      → argument (drop i s) ≡ found value (drop (i + 2 + more) s)
+  argument-short more value count worth h some end =
+      split (isDigit (getD s (i + 2) 0))
+      (λ two.
+      let one : more ≡ 1 = count ∙ when _ _ two in
+      let past : i + 3 ≡ i + 2 + more = omega arith in
+      let sum : (getD s (i + 1) 0 - 48) * 10 + (getD s (i + 2) 0 - 48) ≡ value = sym (worth ∙ when _ _ two) in
+      argument-two h (omega arith) two (ap (λ k. isDigit (getD s k 0)) past ∙ end)
+      ∙ ap₂ (λ (v k : ℕ). found v (drop k s)) sum past)
+      (λ single.
+      let none : more ≡ 0 = count ∙ unless _ _ single in
+      let past : i + 2 ≡ i + 2 + more = omega arith in
+      argument-one (omega arith) single
+      ∙ ap₂ (λ (v k : ℕ). found v (drop k s)) (sym (worth ∙ unless _ _ single)) past)
 
 -- the code's tests for a number that grows too large: w is the digit d
 pub past-tenth : (v d : ℕ) → 1844674407370955161 < v → 2 ^ 64 ≤ v * 10 + d

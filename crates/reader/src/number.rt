@@ -1,9 +1,11 @@
 // The numbers of a step, read where they stand in the input.
 ghost use mathlib.Core.Path.{_≡_};
-ghost use Prim.Native.Nat.{ℕ, _+_, _≤_};
+ghost use mathlib.Core.Bool.{true, cond};
+ghost use Prim.Native.Nat.{ℕ, _+_, _-_, _*_, _≤_};
 ghost use lib.ListN.{length, drop};
 ghost use Rattle.stepfile.specs.Grammar.{isDigit, digitsOn, numeral, argument};
 ghost use Rattle.reader.specs.Offsets.{numberIn};
+use decision::one_if;
 
 // What reading a number at an offset finds.
 pub enum Number {
@@ -69,7 +71,7 @@ pub fn digit_at(s: &[u8], at: usize) -> Number
     }
 }
 
-// The same of one or two digits.
+// The same of one or two digits. How many there are is computed: a test of it would be predicted wrong too often.
 pub fn two_digits_at(s: &[u8], at: usize) -> Number
     requires { ⌜ at + 4 ≤ length (now s) ⌝ }
     ensures { λ r. ⌜ ((r ≡ Number.Missing → ⊥) → argument (drop at (now (s .entry))) ≡ numberIn (now (s .entry)) r) ⌝ }
@@ -83,21 +85,30 @@ pub fn two_digits_at(s: &[u8], at: usize) -> Number
         return Number::Missing;
     }
     let second = s[at + 2];
-    if !is_digit(second) {
-        return Number::Is {
-            value: wide(first - b'0'),
-            next: at + 2,
-        };
-    }
-    if first == b'0' {
+    let more = one_if(is_digit(second));
+    if wide(first - b'0') < more as u64 {
         return Number::Missing;
     }
-    if is_digit(s[at + 3]) {
+    let next = at + 2 + more;
+    if is_digit(s[next]) {
         return Number::Missing;
     }
     Number::Is {
-        value: wide(first - b'0') * 10 + wide(second - b'0'),
-        next: at + 3,
+        value: number_of(first, second),
+        next,
+    }
+}
+
+// The number of two digits, or of the first alone if the second byte is none.
+fn number_of(first: u8, second: u8) -> u64
+    requires { ⌜ isDigit first ≡ true ⌝ }
+    ensures { λ r. ⌜ r ≡ cond (isDigit second) ((first - 48) * 10 + (second - 48)) (first - 48) ⌝ }
+{
+    let tens = wide(first - b'0');
+    if is_digit(second) {
+        tens * 10 + wide(second - b'0')
+    } else {
+        tens
     }
 }
 

@@ -1,42 +1,41 @@
 -- `two_digits_at` meets its contract: a space, and one or two digits with no digit after them. Assumes nothing.
-use Prim.Native.Nat.{ℕ, _+_}
-use mathlib.Core.Path.{_≡_, sym, _∙_}
-use mathlib.Core.Bool.{true}
+use Prim.Native.Nat.{ℕ, _+_, _≤_}
+use mathlib.Core.Path.{_≡_, sym, _∙_, ap}
+use mathlib.Core.Bool.{true, cond}
 use mathlib.Core.List.{List}
 use native.Mathlib.Omega.{arith}
-use lib.ListN.{getD}
+use lib.ListN.{length, getD}
 use borrow.Author.Needs.{needs}
-use borrow.Author.Tests.{not-true, not-false}
+use borrow.Author.Tests.{not-false}
 use denote.Ref.{now}
+use Rattle.decision.proofs.Counting.{one-at-most}
 use Rattle.stepfile.specs.Grammar.{isDigit}
-use Rattle.reader.proofs.Numbers.{digit-low, digit-high, argument-one, argument-two}
+use Rattle.reader.proofs.Numbers.{digit-low, argument-short}
 use Rattle.reader.proofs.Shapes.{number-unsaid, number-next}
 use Rattle.reader.proofs.number.two_digits_at.Statement.{statement}
 use Rattle.reader.proofs.number.two_digits_at.Tie as tie
 
--- the bytes and the offset, and the digits that were passed
+-- the bytes and the offset, the first digit, and how many follow it
 abbrev S : tie.Else2 → List ℕ
 S c = now (c .before .before .before .before .before .before .args .s)
 
 abbrev At : tie.Else2 → ℕ
 At c = c .before .before .before .before .before .before .args .at
 
-abbrev First : tie.Else2 → ℕ
-First c = getD (S c) (At c + 1) 0
+room : (c : tie.Else2) → At c + 4 ≤ length (S c)
+room c = c .before .before .before .before .before .before .pre
 
-first-digit : (c : tie.Else2) → isDigit (First c) ≡ true
+first-digit : (c : tie.Else2) → isDigit (getD (S c) (At c + 1) 0) ≡ true
 first-digit c = sym (c .before .is-digit .ensures) ∙ not-false _ (c .if2 .left)
 
-abbrev earlier : tie.Else5 → tie.Else2
-earlier c = c .before .before .before .before .before .before .before
+abbrev first : tie.After-one-if → tie.Else2
+first c = c .before .before .before
 
-abbrev Second : tie.Else5 → ℕ
-Second c = getD (S (earlier c)) (At (earlier c) + 2) 0
+more : (c : tie.After-one-if) → c .one-if .result ≡ cond (isDigit (getD (S (first c)) (At (first c) + 2) 0)) 1 0
+more c = c .one-if .ensures ∙ ap (λ b. cond b 1 0) (c .before .is-digit2 .ensures)
 
-second-digit : (c : tie.Else5) → isDigit (Second c) ≡ true
-second-digit c =
-    let second = c .before .before .before .before in
-    sym (second .before .is-digit2 .ensures) ∙ not-false _ (second .if3 .left)
+more-one : (c : tie.After-one-if) → c .one-if .result ≤ 1
+more-one c = omega (arith, more c, one-at-most (isDigit (getD (S (first c)) (At (first c) + 2) 0)))
 
 returns : tie.Need-returns
 returns c = number-unsaid
@@ -45,59 +44,26 @@ returns-2 : tie.Need-returns-2
 returns-2 c = number-unsaid
 
 sub-wide : tie.Need-sub-wide
-sub-wide c = digit-low _ (first-digit (c .before .before .before))
+sub-wide c = digit-low _ (first-digit (first c))
 
 returns-3 : tie.Need-returns-3
-returns-3 c =
-    let last = c .before in
-    let one = last .before .before .before in
-    let space = one .before .before .before in
-    let start = space .before .before .before in (
-      λ there.
-          rw (c .wide .ensures)
-          (argument-one (S one) (At one) (space .if1 .left) (first-digit one) (omega (arith, start .pre))
-          (sym (last .before .is-digit2 .ensures) ∙ not-true _ (last .if3 .taken))),
-      λ value next e. omega (arith, number-next e),
-    )
+returns-3 c = number-unsaid
 
 returns-4 : tie.Need-returns-4
 returns-4 c = number-unsaid
 
 returns-5 : tie.Need-returns-5
-returns-5 c = number-unsaid
-
-sub-wide-2 : tie.Need-sub-wide-2
-sub-wide-2 c = digit-low _ (first-digit (earlier c))
-
-mul-t18 : tie.Need-mul-t18
-mul-t18 c =
-    let one = earlier (c .before) in
-    omega (arith, c .wide2 .ensures, digit-high (First one) (first-digit one))
-
-sub-wide-3 : tie.Need-sub-wide-3
-sub-wide-3 c = digit-low _ (second-digit (c .before))
-
-add-t21 : tie.Need-add-t21
-add-t21 c =
-    let tens = c .before in
-    let last = tens .before in
-    let one = earlier last in
-    let high = digit-high (First one) (first-digit one) in
-    let high₂ = digit-high (Second last) (second-digit last) in
-    omega (arith, c .wide3 .ensures, tens .wide2 .ensures, high, high₂)
-
-returns-6 : tie.Need-returns-6
-returns-6 c =
-    let last = c .before .before in
+returns-5 c =
+    let last = c .before in
     let some = last .before .before .before in
-    let one = earlier last in
-    let space = one .before .before .before in
-    let start = space .before .before .before in (
+    let count = some .before .before in
+    let one = first count in
+    let space = one .before .before .before in (
       λ there.
-          rw (c .wide3 .ensures, c .before .wide2 .ensures)
-          (argument-two (S one) (At one) (space .if1 .left) (first-digit one) (start .pre) (some .if4 .left)
-          (second-digit last) (sym (last .before .is-digit3 .ensures) ∙ last .if5 .left)),
-      λ value next e. omega (arith, number-next e),
+          argument-short (S one) (At one) (space .if1 .left) (first-digit one) _ _ (more count) (c .number-of .ensures)
+          (room one) (omega (arith, some .if3 .left, some .before .wide .ensures))
+          (sym (last .before .is-digit3 .ensures) ∙ last .if4 .left),
+      λ value next e. omega (arith, number-next e, more-one count),
     )
 
 pub two-digits-at-spec : {M : Type 1} → statement M
@@ -113,20 +79,14 @@ two-digits-at-spec =
     (search needs)
     (search needs)
     (search needs)
+    (search needs)
     sub-wide
     (search needs)
-    (search needs)
     returns-3
+    (λ c. omega (arith, room (first (c .before .before))))
+    (λ c. omega (arith, more-one (c .before .before), room (first (c .before .before))))
+    (λ c. omega (arith, more-one (c .before .before .before), room (first (c .before .before .before))))
+    (search needs)
     returns-4
-    (search needs)
-    (search needs)
-    (search needs)
-    returns-5
-    sub-wide-2
-    (search needs)
-    mul-t18
-    sub-wide-3
-    (search needs)
-    add-t21
-    (search needs)
-    returns-6)
+    (λ c κs. first-digit (first (c .before .before .before .before .before)))
+    returns-5)
