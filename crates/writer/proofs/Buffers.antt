@@ -1,12 +1,13 @@
 -- Texts written into a buffer, one after the other. Assumes nothing.
 use Prim.Native.Nat.{ℕ, suc, _+_, _≤_, _<_}
-use mathlib.Core.Path.{_≡_, refl, sym, _∙_, ap, subst}
+use mathlib.Core.Path.{_≡_, refl, sym, _∙_, ap, ap₂, subst}
+use mathlib.Core.Bool.{Bool, true, false, cond}
 use mathlib.Core.List.{List, [], _∷_, _++_, append-assoc}
 use native.Mathlib.Nat.{add-zero, add-assoc}
 use native.Mathlib.Numerals.{add-one}
 use native.Mathlib.Omega.{arith}
-use lib.ListN.{length, take, drop, set, length-append, length-take, length-drop, take-append-drop}
-use lib.Seq.{length-take-le, set-split, set-append-left, take-set-lt, take-suc-set, take-at, drop-at, drop-drop}
+use lib.ListN.{length, take, drop, set, length-set, length-append, length-take, length-drop, take-append-drop}
+use lib.Seq.{length-take-le, set-split, set-append-left, take-set-le, take-set-lt, take-suc-set, drop-set-lt, take-at, drop-at, drop-drop}
 use borrow.Author.Tests.{le-leb, lt-leb}
 use Rattle.writer.specs.Buffer.{written, Wrote, WroteIfRoom}
 use Rattle.sizes.proofs.Choosing.{when, unless}
@@ -73,6 +74,30 @@ wrote-then {d} {at} {s} {d₁} {at₁} {t} {d₂} {at₂} v w =
 -- the same text in other words
 pub wrote-as : {d : List ℕ} {at : ℕ} {s t : List ℕ} {d′ : List ℕ} {at′ : ℕ} → s ≡ t → Wrote d at s d′ at′ → Wrote d at t d′ at′
 wrote-as {d} {at} {s} {t} {d′} {at′} e w = subst (λ l. Wrote d at l d′ at′) e w
+
+-- a byte is stored, and a text is written past it or over it
+module _ (d : List ℕ) (at b : ℕ) (t : List ℕ) {d₂ : List ℕ} {at₂ : ℕ} (inside : at < length d) (some : 1 ≤ length t) where
+  wrote-over : Wrote (set d at b) at t d₂ at₂ → Wrote d at t d₂ at₂
+  wrote-over w =
+      let front = take-set-le at d at b (omega arith) in
+      let rest = drop-set-lt (at + length t) d at b (omega arith) in
+      record {
+        bytes = w .bytes ∙ ap₂ (λ (p q : List ℕ). p ++ (t ++ q)) front rest;
+        next = w .next;
+        fits = omega (arith, w .fits, length-set d at b);
+      }
+
+  leading : (stays : Bool) {next : ℕ} → next ≡ at + cond stays 1 0 → Wrote (set d at b) next t d₂ at₂
+      → Wrote d at (cond stays (b ∷ t) t) d₂ at₂
+  leading true {next} past w = wrote-then (wrote-byte d at b inside) (subst (λ k. Wrote (set d at b) k t d₂ at₂) past w)
+  leading false {next} past w =
+      let same : next ≡ at = omega (arith, past) in
+      wrote-over (subst (λ k. Wrote (set d at b) k t d₂ at₂) same w)
+
+  pub wrote-leading : (stays : Bool) {d₁ : List ℕ} {next byte : ℕ} → byte ≡ b → d₁ ≡ set d at byte → next ≡ at + cond stays 1 0
+      → Wrote d₁ next t d₂ at₂ → Wrote d at (cond stays (b ∷ t) t) d₂ at₂
+  wrote-leading stays {d₁} {next} {byte} is stored past w =
+      leading stays past (subst (λ l. Wrote l next t d₂ at₂) (stored ∙ ap (set d at) is) w)
 
 -- by the room: a text is written, or nothing is
 module _ (room : ℕ) (d : List ℕ) (at : ℕ) (s : List ℕ) (d′ : List ℕ) (at′ : ℕ) where

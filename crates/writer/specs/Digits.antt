@@ -1,5 +1,5 @@
 -- Two, four and eight digits of a number, zeros in front included.
-use Prim.Native.Nat.{ℕ, _+_, _/_, _%_}
+use Prim.Native.Nat.{ℕ, _+_, _*_, _/_, _%_}
 use mathlib.Core.List.{List, [], _∷_, _++_}
 
 abbrev pub twoText : ℕ → List ℕ
@@ -10,3 +10,7 @@ fourText n = twoText (n / 100) ++ twoText (n % 100)
 
 abbrev pub eightText : ℕ → List ℕ
 eightText n = fourText (n / 10000) ++ fourText (n % 10000)
+
+-- the bytes of four digits in one number, the first the lowest
+abbrev pub fourBytes : ℕ → ℕ
+fourBytes n = 48 + n / 100 / 10 + 256 * (48 + n / 100 % 10) + 65536 * (48 + n % 100 / 10 + 256 * (48 + n % 100 % 10))

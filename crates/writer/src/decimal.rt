@@ -1,12 +1,14 @@
 // Bytes and numbers, written into a buffer at an offset. Each function answers the offset past what it wrote.
 ghost use Prim.Native.Nat.{_+_, _*_, _/_, _%_, _≤_, _<_};
 ghost use mathlib.Core.Path.{_≡_};
+ghost use mathlib.Core.Bool.{cond};
 ghost use mathlib.Core.List.{[], _∷_};
-ghost use lib.ListN.{length};
+ghost use lib.ListN.{length, set};
 ghost use Rattle.stepfile.specs.Text.{argumentText};
 ghost use Rattle.stepfile.specs.Text.{decimal as decimalText};
 ghost use Rattle.writer.specs.Buffer.{Wrote};
-ghost use Rattle.writer.specs.Digits.{twoText, fourText, eightText};
+ghost use Rattle.writer.specs.Digits.{fourText, eightText, fourBytes};
+use decision::one_if;
 
 pub fn put_byte(out: &mut [u8], at: usize, byte: u8) -> usize
     requires { ⌜ at < length (now out) ⌝ }
@@ -50,6 +52,8 @@ fn put_to_eight(out: &mut [u8], at: usize, n: u64) -> usize
     put_four(out, second, n % 10000)
 }
 
+// Two to four digits are stored one by one, a zero in front under the digit after it: a test of how many there are would
+// be predicted wrong too often.
 fn put_to_four(out: &mut [u8], at: usize, n: u64) -> usize
     requires { ⌜ at + 4 ≤ length (now out) ⌝ }
     requires { ⌜ n < 10000 ⌝ }
@@ -59,17 +63,26 @@ fn put_to_four(out: &mut [u8], at: usize, n: u64) -> usize
     if n < 10 {
         return put_byte(out, at, digit(n));
     }
-    if n < 100 {
-        return put_two(out, at, n);
-    }
-    if n < 1000 {
-        let second = put_byte(out, at, digit(n / 100));
-        return put_two(out, second, n % 100);
-    }
-    put_four(out, at, n)
+    let bytes = four_bytes(n);
+    let second = put_leading(out, at, low_byte(bytes), 999 < n);
+    let third = put_leading(out, second, low_byte(bytes / 256), 99 < n);
+    let fourth = put_byte(out, third, low_byte(bytes / 65536));
+    put_byte(out, fourth, low_byte(bytes / 16777216))
 }
 
-// The last eight, four or two digits of a number, zeros in front included.
+// Stores a digit in front and answers the offset of the next: past it if it stays, else the same, so that the next is
+// stored over it.
+fn put_leading(out: &mut [u8], at: usize, front: u8, stays: bool) -> usize
+    requires { ⌜ at < length (now out) ⌝ }
+    ensures { λ _. ⌜ now (out .exit) ≡ set (now (out .entry)) at front ⌝ }
+    ensures { λ r. ⌜ r ≡ at + cond stays 1 0 ⌝ }
+    ensures { λ r. ⌜ r ≤ at + 1 ⌝ }
+{
+    out[at] = front;
+    at + one_if(stays)
+}
+
+// The last eight or four digits of a number, zeros in front included.
 fn put_eight(out: &mut [u8], at: usize, n: u64) -> usize
     requires { ⌜ at + 8 ≤ length (now out) ⌝ }
     requires { ⌜ n < 100000000 ⌝ }
@@ -86,30 +99,36 @@ fn put_four(out: &mut [u8], at: usize, n: u64) -> usize
     ensures { λ r. ⌜ Wrote (now (out .entry)) at (fourText n) (now (out .exit)) r ⌝ }
     ensures { λ r. ⌜ r ≤ at + 4 ⌝ }
 {
-    let bytes = two_bytes(n / 100) + 65536 * two_bytes(n % 100);
+    let bytes = four_bytes(n);
     let second = put_byte(out, at, low_byte(bytes));
     let third = put_byte(out, second, low_byte(bytes / 256));
     let fourth = put_byte(out, third, low_byte(bytes / 65536));
     put_byte(out, fourth, low_byte(bytes / 16777216))
 }
 
-fn put_two(out: &mut [u8], at: usize, n: u64) -> usize
-    requires { ⌜ at + 2 ≤ length (now out) ⌝ }
-    requires { ⌜ n < 100 ⌝ }
-    ensures { λ r. ⌜ Wrote (now (out .entry)) at (twoText n) (now (out .exit)) r ⌝ }
-    ensures { λ r. ⌜ r ≤ at + 2 ⌝ }
+// The bytes of four digits in one number, so that they are stored at once.
+fn four_bytes(n: u64) -> u64
+    requires { ⌜ n < 10000 ⌝ }
+    ensures { λ r. ⌜ r ≡ fourBytes n ⌝ }
 {
-    let bytes = two_bytes(n);
-    let second = put_byte(out, at, low_byte(bytes));
-    put_byte(out, second, low_byte(bytes / 256))
+    pairs_of(n) * 256 - tens_of(n) * 2559 + 808464432
 }
 
-// The bytes of two digits in one number, so that they are stored at once.
-fn two_bytes(n: u64) -> u64
-    requires { ⌜ n < 100 ⌝ }
-    ensures { λ r. ⌜ r ≡ 48 + n / 10 + 256 * (48 + n % 10) ⌝ }
+// The first two of four digits and the last two, each pair a number with 16 bits to itself.
+fn pairs_of(n: u64) -> u64
+    requires { ⌜ n < 10000 ⌝ }
+    ensures { λ r. ⌜ r ≡ n / 100 + 65536 * (n % 100) ⌝ }
 {
-    48 + n / 10 + 256 * (48 + n % 10)
+    n * 65536 - n / 100 * 6553599
+}
+
+// The tens of both pairs, by one multiplication: 103 / 1024 is a tenth closely enough.
+fn tens_of(n: u64) -> u64
+    requires { ⌜ n < 10000 ⌝ }
+    ensures { λ r. ⌜ r ≡ n / 100 / 10 + 65536 * (n % 100 / 10) ⌝ }
+{
+    let tenths = pairs_of(n) * 103 / 1024;
+    tenths % 16 + tenths / 65536 % 16 * 65536
 }
 
 fn low_byte(n: u64) -> u8
