@@ -1,7 +1,7 @@
 -- The callbacks of one open go out by ascending client, and those go out that are due, for any number of clients.
 -- Assumes nothing.
 use Prim.Native.Nat.{ℕ, zero, suc, _≤_, _<_}
-use mathlib.Core.Path.{_≡_, refl, sym, _∙_, subst, subst⁻¹}
+use mathlib.Core.Path.{_≡_, refl, sym, ap, _∙_, subst, subst⁻¹}
 use mathlib.Core.List.{List, [], _∷_, _++_, append-nil}
 use mathlib.Core.List.{List·Memᴰ as Member}
 use mathlib.Core.List.{List·Memᴰ·head, List·Memᴰ·tail, List·Memᴰ·not-nil}
@@ -17,7 +17,7 @@ use Rattle.records.specs.declared.record.Mode.{Mode}
 use Rattle.records.specs.declared.record.ClientRecord.{ClientRecord}
 use Rattle.sizes.proofs.Choosing.{when, unless, split}
 use Rattle.decision.specs.Callback.{callbackDue, callbacksDue, callIf, orderedCalls, Ascending, InOrder}
-use Rattle.decision.proofs.Storing.{getD-stored}
+use Rattle.decision.proofs.Storing.{getD-stored, getD-stored-other}
 
 -- the callback to one client
 from-call : (i k : ℕ) (c : ℕ × ℕ) → Member c (callIf i k) → (c ≡ (i, k)) × (k ≢ 0)
@@ -86,12 +86,34 @@ in-order n kinds =
       );
     }
 
+-- no client from n on is called
+abbrev pub NonePast : ℕ → List ℕ → Type 0
+NonePast n kinds = (i : ℕ) → n ≤ i → getD kinds i 0 ≡ 0
+
+-- so the callbacks to k clients, n or more, are those to n
+pub calls-past : (n k : ℕ) (kinds : List ℕ) → n ≤ k → NonePast n kinds → orderedCalls k kinds ≡ orderedCalls n kinds
+unfolding orderedCalls
+calls-past n zero kinds h none = let all : 0 ≡ n = omega arith in ap (λ (j : ℕ). orderedCalls j kinds) all
+calls-past n (suc k) kinds h none =
+    ⊎-elim (λ (e : n ≡ suc k). ap (λ (j : ℕ). orderedCalls j kinds) (sym e))
+    (λ (less : n < suc k).
+    let below : n ≤ k = le-of-suc-le-suc less in
+    ap (λ (kind : ℕ). orderedCalls k kinds ++ callIf k kind) (none k below)
+    ∙ append-nil (orderedCalls k kinds)
+    ∙ calls-past n k kinds below none)
+    (eq-or-lt-of-le h)
+
 -- the callbacks that an open causes, in a list of kinds that has a place for each client: each client's is the one that
 -- it is due
 module _ (n : ℕ) (r : ℕ → ClientRecord) (last opener : ℕ) (mode : Mode) (l : List ℕ) (room : n ≤ length l) where
   pub kind-due : (i : ℕ) → i < n → getD (callbacksDue n r last opener mode l) i 0 ≡ callbackDue n r last opener mode i
   kind-due i below =
       getD-stored n (λ j. j) (callbackDue n r last opener mode) l 0 i below (omega arith) (λ k above _. omega arith)
+
+  -- past the clients the list has what it had
+  pub none-due-past : NonePast n l → NonePast n (callbacksDue n r last opener mode l)
+  none-due-past none i past =
+      getD-stored-other n (λ j. j) (callbackDue n r last opener mode) l 0 i (λ k below. omega arith) ∙ none i past
 
   pub due-in-order :
       (i k : ℕ)

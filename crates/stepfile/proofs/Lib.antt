@@ -4,6 +4,7 @@ pub mod Lines
 pub mod WholeCase
 pub mod HandMade
 pub mod CallTexts
+pub mod PrintedCalls
 pub mod Digits
 pub mod Decimals
 pub mod ReadsBack
