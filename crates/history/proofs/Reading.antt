@@ -4,7 +4,7 @@ use mathlib.Core.Path.{_≡_, refl, sym, ap, _∙_, subst}
 use mathlib.Core.List.{List}
 use native.Mathlib.Omega.{arith}
 use lib.ListN.{getD}
-use Rattle.records.specs.Version.{firstVersion, versionOf, asRead}
+use Rattle.records.specs.Version.{firstVersion, asRead}
 use Rattle.sizes.proofs.Choosing.{unless}
 use Rattle.sizes.specs.declared.sizes.Sizes.{Sizes}
 use Rattle.sizes.specs.Sizes.{maxFiles, place, inForce}
@@ -66,7 +66,7 @@ module _
   pub version-same : (f : ℕ) → f < n → asRead (entryOf others f .version) ≡ entryAt s f .version
   version-same f hf =
       let some = version-not-zero z s m r h f (subst (λ (z : Sizes). f < z .files) (sized-s .sizes) hf) in
-      ap versionOf (sym (u .versions f hf)) ∙ unless firstVersion (entryAt s f .version) some
+      sym (u .versions f hf) ∙ unless firstVersion (entryAt s f .version) some
 
   -- a crash keeps the version
   crashed-version : (f : ℕ) → f < n → entryOf files f .version ≡ entryAt s f .version

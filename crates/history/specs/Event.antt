@@ -5,6 +5,7 @@ use mathlib.Core.Path.{_≡_}
 use mathlib.Core.Bool.{Bool, false, cond}
 use mathlib.Core.List.{List, [], _∷_}
 use lib.ListN.{length}
+use Rattle.records.specs.Version.{asRead}
 use Rattle.sizes.specs.Sizes.{maxClients, maxFiles, maxPlaces}
 use Rattle.protocol.specs.declared.step.Step.{Step}
 use Rattle.protocol.specs.declared.step.Step.the-variants.{Crash}
@@ -15,9 +16,9 @@ use Rattle.service.specs.declared.service.Service.{Service}
 use Rattle.service.specs.Contents.{sizesOf, entryAt, blockAt}
 use Rattle.service.specs.Demand3.{after}
 use Rattle.batch.specs.Batch.{Opening, opensOf, listTooLong, batchOf}
-use Rattle.image.specs.Image.{versionRead, imageOf}
+use Rattle.image.specs.Image.{imageOf}
+use Rattle.image.specs.Fits.{Fits}
 use Rattle.restore.specs.Reading.{readingOf}
-use Rattle.restore.specs.Exact.{Fits}
 
 pub data Event : Type 0 where
   step : Step → Event
@@ -60,13 +61,14 @@ stepsOf s (reading bytes) = cond (refusesImage s bytes) [] (Crash ∷ [])
 stepsOf s (move v bytes) = cond (refusesImage (servedBy v s) bytes) [] (Crash ∷ [])
 
 -- "On the premise that the server's blocks and versions hadn't changed since the image": the bytes are the image of a
--- service, and the versions, as they are read, and blocks that the server has now are those of that service.
+-- service, and the versions, as they are read, and blocks that the server has now are those of that service. That it
+-- fits its fields is known of every service that a program writes: `write_image` ensures it.
 pub record Unchanged (s : Service) (bytes : List ℕ) : Type 0 where
   pub written : Service
   pub fits : Fits written
   pub sizes : sizesOf written ≡ sizesOf s
   pub image : imageOf written ≡ bytes
-  pub versions : (f : ℕ) → f < sizesOf s .files → versionRead (entryAt s f) ≡ versionRead (entryAt written f)
+  pub versions : (f : ℕ) → f < sizesOf s .files → asRead (entryAt s f .version) ≡ asRead (entryAt written f .version)
   pub blocks : (f b : ℕ) → f < sizesOf s .files → b < sizesOf s .blocks → blockAt s f b ≡ blockAt written f b
 
 -- the arrays of a server have their lengths, as in every server that a program holds

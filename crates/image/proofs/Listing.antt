@@ -7,13 +7,15 @@ use mathlib.Core.List.{List, [], _∷_, _++_}
 use native.Mathlib.Nat.{mul-suc, mul-le-mul-left}
 use native.Mathlib.Numerals.{add-one}
 use native.Mathlib.Omega.{arith}
-use lib.Dec.{eqb, leb}
+use lib.Dec.{leb}
 use lib.ListN.{length}
+use Rattle.records.specs.declared.version.Version.{Version}
+use Rattle.records.specs.Version.{numberOf, asRead, isFirstVersion}
 use Rattle.protocol.specs.declared.entry.Entry.{Entry}
 use Rattle.writer.specs.Buffer.{Wrote}
 use Rattle.writer.proofs.Buffers.{wrote-none, wrote-then, wrote-as}
 use Rattle.image.specs.Bytes.{low, below, flat}
-use Rattle.image.specs.Image.{versionRead, lastRead, fileEntry}
+use Rattle.image.specs.Image.{versionRead, lastRead, isListed, fileEntry}
 use Rattle.image.proofs.SectionLaws.{flat-next, flat-one, flat-none}
 
 -- The invariant of a loop up to n: what x gives for the numbers below k is written into d from offset at on, w bytes at
@@ -66,20 +68,31 @@ module _ {w : ℕ} {x : ℕ → List (List ℕ)} {n : ℕ} {d : List ℕ} {at : 
         let all : w * k ≤ w * most = mul-le-mul-left w (omega (arith, h .passed)) in
         (wrote-as (ap (λ k. flat (below k x)) last) (h .bytes), omega (arith, h .bound))
 
--- the entry of a file, by whether it is listed; v is its version and l its last writer, as they are read
-module _ (n f : ℕ) (e : Entry) (v : ℕ) (version : v ≡ versionRead e) where
+-- the entry of a file, by whether it is listed; v is its version as it is read, with the number k, and l its last writer
+module _
+    (n f : ℕ)
+    (e : Entry)
+    (v : Version)
+    (read : v ≡ asRead (e .version))
+    (first : Bool)
+    (is-first : first ≡ isFirstVersion v) where
   abbrev Unlisted : Bool → Type 0
-  Unlisted t = (eqb v 1 && leb n (e .last)) ≡ t
+  Unlisted t = (first && leb n (e .last)) ≡ t
 
-  same-test : (t : Bool) → Unlisted t → not (eqb (versionRead e) 1 && leb n (e .last)) ≡ not t
-  same-test t h = ap (λ v. not (eqb v 1 && leb n (e .last))) (sym version) ∙ ap not h
+  same-test : (t : Bool) → Unlisted t → isListed n e ≡ not t
+  same-test t h =
+      ap (λ b. not (b && leb n (e .last))) (sym (is-first ∙ ap isFirstVersion read)) ∙ ap not h
 
   pub file-unlisted : Unlisted true → [] ≡ flat (fileEntry n f e)
   file-unlisted h = flat-none _ _ (same-test true h)
 
   pub file-listed :
-      Unlisted false → (l : ℕ) → l ≡ lastRead n e → f ∷ (low 4 v ++ (l ∷ [])) ≡ flat (fileEntry n f e)
-  file-listed h l last =
-      ap (λ v. f ∷ (low 4 v ++ (l ∷ []))) version
+      Unlisted false
+      → (k l : ℕ)
+      → k ≡ numberOf v
+      → l ≡ lastRead n e
+      → f ∷ (low 4 k ++ (l ∷ [])) ≡ flat (fileEntry n f e)
+  file-listed h k l number last =
+      ap (λ k. f ∷ (low 4 k ++ (l ∷ []))) (number ∙ ap numberOf read)
       ∙ ap (λ l. f ∷ (low 4 (versionRead e) ++ (l ∷ []))) last
       ∙ flat-one _ _ (same-test false h)

@@ -2,7 +2,7 @@
 use Prim.Native.Nat.{ℕ, _+_, _≤_}
 use mathlib.Core.Path.{_≡_, refl, sym, _∙_, ap}
 use mathlib.Core.Bool.{Bool, true, false, cond}
-use mathlib.Core.List.{List}
+use mathlib.Core.List.{List, [], _∷_}
 use native.Mathlib.Nat.{zero-add}
 use native.Mathlib.Omega.{arith}
 use lib.Dec.{eqb, ltb}
@@ -19,7 +19,7 @@ use Rattle.service.specs.Contents.{sizesOf, tableIn}
 use Rattle.writer.specs.Buffer.{written, Wrote}
 use Rattle.image.specs.declared.writing.ImageWritten.the-variants.{Length, Refused}
 use Rattle.image.specs.Image.{imageBytes, imageOf}
-use Rattle.image.specs.Writing.{openWaiting, imageTests, imageWritten, bufferAfter}
+use Rattle.image.specs.Writing.{openWaiting, imageTests, imageWritten, bufferAfter, Tells}
 
 -- three tests, the lowest first: where none gives a number, the last has failed
 passed-last : (a b c : Bool) → _≡_ {A = ℕ} (cond a 5 (cond b 15 (cond c 16 0))) 0 → c ≡ false
@@ -69,22 +69,33 @@ module _
       omega (arith, length-is)
 
   pub refused :
-      (refusal ≡ 0 → ⊥) → (Refused refusal ≡ imageWritten s (length out)) × (out ≡ bufferAfter s out)
+      (refusal ≡ 0 → ⊥)
+      → (Refused refusal ≡ imageWritten s (length out))
+      × ((out ≡ bufferAfter s out) × Tells s (length out) (Refused refusal))
   unfolding imageWritten bufferAfter
   refused some =
       let first = firstOf (imageTests s (length out)) in
-      let fails : eqb first 0 ≡ false = ne-eqb first 0 (λ e. some (refusal-is ∙ e)) in
-      (ap Refused refusal-is ∙ sym (unless _ _ fails), sym (unless _ _ fails))
+      let fails : eqb first 0 ≡ false = ne-eqb first 0 (λ e. some (refusal-is ∙ e)) in (
+        ap Refused refusal-is ∙ sym (unless _ _ fails),
+        (sym (unless _ _ fails), record { refusal = refusal-is; values = sym (unless _ _ fails) }),
+      )
 
   pub accepted :
       {out′ : List ℕ}
       → refusal ≡ 0
       → out′ ≡ written out 0 (take n image)
-      → (Length n ≡ imageWritten s (length out)) × (out′ ≡ bufferAfter s out)
+      → (Length n ≡ imageWritten s (length out))
+      × ((out′ ≡ bufferAfter s out) × Tells s (length out) (Length n))
   unfolding imageWritten bufferAfter
   accepted none copied =
       let first = firstOf (imageTests s (length out)) in
       let passes : eqb first 0 ≡ true = eq-eqb first 0 (sym refusal-is ∙ none) in (
         ap Length length-is ∙ sym (when _ _ passes),
-        copied ∙ ap (written out 0) (written-first wrote ∙ bytes-are) ∙ sym (when _ _ passes),
+        (
+          copied ∙ ap (written out 0) (written-first wrote ∙ bytes-are) ∙ sym (when _ _ passes),
+          record {
+            refusal = sym (sym refusal-is ∙ none);
+            values = ap (λ k. k ∷ []) length-is ∙ sym (when _ _ passes);
+          },
+        ),
       )

@@ -6,7 +6,7 @@ use mathlib.Core.List.{List, [], _∷_, _++_}
 use lib.Dec.{eqb, ltb, leb}
 use lib.ListN.{getD}
 use Rattle.records.specs.declared.record.ClientRecord.{ClientRecord}
-use Rattle.records.specs.Version.{numberOf, asRead}
+use Rattle.records.specs.Version.{numberOf, asRead, isFirstVersion}
 use Rattle.records.specs.Record.{isOpen}
 use Rattle.sizes.specs.declared.sizes.Sizes.{Sizes}
 use Rattle.sizes.specs.Sizes.{place, nobody}
@@ -30,7 +30,7 @@ abbrev pub lastRead : ℕ → Entry → ℕ
 lastRead n e = cond (ltb (e .last) n) (e .last) nobody
 
 abbrev pub isListed : ℕ → Entry → Bool
-isListed n e = not (eqb (versionRead e) 1 && leb n (e .last))
+isListed n e = not (isFirstVersion (asRead (e .version)) && leb n (e .last))
 
 abbrev pub fileBytes : ℕ → ℕ → Entry → List ℕ
 fileBytes n f e = f ∷ (low 4 (versionRead e) ++ (lastRead n e ∷ []))

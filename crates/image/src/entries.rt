@@ -6,20 +6,13 @@ ghost use mathlib.Core.List.{[], _∷_, _++_};
 ghost use lib.ListN.{length};
 ghost use Rattle.writer.specs.Buffer.{Wrote};
 ghost use Rattle.image.specs.Bytes.{low, flat};
-ghost use Rattle.image.specs.Image.{versionRead, lastRead, fileEntry, openBytes, openEntry, blockEntry};
+ghost use Rattle.image.specs.Image.{lastRead, fileEntry, openBytes, openEntry, blockEntry};
 use crate::numbers::put_eight;
 use crate::numbers::put_four;
 use protocol::Entry;
 use protocol::NOBODY;
 use records::ClientRecord;
 use writer::put_byte;
-
-fn version_read(entry: Entry) -> u32
-    ensures { λ r. ⌜ r ≡ versionRead entry ⌝ }
-{
-    let version = entry.version;
-    version.as_read().number()
-}
 
 fn last_read(entry: Entry, clients: usize) -> u8
     ensures { λ r. ⌜ r ≡ lastRead clients entry ⌝ }
@@ -39,13 +32,14 @@ pub fn put_file(out: &mut [u8], at: usize, file: usize, entry: Entry, clients: u
     ensures { λ r. ⌜ Wrote (now (out .entry)) at (flat (fileEntry clients file entry)) (now (out .exit)) r ⌝ }
     ensures { λ r. ⌜ r ≤ at + 6 ⌝ }
 {
-    let version = version_read(entry);
-    let first = version == 1;
+    let version = entry.version;
+    let read = version.as_read();
+    let first = read.is_first();
     let none = clients <= entry.last as usize;
     if first & none {
         return at;
     }
-    put_file_fields(out, at, file, version, last_read(entry, clients))
+    put_file_fields(out, at, file, read.number(), last_read(entry, clients))
 }
 
 fn put_file_fields(out: &mut [u8], at: usize, file: usize, version: u32, last: u8) -> usize

@@ -7,7 +7,8 @@ ghost use Rattle.decision.specs.Lists.{count};
 ghost use Rattle.protocol.specs.Entry.{waits};
 ghost use Rattle.table.specs.TableStep.{entryOf};
 ghost use Rattle.writer.specs.Buffer.{written};
-ghost use Rattle.image.specs.Writing.{imageWritten, bufferAfter};
+ghost use Rattle.image.specs.Fits.{Fits};
+ghost use Rattle.image.specs.Writing.{imageWritten, bufferAfter, Tells};
 use crate::sections::IMAGE_ROOM;
 use crate::sections::put_image;
 use decision::one_if;
@@ -31,6 +32,8 @@ pub enum ImageWritten {
 pub fn write_image(service: Service, out: &mut [u8]) -> ImageWritten
     ensures { λ r. ⌜ r ≡ imageWritten service (length (now (out .entry))) ⌝ }
     ensures { λ r. ⌜ now (out .exit) ≡ bufferAfter service (now (out .entry)) ⌝ }
+    ensures { λ r. ⌜ Tells service (length (now (out .entry))) r ⌝ }
+    ensures { λ r. ⌜ Fits service ⌝ }
 {
     let given = service.sizes;
     let sizes = given.in_force();

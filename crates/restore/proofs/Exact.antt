@@ -1,7 +1,7 @@
 -- Reading accepts exactly the bytes that writing gives for some service, and a program can start from them. Assumes
 -- nothing.
 use Prim.Native.Nat.{ℕ, zero, suc, _≤_, _<_}
-use mathlib.Core.Path.{_≡_, refl, sym, ap, _∙_}
+use mathlib.Core.Path.{_≡_, refl, sym, ap, _∙_, subst⁻¹}
 use mathlib.Core.Bool.{Bool, true, false, cond}
 use mathlib.Core.List.{List}
 use native.Mathlib.Omega.{arith}
@@ -23,10 +23,11 @@ use Rattle.service.specs.declared.outcome.Outcome.{Outcome}
 use Rattle.service.specs.Contents.{sizesOf, tableIn, entryAt, blockAt}
 use Rattle.service.specs.Fresh.{fresh}
 use Rattle.image.specs.Image.{versionRead, imageBytes, imageOf}
+use Rattle.image.specs.Fits.{Fits}
 use Rattle.image.specs.Writing.{openWaiting}
 use Rattle.restore.specs.Decoded.{decodedFiles, decodedBlocks}
 use Rattle.restore.specs.Reading.{sameBytes, isImage, restored, readingOf, sizesIn}
-use Rattle.restore.specs.Exact.{Fits, AreBytes, Written, Exact, Starts}
+use Rattle.restore.specs.Exact.{AreBytes, Written, AcceptsExactly, Exact, Starts}
 use Rattle.restore.proofs.SameBytes.{same-true, same-self}
 use Rattle.restore.proofs.GivenBack.{version-given, block-given, same-again}
 use Rattle.restore.proofs.Bounds.{GoodFiles, GoodBlocks, decoded-files-good, decoded-blocks-good}
@@ -169,6 +170,11 @@ exact s bytes are-bytes = (
   λ e. written-for s bytes are-bytes (is-image s bytes e),
   λ w. not-refused s bytes (accepts s (w .service) bytes (w .fits) (w .sizes) (w .image)),
 )
+
+-- of an outcome that is the reading
+pub exactly :
+    (s : Service) (bytes : List ℕ) {o : Outcome} → AreBytes bytes → o ≡ readingOf s bytes → AcceptsExactly s bytes o
+exactly s bytes are-bytes is = subst⁻¹ (AcceptsExactly s bytes) is (exact s bytes are-bytes)
 
 -- sizes in force are permitted, and so in force themselves
 permitted-is : (most size : ℕ) → 0 < size → size ≤ most → isPermitted most size ≡ true

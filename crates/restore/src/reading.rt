@@ -5,6 +5,7 @@ ghost use lib.ListN.{length, take, getD};
 ghost use Rattle.sizes.specs.Sizes.{maxFiles, maxBlocks, place, Permitted};
 ghost use Rattle.decision.specs.Lists.{stored};
 ghost use Rattle.image.specs.Image.{imageBytes};
+ghost use Rattle.restore.specs.Exact.{AcceptsExactly};
 ghost use Rattle.restore.specs.Reading.{sameBytes, withVersions, withBlocks, withContents, readingOf, sizesIn};
 use crate::decoding::decode_blocks;
 use crate::decoding::decode_files;
@@ -39,6 +40,7 @@ pub fn image_sizes(bytes: &[u8]) -> Sizes
 // the bytes are not the image of what they hold.
 pub fn read_image(service: Service, bytes: &[u8]) -> Outcome
     ensures { λ r. ⌜ r ≡ readingOf service (now (bytes .entry)) ⌝ }
+    ensures { λ r. ⌜ AcceptsExactly service (now (bytes .entry)) r ⌝ }
 {
     let given = service.sizes;
     let sizes = given.in_force();

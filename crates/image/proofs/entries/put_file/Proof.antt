@@ -8,9 +8,11 @@ use Rattle.image.proofs.entries.put_file.Tie as tie
 
 returns : tie.Need-returns
 returns c =
-    let read = c .before .before in
-    let a = read .before .before .args in (
-      wrote-as (file-unlisted (a .clients) (a .file) (a .entry) _ (read .version-read .ensures) (c .if1 .taken))
+    let first = c .before .before in
+    let read = first .before in
+    let a = read .before .before .before .args in (
+      wrote-as
+          (file-unlisted (a .clients) (a .file) (a .entry) _ (read .as-read .ensures) _ (first .is-first .ensures) (c .if1 .taken))
           (wrote-none _ _ (omega arith)),
       search needs,
     )
@@ -18,11 +20,14 @@ returns c =
 returns-2 : tie.Need-returns-2
 returns-2 c =
     let fields = c .before .before in
-    let test = fields .before .before .before in
-    let read = test .before .before in
-    let a = read .before .before .args in (
+    let last = fields .before in
+    let number = last .before in
+    let test = number .before .before in
+    let first = test .before .before in
+    let read = first .before in
+    let a = read .before .before .before .args in (
       wrote-as
-          (file-listed (a .clients) (a .file) (a .entry) _ (read .version-read .ensures) (test .if1 .left) _ (fields .before .last-read .ensures))
+          (file-listed (a .clients) (a .file) (a .entry) _ (read .as-read .ensures) _ (first .is-first .ensures) (test .if1 .left) _ _ (number .number .ensures) (last .last-read .ensures))
           (fields .put-file-fields .ensures .0),
       fields .put-file-fields .ensures .1,
     )
@@ -33,7 +38,9 @@ put-file-spec =
     (tie.spec
     (search needs)
     (search needs)
+    (search needs)
     returns
+    (search needs)
     (search needs)
     (search needs)
     (search needs)

@@ -1,6 +1,8 @@
--- `read_image` meets its contract, by whether the bytes are an image. Assumes nothing.
+-- `read_image` meets its contract, by whether the bytes are an image; that a slice holds bytes is known of it.
+-- Assumes nothing.
 use denote.Ref.{now}
 use borrow.Author.Tests.{not-true, not-false}
+use Rattle.restore.proofs.Exact.{exactly}
 use Rattle.restore.proofs.Readings.{refused, accepted}
 use borrow.Author.Needs.{needs}
 use Rattle.restore.proofs.reading.read_image.Statement.{statement}
@@ -12,8 +14,10 @@ returns c =
     let blocks = test .before .before in
     let files = blocks .before in
     let force = files .before in
-    let a = force .before .before .before .args in
-    refused (a .service) (now (a .bytes)) (force .in-force .result) (force .in-force .ensures .0) (files .decode-files .result) (files .decode-files .ensures) (blocks .decode-blocks .result) (blocks .decode-blocks .ensures) (test .is-image .result) (test .is-image .ensures) (not-true (test .is-image .result) (c .if1 .taken))
+    let known = force .before .before in
+    let a = known .before .args in
+    let is = refused (a .service) (now (a .bytes)) (force .in-force .result) (force .in-force .ensures .0) (files .decode-files .result) (files .decode-files .ensures) (blocks .decode-blocks .result) (blocks .decode-blocks .ensures) (test .is-image .result) (test .is-image .ensures) (not-true (test .is-image .result) (c .if1 .taken)) in
+    (is, exactly (a .service) (now (a .bytes)) (λ k. known .shared-slice-known .given k .fits) is)
 
 returns-2 : tie.Need-returns-2
 returns-2 c =
@@ -23,8 +27,10 @@ returns-2 c =
     let blocks = test .before .before in
     let files = blocks .before in
     let force = files .before in
-    let a = force .before .before .before .args in
-    accepted (a .service) (now (a .bytes)) (force .in-force .result) (force .in-force .ensures .0) (files .decode-files .result) (files .decode-files .ensures) (blocks .decode-blocks .result) (blocks .decode-blocks .ensures) (test .is-image .result) (test .is-image .ensures) (not-false (test .is-image .result) (branch .if1 .left)) _ _ (crashed .crashed .ensures) (c .with-contents .ensures)
+    let known = force .before .before in
+    let a = known .before .args in
+    let is = accepted (a .service) (now (a .bytes)) (force .in-force .result) (force .in-force .ensures .0) (files .decode-files .result) (files .decode-files .ensures) (blocks .decode-blocks .result) (blocks .decode-blocks .ensures) (test .is-image .result) (test .is-image .ensures) (not-false (test .is-image .result) (branch .if1 .left)) _ _ (crashed .crashed .ensures) (c .with-contents .ensures) in
+    (is, exactly (a .service) (now (a .bytes)) (λ k. known .shared-slice-known .given k .fits) is)
 
 pub read-image-spec : {M : Type 1} → statement M
 read-image-spec =
