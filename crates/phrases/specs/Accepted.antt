@@ -5,7 +5,7 @@ use mathlib.Core.List.{List, [], _∷_, _++_}
 use lib.Dec.{eqb}
 use Rattle.records.specs.declared.record.Mode.{Mode}
 use Rattle.records.specs.declared.version.Version.{Version}
-use Rattle.records.specs.Version.{numberOf}
+use Rattle.records.specs.Version.{numberOf, isNoVersion}
 use Rattle.sizes.specs.Sizes.{maxClients}
 use Rattle.decision.specs.Callback.{orderedCalls, asksNothing, writesBack, invalidates}
 use Rattle.decision.specs.State.{stateOf}
@@ -50,7 +50,7 @@ readText fresh t i f b = clientText i ++ (bytes "," ++ (blockText f b ++ (source
 -- label 0 is no copy
 abbrev pub keptText : Bool → Version → List ℕ
 keptText keep label =
-    cond (eqb (numberOf label) 0)
+    cond (isNoVersion label)
     (bytes "; it had no copy")
     (bytes "; its copy of version"
     ++ (argumentText (numberOf label) ++ cond keep (bytes " is kept") (bytes " is dropped")))

@@ -81,12 +81,11 @@ fn put_kept(out: &mut [u8], at: usize, keep: bool, label: Version) -> usize
     ensures { λ r. ⌜ Wrote (now (out .entry)) at (keptText keep label) (now (out .exit)) r ⌝ }
     ensures { λ r. ⌜ r ≤ at + 53 ⌝ }
 {
-    let number = label.number();
-    if number == 0 {
+    if label.is_none() {
         return put_text(out, at, b"; it had no copy");
     }
     let version = put_text(out, at, b"; its copy of version");
-    let fate = put_argument(out, version, number as u64);
+    let fate = put_version(out, version, label);
     put_fate(out, fate, keep)
 }
 

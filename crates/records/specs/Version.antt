@@ -24,6 +24,10 @@ firstVersion = versionOf 1
 abbrev pub sameVersion : Version → Version → Bool
 sameVersion v w = eqb (numberOf v) (numberOf w)
 
+-- "0 for no copy"
+abbrev pub isNoVersion : Version → Bool
+isNoVersion v = sameVersion v noVersion
+
 -- "at version 1"
 abbrev pub isFirstVersion : Version → Bool
 isFirstVersion v = sameVersion v firstVersion
@@ -38,7 +42,7 @@ isLastVersion v = eqb (numberOf v) 4294967295
 
 -- "a version of 0 [reads] as 1"
 abbrev pub asRead : Version → Version
-asRead v = cond (eqb (numberOf v) 0) firstVersion v
+asRead v = cond (isNoVersion v) firstVersion v
 
 -- "the version rises by 1"; "a grant that would pass the limit of .. 14 leaves that number"
 abbrev pub nextVersion : Version → Version

@@ -4,7 +4,7 @@ ghost use mathlib.Core.Path.{_≡_};
 ghost use mathlib.Core.Bool.{cond};
 ghost use Rattle.records.specs.Version.{versionOf, noVersion, firstVersion, numberOf, asRead, nextVersion};
 ghost use Rattle.records.specs.Version.{previousVersion};
-ghost use Rattle.records.specs.Version.{isFirstVersion, isLastVersion, lagsAtMost, latestAt};
+ghost use Rattle.records.specs.Version.{isNoVersion, isFirstVersion, isLastVersion, lagsAtMost, latestAt};
 use crate::record::Mode;
 
 pub struct Version(u32);
@@ -24,7 +24,8 @@ impl Version {
         Version(1)
     }
 
-    // The version of a number that was kept outside the service.
+    // The version of a number. It is needed where versions are loaded, and is used nowhere else: from the words of a
+    // lent table and of a reply (crate words), and from the bytes of an image (crate restore).
     pub fn numbered(number: u32) -> Self
         ensures { λ r. ⌜ r ≡ versionOf number ⌝ }
     {
@@ -62,6 +63,13 @@ impl Version {
         } else {
             Version(self.0 - 1)
         }
+    }
+
+    // Whether this labels no copy.
+    pub fn is_none(self) -> bool
+        ensures { λ r. ⌜ r ≡ isNoVersion self ⌝ }
+    {
+        self.0 == 0
     }
 
     pub fn is_first(self) -> bool

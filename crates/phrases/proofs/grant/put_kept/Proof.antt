@@ -5,8 +5,8 @@ use Rattle.phrases.proofs.Grants.{no-copy-text, copy-text}
 use Rattle.phrases.proofs.grant.put_kept.Statement.{statement}
 use Rattle.phrases.proofs.grant.put_kept.Tie as tie
 
-number-requires : tie.Need-number-requires
-number-requires c κs = search needs
+is-none-requires : tie.Need-is-none-requires
+is-none-requires c κs = search needs
 
 slice-aggregate-put-text : tie.Need-slice-aggregate-put-text
 slice-aggregate-put-text c = search needs
@@ -23,7 +23,7 @@ returns c =
     let start = first .before .before .before .before .before .before in
     let test = first .before .before .before .before in
     let made = first .before .before .before in (
-      wrote-as (no-copy-text (start .args .keep) (start .args .label) _ (test .number .ensures) (made .if1 .taken))
+      wrote-as (no-copy-text (start .args .keep) (start .args .label) _ (test .is-none .ensures) (made .if1 .taken))
           (first .put-text .ensures .0),
       search needs,
     )
@@ -34,11 +34,8 @@ slice-aggregate-put-text-2 c = search needs
 put-text-requires-2 : tie.Need-put-text-requires-2
 put-text-requires-2 c κs = search needs
 
-cast-put-argument : tie.Need-cast-put-argument
-cast-put-argument c = search needs
-
-put-argument-requires : tie.Need-put-argument-requires
-put-argument-requires c κs = search needs
+put-version-requires : tie.Need-put-version-requires
+put-version-requires c κs = search needs
 
 put-fate-requires : tie.Need-put-fate-requires
 put-fate-requires c κs = search needs
@@ -54,9 +51,9 @@ returns-2 c =
     let start = first .before .before .before .before .before .before in
     let test = first .before .before .before .before in
     let made = first .before .before .before in (
-      wrote-as (copy-text (start .args .keep) (start .args .label) _ (test .number .ensures) (made .if1 .left))
+      wrote-as (copy-text (start .args .keep) (start .args .label) _ (test .is-none .ensures) (made .if1 .left))
           (wrote-then (first .put-text2 .ensures .0)
-          (wrote-then (second .put-argument .ensures .0)
+          (wrote-then (second .put-version .ensures .0)
           (third .put-fate .ensures .0))),
       search needs,
     )
@@ -65,15 +62,14 @@ pub put-kept-spec : {M : Type 1} → statement M
 put-kept-spec =
     tie.close
     (tie.spec
-    number-requires
+    is-none-requires
     slice-aggregate-put-text
     put-text-requires
     same-length
     returns
     slice-aggregate-put-text-2
     put-text-requires-2
-    cast-put-argument
-    put-argument-requires
+    put-version-requires
     put-fate-requires
     same-length-2
     returns-2)
