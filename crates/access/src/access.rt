@@ -7,6 +7,7 @@ use crate::refusal::read_refusal;
 use crate::refusal::write_refusal;
 use blocks::cell_of;
 use blocks::place_of;
+use protocol::BlockCopy;
 use protocol::ClientFile;
 use protocol::Reply;
 use protocol::Step;
@@ -37,7 +38,6 @@ pub fn read_block(
         r (now (blocks .exit)) (now (copies .exit)) (now (held .exit)) (now (dirty .exit)) ⌝ }
 {
     let cell = cell_of(client, file, block);
-    let opens = own.opens;
     let is_held = held[cell];
     let refusal = read_refusal(
         sizes,
@@ -52,15 +52,17 @@ pub fn read_block(
     if refusal != 0 {
         return Reply::Refused(refusal);
     }
-    if opens.caching & is_held {
-        return Reply::Value(copies[cell]);
-    }
-    let value = blocks[place_of(file, block)];
-    if opens.caching {
-        copies[cell] = value;
-        held[cell] = true;
-    }
-    Reply::Value(value)
+    let place = place_of(file, block);
+    let copy = BlockCopy {
+        value: copies[cell],
+        held: is_held,
+        dirty: dirty[cell],
+    };
+    let after = own.read(copy, blocks[place]);
+    let left = after.copy;
+    copies[cell] = left.value;
+    held[cell] = left.held;
+    after.reply
 }
 
 // Writes a block: the client's copy where it may cache, else the server's.
@@ -85,18 +87,22 @@ pub fn write_block(
         (Step.Write client file block value))
         r (now (blocks .exit)) (now (copies .exit)) (now (held .exit)) (now (dirty .exit)) ⌝ }
 {
-    let opens = own.opens;
     let refusal = write_refusal(sizes, recovering, reported, own, client, file, block);
     if refusal != 0 {
         return Reply::Refused(refusal);
     }
-    if opens.caching {
-        let cell = cell_of(client, file, block);
-        copies[cell] = value;
-        held[cell] = true;
-        dirty[cell] = true;
-    } else {
-        blocks[place_of(file, block)] = value;
-    }
-    Reply::Done
+    let cell = cell_of(client, file, block);
+    let place = place_of(file, block);
+    let copy = BlockCopy {
+        value: copies[cell],
+        held: held[cell],
+        dirty: dirty[cell],
+    };
+    let after = own.write(copy, blocks[place], value);
+    let left = after.copy;
+    copies[cell] = left.value;
+    held[cell] = left.held;
+    dirty[cell] = left.dirty;
+    blocks[place] = after.block;
+    after.reply
 }

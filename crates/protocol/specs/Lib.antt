@@ -5,5 +5,6 @@ pub mod Reply
 pub mod Step
 pub mod Entry
 pub mod Client
+pub mod Access
 pub mod Refusal
 pub mod Table

@@ -1,9 +1,12 @@
 // A client's side of one file: what it holds besides the copies of the blocks, and how its steps change it.
 ghost use mathlib.Core.Path.{_≡_};
+ghost use mathlib.Core.Bool.{cond};
+ghost use Rattle.protocol.specs.Access.{clientRead, clientWritten};
 ghost use Rattle.protocol.specs.Client.{grantedClient, keepsBlocks, closedClient, flushedClient, answeredClient};
 ghost use Rattle.protocol.specs.Client.{readNeedsServer, writeNeedsServer, noClient};
 use crate::copy::keeps_copy;
 use crate::reply::Grant;
+use crate::reply::Reply;
 use decision::invalidates;
 use decision::writes_back;
 use records::ClientRecord;
@@ -17,6 +20,22 @@ pub struct ClientFile {
     pub marked: bool,
     // The version of the cached copy, 0 for no copy (document 01: label).
     pub label: Version,
+}
+
+// A client's copy of one block: its value, whether it is held, and whether it is dirty.
+pub struct BlockCopy {
+    pub value: u64,
+    pub held: bool,
+    pub dirty: bool,
+}
+
+// What a read or a write leaves, of the client's side of the file, of its copy of the block and of the server's block;
+// and the reply.
+pub struct Accessed {
+    pub side: ClientFile,
+    pub copy: BlockCopy,
+    pub block: u64,
+    pub reply: Reply,
 }
 
 // The clients' sides of one file.
@@ -90,6 +109,41 @@ impl ClientFile {
         }
     }
 
+    // A read of a block, of which the server has this.
+    pub fn read(self, copy: BlockCopy, block: u64) -> Accessed
+        ensures { λ r. ⌜ r ≡ clientRead self copy block ⌝ }
+    {
+        let opens = self.opens;
+        let value = chosen(opens.caching & copy.held, copy.value, block);
+        Accessed {
+            side: self,
+            copy: BlockCopy {
+                value: chosen(opens.caching, value, copy.value),
+                held: opens.caching | copy.held,
+                dirty: copy.dirty,
+            },
+            block,
+            reply: Reply::Value(value),
+        }
+    }
+
+    // A write of a block, of which the server has this.
+    pub fn write(self, copy: BlockCopy, block: u64, value: u64) -> Accessed
+        ensures { λ r. ⌜ r ≡ clientWritten self copy block value ⌝ }
+    {
+        let opens = self.opens;
+        Accessed {
+            side: self,
+            copy: BlockCopy {
+                value: chosen(opens.caching, value, copy.value),
+                held: opens.caching | copy.held,
+                dirty: opens.caching | copy.dirty,
+            },
+            block: chosen(opens.caching, block, value),
+            reply: Reply::Done,
+        }
+    }
+
     pub fn read_needs_server(self, held: bool) -> bool
         ensures { λ r. ⌜ r ≡ readNeedsServer self held ⌝ }
     {
@@ -103,4 +157,11 @@ impl ClientFile {
         let opens = self.opens;
         !((0 < opens.writers) & opens.caching)
     }
+}
+
+// The one value where the test holds, else the other.
+fn chosen(holds: bool, one: u64, other: u64) -> u64
+    ensures { λ r. ⌜ r ≡ cond holds one other ⌝ }
+{
+    if holds { one } else { other }
 }

@@ -9,6 +9,8 @@ mod reply;
 mod shared;
 mod step;
 
+pub use client::Accessed;
+pub use client::BlockCopy;
 pub use client::ClientFile;
 pub use client::Sides;
 pub use copy::keeps_copy;

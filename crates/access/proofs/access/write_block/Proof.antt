@@ -1,4 +1,4 @@
--- `write_block` meets its contract: refused, or the copy or the server's block is written. Assumes nothing.
+-- `write_block` meets its contract: refused, or what the client's write leaves is stored. Assumes nothing.
 use Prim.Native.Nat.{_<_}
 use mathlib.Core.Path.{_≡_, refl, _∙_}
 use native.Mathlib.Omega.{arith}
@@ -10,14 +10,14 @@ use Rattle.blocks.specs.Stores.{lent}
 use Rattle.blocks.proofs.Wrapped.{wrapped, wrapped-block}
 use Rattle.access.specs.BlockStep.{afterWrite}
 use Rattle.protocol.proofs.Tested.{named-block, when-accepted}
-use Rattle.access.proofs.Accessed.{leaves-as, leaves-refused, write-step}
+use Rattle.access.proofs.Accessed.{leaves-as, leaves-refused, write-step, write-leaves}
 use borrow.Author.Needs.{needs}
 use Rattle.access.proofs.access.write_block.Statement.{statement}
 use Rattle.access.proofs.access.write_block.Tie as tie
 
 returns : tie.Need-returns
 returns c =
-    let a = c .before .before .before .args in
+    let a = c .before .before .args in
     leaves-refused (writeTests (a .sizes) (a .recovering) (a .reported) (a .own) (a .client) (a .file) (a .block))
     (now (a .blocks)) (now (a .copies)) (now (a .held)) (now (a .dirty)) _ _ _ _
     (write-step (a .sizes) (a .recovering) (a .reported) (a .own) (lent (now (a .blocks)) (now (a .copies)) (now (a .held)) (now (a .dirty))) (a .client) (a .file) (a .block) (a .value))
@@ -27,43 +27,30 @@ returns c =
 
 returns-2 : tie.Need-returns-2
 returns-2 c =
-    let a = c .before .before .before .before .before .args in
+    let write = c .before in
+    let placed = write .before .before .before .before .before in
+    let celled = placed .before in
+    let test = celled .before in
+    let refusal = test .before in
+    let start = refusal .before in
+    let a = start .args in
     let (client, file, block) =
-    named-block (a .sizes) (a .client) (a .file) (a .block) (c .before .before .before .write-refusal .result) _
-    (c .before .before .before .write-refusal .ensures)
-    (c .before .before .if1 .left) in
-    let hi : a .client < maxClients = omega (arith, client, c .before .before .before .before .before .pre .clients) in
-    let hf : a .file < maxFiles = omega (arith, file, c .before .before .before .before .before .pre .files) in
-    let hb : a .block < maxBlocks = omega (arith, block, c .before .before .before .before .before .pre .blocks) in
-    let at : c .cell-of .result ≡ cell (a .client) (a .file) (a .block) =
-    c .cell-of .ensures .0 ∙ wrapped (a .client) (a .file) (a .block) hi hf hb in
+    named-block (a .sizes) (a .client) (a .file) (a .block) (refusal .write-refusal .result) _ (refusal .write-refusal .ensures) (test .if1 .left) in
+    let hi : a .client < maxClients = omega (arith, client, start .pre .clients) in
+    let hf : a .file < maxFiles = omega (arith, file, start .pre .files) in
+    let hb : a .block < maxBlocks = omega (arith, block, start .pre .blocks) in
+    let at : celled .cell-of .result ≡ cell (a .client) (a .file) (a .block) =
+    celled .cell-of .ensures .0 ∙ wrapped (a .client) (a .file) (a .block) hi hf hb in
+    let to : placed .place-of .result ≡ place (a .file) (a .block) =
+    placed .place-of .ensures .0 ∙ wrapped-block (a .file) (a .block) hf hb in
     leaves-as _ _ _ _ _ _ _
     (write-step (a .sizes) (a .recovering) (a .reported) (a .own) (lent (now (a .blocks)) (now (a .copies)) (now (a .held)) (now (a .dirty))) (a .client) (a .file) (a .block) (a .value)
     ∙ when-accepted (writeTests (a .sizes) (a .recovering) (a .reported) (a .own) (a .client) (a .file) (a .block)) (λ k. record { stores = lent (now (a .blocks)) (now (a .copies)) (now (a .held)) (now (a .dirty)); reply = Refused k })
     (afterWrite (a .own) (lent (now (a .blocks)) (now (a .copies)) (now (a .held)) (now (a .dirty))) (a .client) (a .file) (a .block) (a .value)) _
-    (c .before .before .before .write-refusal .ensures)
-    (c .before .before .if1 .left))
-    (record { replyAfter = refl; storesAfter = rw (c .before .if2 .taken, at) })
-
-returns-3 : tie.Need-returns-3
-returns-3 c =
-    let a = c .before .before .before .before .before .args in
-    let (client, file, block) =
-    named-block (a .sizes) (a .client) (a .file) (a .block) (c .before .before .before .write-refusal .result) _
-    (c .before .before .before .write-refusal .ensures)
-    (c .before .before .if1 .left) in
-    let hi : a .client < maxClients = omega (arith, client, c .before .before .before .before .before .pre .clients) in
-    let hf : a .file < maxFiles = omega (arith, file, c .before .before .before .before .before .pre .files) in
-    let hb : a .block < maxBlocks = omega (arith, block, c .before .before .before .before .before .pre .blocks) in
-    let to : c .place-of .result ≡ place (a .file) (a .block) =
-    c .place-of .ensures .0 ∙ wrapped-block (a .file) (a .block) hf hb in
-    leaves-as _ _ _ _ _ _ _
-    (write-step (a .sizes) (a .recovering) (a .reported) (a .own) (lent (now (a .blocks)) (now (a .copies)) (now (a .held)) (now (a .dirty))) (a .client) (a .file) (a .block) (a .value)
-    ∙ when-accepted (writeTests (a .sizes) (a .recovering) (a .reported) (a .own) (a .client) (a .file) (a .block)) (λ k. record { stores = lent (now (a .blocks)) (now (a .copies)) (now (a .held)) (now (a .dirty)); reply = Refused k })
-    (afterWrite (a .own) (lent (now (a .blocks)) (now (a .copies)) (now (a .held)) (now (a .dirty))) (a .client) (a .file) (a .block) (a .value)) _
-    (c .before .before .before .write-refusal .ensures)
-    (c .before .before .if1 .left))
-    (record { replyAfter = refl; storesAfter = rw (c .before .if2 .left, to) })
+    (refusal .write-refusal .ensures)
+    (test .if1 .left))
+    (write-leaves (a .own) (a .client) (a .file) (a .block) (now (a .blocks)) (now (a .copies)) (now (a .held)) (now (a .dirty))
+    (write .write .result) (celled .cell-of .result) (placed .place-of .result) at to (a .value) (write .write .ensures))
 
 pub write-block-spec : {M : Type 1} → statement M
 write-block-spec =
@@ -79,5 +66,11 @@ write-block-spec =
     (search needs)
     (search needs)
     (search needs)
-    returns-2
-    returns-3)
+    (search needs)
+    (search needs)
+    (search needs)
+    (search needs)
+    (search needs)
+    (search needs)
+    (search needs)
+    returns-2)
