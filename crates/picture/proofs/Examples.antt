@@ -34,7 +34,7 @@ joined (l ∷ ls) = l ++ joined ls
 
 pub record Examples : Type 0 where
   -- nothing has happened
-  pub start : pictured [] ≡ joined (bytes "the server runs\n" ∷ bytes "nothing was refused\n" ∷ [])
+  pub start : pictured [] ≡ joined (bytes "the server runs\n" ∷ bytes "nothing was refused\n" ∷ bytes "end of the picture\n" ∷ [])
   -- the milling wheat
   pub wheat :
       pictured
@@ -56,6 +56,7 @@ pub record Examples : Type 0 where
       (bytes "the server runs\n"
       ∷ bytes "file 3 is CLOSED at version 2; last writer: none\n"
       ∷ bytes "refused with 11: 1\n"
+      ∷ bytes "end of the picture\n"
       ∷ [])
   -- the feed barley
   pub barley :
@@ -82,6 +83,7 @@ pub record Examples : Type 0 where
       ∷ bytes "  station 2: read opens 0, write opens 0, may not cache; blocks held: 0; dirty: none\n"
       ∷ bytes "  station 5: read opens 0, write opens 0, may not cache; blocks held: 0; dirty: none\n"
       ∷ bytes "nothing was refused\n"
+      ∷ bytes "end of the picture\n"
       ∷ [])
   -- 3 stations, 2 files of 1 block: one station has reported; the file of another is CLOSED by the server's entry
   pub recovery :
@@ -104,10 +106,15 @@ pub record Examples : Type 0 where
       ∷ bytes "  station 2: read opens 1, write opens 0, may cache; blocks held: none; dirty: none\n"
       ∷ bytes "refused with 1: 1\n"
       ∷ bytes "refused with 5: 1\n"
+      ∷ bytes "end of the picture\n"
       ∷ [])
   pub reported :
       pictured (joined (bytes "SET 1 1 1\n" ∷ bytes "XX\n" ∷ bytes "RP 0\n" ∷ []))
-      ≡ joined (bytes "the server recovers; stations still to report: none\n" ∷ bytes "nothing was refused\n" ∷ [])
+      ≡ joined
+      (bytes "the server recovers; stations still to report: none\n"
+      ∷ bytes "nothing was refused\n"
+      ∷ bytes "end of the picture\n"
+      ∷ [])
   -- an open that waits
   pub waits :
       pictured
@@ -127,6 +134,7 @@ pub record Examples : Type 0 where
       ∷ bytes "  station 5 waits to open file 3 for read since line 5; stations still to answer: 2\n"
       ∷ bytes "refused with 9: 1\n"
       ∷ bytes "refused with 11: 2\n"
+      ∷ bytes "end of the picture\n"
       ∷ [])
   -- a last writer
   pub last :
@@ -136,6 +144,7 @@ pub record Examples : Type 0 where
       ∷ bytes "file 7 is CLOSED_DIRTY at version 2; last writer: 2\n"
       ∷ bytes "  station 2: read opens 0, write opens 0, may not cache; blocks held: 3; dirty: 3\n"
       ∷ bytes "nothing was refused\n"
+      ∷ bytes "end of the picture\n"
       ∷ [])
   -- a copy of a file that is CLOSED at version 1; file 0 has none
   pub copy :
@@ -153,11 +162,17 @@ pub record Examples : Type 0 where
       ∷ bytes "file 6 is CLOSED at version 1; last writer: none\n"
       ∷ bytes "  station 4: read opens 0, write opens 0, may not cache; blocks held: 2; dirty: none\n"
       ∷ bytes "nothing was refused\n"
+      ∷ bytes "end of the picture\n"
       ∷ [])
   -- the largest number
   pub range :
       pictured (joined (bytes "SET 9 1 1\n" ∷ bytes "OW 8 0\n" ∷ []))
-      ≡ joined (bytes "the server runs\n" ∷ bytes "refused with 2: 1\n" ∷ bytes "refused with 19: 1\n" ∷ [])
+      ≡ joined
+      (bytes "the server runs\n"
+      ∷ bytes "refused with 2: 1\n"
+      ∷ bytes "refused with 19: 1\n"
+      ∷ bytes "end of the picture\n"
+      ∷ [])
 
 pub examples : Examples
 unfolding fresh emptyLedger ledgerAfter stepOf fileStep blockStep tableStep stateOf permissionAtGrant count stored

@@ -131,10 +131,15 @@ refusalsText counts =
 
 -- ---- the whole
 
+-- the last line, by which a script sees that the picture is whole
+abbrev pub endText : List ℕ
+endText = bytes "end of the picture\n"
+
 unfoldable pub pictureText : Annotated → List ℕ
 pictureText t =
     let s = t .service in
-    serverText (sizesOf s) (tableIn s) ++ (filesText t (sizesOf s .files) ++ refusalsText (t .refusals))
+    serverText (sizesOf s) (tableIn s)
+    ++ (filesText t (sizesOf s .files) ++ (refusalsText (t .refusals) ++ endText))
 
 -- the room that the picture is given: more than it takes
 abbrev pub pictureRoom : ℕ

@@ -8,6 +8,7 @@ use crate::files::put_file;
 use crate::refused::put_refusals;
 use crate::server::put_server;
 use ledger::Annotated;
+use phrases::put_text;
 
 // The room that the picture is given: more than any picture takes.
 pub const PICTURE_ROOM: usize = 300000;
@@ -40,7 +41,8 @@ fn put_picture(out: &mut [u8], at: usize, state: Annotated) -> usize
     let files = put_server(out, at, sizes, table);
     let refused = put_files(out, files, state);
     let refusals = state.refusals;
-    put_refusals(out, refused, refusals)
+    let end = put_refusals(out, refused, refusals);
+    put_text(out, end, b"end of the picture\n")
 }
 
 // The files, ascending.

@@ -57,7 +57,8 @@ fn the_last_version_is_told() {
                     the server runs\n\
                     file 3 is ONE_READER at version 4294967295; last writer: none\n  \
                     station 5: read opens 1, write opens 0, may cache; blocks held: none; dirty: none\n\
-                    refused with 14: 1\n";
+                    refused with 14: 1\n\
+                    end of the picture\n";
     assert_eq!(said_from(service, "OW 5 3\nOR 5 3\n"), expected);
 }
 
@@ -74,6 +75,7 @@ fn fields_are_told_as_they_read() {
                     the server runs\n\
                     file 1 is CLOSED at version 7; last writer: none\n  \
                     station 4 waits to open file 1 for write since line 0; stations still to answer: none\n\
-                    refused with 9: 1\n";
+                    refused with 9: 1\n\
+                    end of the picture\n";
     assert_eq!(said_from(service, "OR 0 1\n"), expected);
 }

@@ -59,9 +59,10 @@ impl Picture {
         }
         let mut given = self.refusals.iter().enumerate().filter(|(_, times)| **times > 0).peekable();
         if given.peek().is_none() {
-            return printer.line(|text| text.words("nothing was refused"));
+            printer.line(|text| text.words("nothing was refused"))?;
         }
-        given.try_for_each(|(number, times)| printer.line(|text| text.refused(number, *times)))
+        given.try_for_each(|(number, times)| printer.line(|text| text.refused(number, *times)))?;
+        printer.line(|text| text.words("end of the picture"))
     }
 }
 

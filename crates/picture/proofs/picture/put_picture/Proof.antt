@@ -36,13 +36,34 @@ put-refusals-requires c κs =
       at-put-files .put-files .kept .0,
     )
 
+slice-aggregate-put-text : tie.Need-slice-aggregate-put-text
+slice-aggregate-put-text c = search needs
+
+put-text-requires : tie.Need-put-text-requires
+put-text-requires c κs =
+    let at-put-refusals = c .before .before .before .before in
+    let at-put-files = at-put-refusals .before .before .before .before .before in
+    let at-put-server = at-put-files .before .before .before .before in
+    let start = at-put-server .before .before .before .before .before .before .before .before in
+    omega (
+      arith,
+      start .pre,
+      at-put-server .put-server .ensures .1,
+      at-put-server .put-server .kept .0,
+      at-put-files .put-files .ensures .1,
+      at-put-files .put-files .kept .0,
+      at-put-refusals .put-refusals .ensures .1,
+      at-put-refusals .put-refusals .kept .0,
+    )
+
 same-length : tie.Need-same-length
 same-length c = search needs
 
 returns : tie.Need-returns
 unfolding pictureText
 returns c =
-    let at-put-refusals = c .before .before in
+    let at-put-text = c .before .before in
+    let at-put-refusals = at-put-text .before .before .before .before .before in
     let at-put-files = at-put-refusals .before .before .before .before .before in
     let at-put-server = at-put-files .before .before .before .before in
     let at-in-force = at-put-server .before .before .before .before in
@@ -50,12 +71,14 @@ returns c =
     let is = at-in-force .in-force .ensures .0 in
     let server = ap (λ z. serverText z (start .args .state .service .server .table)) is in (
       wrote-then (wrote-as server (at-put-server .put-server .ensures .0))
-          (wrote-then (at-put-files .put-files .ensures .0) (at-put-refusals .put-refusals .ensures .0)),
+          (wrote-then (at-put-files .put-files .ensures .0)
+          (wrote-then (at-put-refusals .put-refusals .ensures .0) (at-put-text .put-text .ensures .0))),
       omega (
         arith,
         at-put-server .put-server .ensures .1,
         at-put-files .put-files .ensures .1,
         at-put-refusals .put-refusals .ensures .1,
+        at-put-text .put-text .ensures .1,
       ),
     )
 
@@ -67,5 +90,7 @@ put-picture-spec =
     put-server-requires
     put-files-requires
     put-refusals-requires
+    slice-aggregate-put-text
+    put-text-requires
     same-length
     returns)

@@ -26,6 +26,7 @@ faults! {
         [picture.concat(), lines.concat()].concat().into_bytes()
     });
     nothing_said_of_no_refusal: Text(|output| replaced(output, "nothing was refused\n", ""));
+    end_of_the_picture_missing: Text(|output| replaced(output, "end of the picture\n", ""));
     last_lf_missing: Text(|output| output.strip_suffix(b"\n").unwrap_or(output).into());
 }
 

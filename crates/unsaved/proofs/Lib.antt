@@ -1,0 +1,2 @@
+-- Examples of the lines.
+pub mod Examples

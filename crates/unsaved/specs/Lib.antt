@@ -1,0 +1,2 @@
+-- What an image does not have.
+pub mod Unsaved
