@@ -2,9 +2,9 @@
 use crate::errors::refuse_image_option;
 use crate::errors::refuse_long;
 use crate::errors::refuse_option;
+use crate::guard::Images;
 use crate::help::print_help;
 use crate::help::print_version;
-use crate::inputs::Images;
 use crate::inputs::play_file;
 use crate::inputs::play_stdin;
 use options::Act;

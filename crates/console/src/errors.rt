@@ -48,6 +48,15 @@ pub fn refuse_image(explaining: bool, name: &[u8], number: u8) {
     io::write_all(STDERR_FILENO, b"\n");
 }
 
+// The named file is left as it is, for this reason.
+pub fn leave(explaining: bool, name: &[u8], reason: &[u8]) {
+    begin(explaining);
+    io::write_all(STDERR_FILENO, name);
+    io::write_all(STDERR_FILENO, b": ");
+    io::write_all(STDERR_FILENO, reason);
+    io::write_all(STDERR_FILENO, b", left as it is\n");
+}
+
 // Writes the program's name, and answers whether the descriptor took it.
 pub fn write_name(explaining: bool, fd: i32) -> bool {
     if explaining {

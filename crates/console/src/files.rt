@@ -27,13 +27,14 @@ pub fn read_file(explaining: bool, name: &[u8], buffer: &mut [u8]) -> Content
 }
 
 // Puts the bytes into the file: all of them, or the file stays as it is. They go to a new file beside it, which then
-// takes its name.
-pub fn replace_file(explaining: bool, bytes: &[u8], name: &[u8]) {
+// takes its name. Answers whether they are there.
+pub fn replace_file(explaining: bool, bytes: &[u8], name: &[u8]) -> bool {
     let mut new_name = name_buffer();
     let count = name_beside(name, &mut new_name);
-    if write_new(explaining, bytes, &new_name[..count]) {
-        take_name(explaining, &new_name[..count], name);
+    if !write_new(explaining, bytes, &new_name[..count]) {
+        return false;
     }
+    take_name(explaining, &new_name[..count], name)
 }
 
 // Makes the file and writes the bytes. What an earlier run has left under this name goes; if the bytes cannot be
@@ -62,21 +63,23 @@ fn store(fd: i32, bytes: &[u8]) -> bool {
     libc::fsync(fd) == 0
 }
 
-fn take_name(explaining: bool, new_name: &[u8], name: &[u8]) {
+fn take_name(explaining: bool, new_name: &[u8], name: &[u8]) -> bool {
     if os::rename(new_name, name) < 0 {
         fail(explaining, name);
         os::unlink(new_name);
+        return false;
     }
+    true
 }
 
 // A name has at most 4,096 bytes, and `.new` comes after it.
-fn name_buffer() -> [u8; 4100] {
+pub fn name_buffer() -> [u8; 4100] {
     [0; 4100]
 }
 
 // Puts the name and `.new` into the buffer, and answers their length. A name that does not fit gives none: cut short,
 // it would be another file's.
-fn name_beside(name: &[u8], buffer: &mut [u8]) -> usize
+pub fn name_beside(name: &[u8], buffer: &mut [u8]) -> usize
     ensures { λ r. ⌜ Counts r (now (buffer .exit)) ⌝ }
 {
     if buffer.len() < 4 {

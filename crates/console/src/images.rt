@@ -9,12 +9,14 @@ use crate::files::read_file;
 use crate::files::replace_file;
 use image::ImageWritten;
 use image::write_image;
+use libc::STDERR_FILENO;
 use protocol::Reply;
 use restore::image_sizes;
 use restore::read_image;
 use service::Outcome;
 use service::Service;
 use sizes::Sizes;
+use unsaved::write_unsaved;
 
 // Where a play begins.
 pub struct Start {
@@ -67,7 +69,7 @@ fn start_from(explaining: bool, name: &[u8]) -> Start {
 }
 
 // The bytes, read as an image by a fresh service of the sizes that they begin with.
-fn reading_of(bytes: &[u8]) -> Outcome
+pub fn reading_of(bytes: &[u8]) -> Outcome
     ensures { λ r. ⌜ r ≡ readingOf (fresh (sizesIn (now (bytes .entry)))) (now (bytes .entry)) ⌝ }
 {
     read_image(Service::new(image_sizes(bytes)), bytes)
@@ -80,17 +82,32 @@ pub fn save(explaining: bool, service: Service, place: usize) {
     save_as(explaining, service, &name[..length]);
 }
 
-// A refusal is told of, and leaves the file as it is.
+// A refusal is told of, and leaves the file as it is. Blocks that the image does not have are told of too.
 fn save_as(explaining: bool, service: Service, name: &[u8]) {
     let mut bytes = image_buffer();
     let written = write_image(service, &mut bytes);
     match written {
-        ImageWritten::Length(count) => replace_file(explaining, &bytes[..count], name),
+        ImageWritten::Length(count) => {
+            if replace_file(explaining, &bytes[..count], name) {
+                tell_unsaved(explaining, service);
+            }
+        }
         ImageWritten::Refused(number) => refuse_image(explaining, name, number),
     }
 }
 
+fn tell_unsaved(explaining: bool, service: Service) {
+    let mut lines = lines_buffer();
+    let count = write_unsaved(&mut lines, 0, explaining, service);
+    io::write_all(STDERR_FILENO, &lines[..count]);
+}
+
+// Room for UNSAVED_ROOM bytes.
+fn lines_buffer() -> [u8; 524288] {
+    [0; 524288]
+}
+
 // Room for more than the longest image: a longer file is none.
-fn image_buffer() -> [u8; 8192] {
+pub fn image_buffer() -> [u8; 8192] {
     [0; 8192]
 }

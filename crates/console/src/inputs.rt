@@ -2,6 +2,8 @@
 use crate::errors::fail;
 use crate::errors::fail_output;
 use crate::explain_loop::explain;
+use crate::guard::Images;
+use crate::guard::may_write;
 use crate::images::Start;
 use crate::images::save;
 use crate::images::start_of;
@@ -10,16 +12,13 @@ use crate::turns::End;
 use libc::STDERR_FILENO;
 use libc::STDIN_FILENO;
 
-// The places of the arguments that name the image to begin with and the image to write at the end; 0: there is none.
-pub struct Images {
-    pub read: usize,
-    pub written: usize,
-}
-
 // Each of these answers whether standard output took what was played.
 pub fn play_file(explaining: bool, path: &[u8], headed: bool, images: Images) -> bool {
     if headed {
         print_heading(path);
+    }
+    if !may_write(explaining, path, images) {
+        return true;
     }
     let fd = os::open_read(path);
     if fd < 0 {
@@ -35,6 +34,10 @@ pub fn play_stdin(explaining: bool, headed: bool, images: Images) -> bool {
     let name = b"standard input";
     if headed {
         print_heading(name);
+    }
+    // Standard input has no name that a file could have.
+    if !may_write(explaining, b"-", images) {
+        return true;
     }
     play_input(explaining, STDIN_FILENO, name, images)
 }

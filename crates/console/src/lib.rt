@@ -4,6 +4,7 @@ mod arguments;
 mod errors;
 mod explain_loop;
 mod files;
+mod guard;
 mod help;
 mod images;
 mod inputs;

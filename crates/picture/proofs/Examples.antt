@@ -34,7 +34,9 @@ joined (l ∷ ls) = l ++ joined ls
 
 pub record Examples : Type 0 where
   -- nothing has happened
-  pub start : pictured [] ≡ joined (bytes "the server runs\n" ∷ bytes "nothing was refused\n" ∷ bytes "end of the picture\n" ∷ [])
+  pub start :
+      pictured []
+      ≡ joined (bytes "the server runs\n" ∷ bytes "nothing was refused\n" ∷ bytes "end of the picture\n" ∷ [])
   -- the milling wheat
   pub wheat :
       pictured

@@ -1,5 +1,5 @@
--- What an image does not have: a block that is dirty at a client is not at the server yet. Standard error has a line for
--- each, by client, file and block. A client is called a station there.
+-- What an image does not have: a block that is dirty at a client is not at the server yet. Standard error has a line
+-- for each, by client, file and block. A client is called a station there.
 use Prim.Native.Nat.{ℕ}
 use mathlib.Core.Bool.{Bool, cond}
 use mathlib.Core.List.{List, _++_}
@@ -22,8 +22,8 @@ lineText explaining i f b =
     ++ (bytes " file"
     ++ (argumentText f ++ (bytes " block" ++ (argumentText b ++ bytes " is dirty, and not in the image\n")))))
 
--- the lines of a file's n blocks at client i; of its files; and of all clients. The test tells whether a client's copy of
--- a file's block is dirty.
+-- the lines of a file's n blocks at client i; of its files; and of all clients. The test tells whether a client's copy
+-- of a file's block is dirty.
 abbrev pub blockLines : Bool → ℕ → (ℕ → ℕ → ℕ → Bool) → ℕ → ℕ → List (List ℕ)
 blockLines explaining n dirty i f = below n (λ b. entryIf (dirty i f b) (lineText explaining i f b))
 

@@ -61,7 +61,8 @@ fn put_files(
     requires { ⌜ client < maxClients ⌝ }
     requires { ⌜ at + 62464 ≤ length (now out) ⌝ }
     ensures { λ r. ⌜ Wrote (now (out .entry)) at
-        (flat (fileLines explaining sizes (dirtyIn (lent [] [] [] (now (dirty .entry)))) client)) (now (out .exit)) r ⌝ }
+        (flat (fileLines explaining sizes (dirtyIn (lent [] [] [] (now (dirty .entry)))) client))
+        (now (out .exit)) r ⌝ }
     ensures { λ r. ⌜ r ≤ at + 62464 ⌝ }
 {
     let mut next = at;
