@@ -5,13 +5,15 @@ use mathlib.Core.Path.{_≡_, refl}
 use mathlib.Core.Bool.{Bool, true, false}
 use mathlib.Core.List.{List, [], _∷_, _++_}
 use lib.ListN.{take, replicate}
+use Rattle.records.specs.declared.record.Mode.{Mode}
 use Rattle.records.specs.declared.record.Mode.the-variants.{Read, Write}
 use Rattle.decision.specs.Lists.{count, stored}
 use Rattle.decision.specs.Permission.{permissionAtGrant}
 use Rattle.decision.specs.State.{stateOf}
 use Rattle.protocol.specs.declared.reply.Reply.{Reply}
 use Rattle.protocol.specs.declared.reply.Reply.the-variants.{Granted, Waiting, Refused, Done}
-use Rattle.protocol.specs.Reply.{noCalls}
+use Rattle.protocol.specs.declared.step.Step.the-variants.{Open}
+use Rattle.protocol.specs.Reply.{noCalls, noGrants}
 use Rattle.file.specs.FileStep.{fileStep}
 use Rattle.table.specs.TableStep.{tableStep}
 use Rattle.service.specs.declared.service.Service.{Service}
@@ -77,6 +79,8 @@ pub record Examples : Type 0 where
   pub recovering :
       take 2 (batchOf (after busy (XX ∷ [])) 5 (pair 1 ∷ pair 32 ∷ []) .replies)
       ≡ told (Refused 5) ∷ told (Refused 3) ∷ []
+  -- no open grants the open of another
+  pub grantsNothing : (s : Service) (m : Mode) (i f : ℕ) → stepOf s (Open m i f) .grants ≡ noGrants
   -- an empty list is accepted and changes nothing
   pub emptyAccepted : batchOf busy 5 [] .reply ≡ Done
   pub emptyCount : batchOf busy 5 [] .count ≡ 0
@@ -98,6 +102,7 @@ examples =
       beforeClient = refl;
       noClient = refl;
       recovering = refl;
+      grantsNothing = λ s m i f. refl;
       emptyAccepted = refl;
       emptyCount = refl;
       emptyService = refl;

@@ -45,7 +45,8 @@ opensOf i l = map (λ (x : Opening). Open (x .mode) i (x .file)) l
 
 -- ---- the outcome
 
--- "entry by entry": each step takes the service that the one before it left, whether that was refused or not
+-- "entry by entry": each step takes the service that the one before it left, whether that was refused or not. An open
+-- grants nothing to others, so its reply and its callbacks are all that is told of it.
 abbrev pub replyOf : Outcome → OpenReply
 replyOf o = record { reply = o .reply; calls = o .calls }
 

@@ -11,6 +11,7 @@ use crate::turns::input_buffer;
 use crate::turns::read_if;
 use crate::turns::write;
 use explaining::Session;
+use ledger::NOTES;
 use ledger::REFUSAL_NUMBERS;
 use service::FLAGS;
 use service::held_service;
@@ -32,8 +33,8 @@ pub fn explain(start: Start, fd: i32) -> End {
     let mut copies = [0u64; MAX_CELLS];
     let mut held = [false; MAX_CELLS];
     let mut dirty = [false; MAX_CELLS];
-    let mut written = [0u64; MAX_PLACES];
-    let mut writers = [0u8; MAX_PLACES];
+    let mut written = [0u64; NOTES];
+    let mut writers = [0u8; NOTES];
     let mut copied = [0u64; MAX_CELLS];
     let mut waiting = [0u64; MAX_FILES];
     let mut refusals = [0u64; REFUSAL_NUMBERS];

@@ -38,8 +38,8 @@ module _ (fresh : Bool) (t : Annotated) (n : ℕ) where
     says-alike : explainedLine fresh t n l ≡ explainedLine fresh t n m
     unfolding explainedLine
     says-alike =
-        ap (λ (o : Outcome). explainedText n (o .reply) (o .calls) (saidOfLine fresh (t .service) (t .ledger) n l (parseLine l))) alike
-        ∙ ap (λ (k : List ℕ). explainedText n (after m .reply) (after m .calls) k) (said-long l l-long ∙ sym (said-long m m-long))
+        ap (λ (o : Outcome). explainedText n (o .reply) (o .calls) (o .grants) (saidOfLine fresh (t .service) (t .ledger) n l (parseLine l))) alike
+        ∙ ap (λ (k : List ℕ). explainedText n (after m .reply) (after m .calls) (after m .grants) k) (said-long l l-long ∙ sym (said-long m m-long))
 
     goes-alike : annotatedAfter fresh t n l ≡ annotatedAfter fresh t n m
     unfolding annotatedAfter

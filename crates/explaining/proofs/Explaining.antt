@@ -9,22 +9,29 @@ use lib.Dec.{eqb}
 use lib.ListN.{length, getD}
 use Rattle.sizes.specs.declared.sizes.Sizes.{Sizes}
 use Rattle.sizes.specs.Sizes.{maxClients, maxFiles, maxBlocks, inForce, cell}
+use Rattle.sizes.proofs.InForce.{in-force-permitted, file-fits}
+use Rattle.protocol.specs.declared.client.ClientFile.{ClientFile}
 use Rattle.protocol.specs.declared.client.Sides.{Sides}
+use Rattle.protocol.specs.declared.reply.Granting.{Granting}
 use Rattle.protocol.specs.declared.reply.Reply.{Reply}
 use Rattle.protocol.specs.declared.step.Numbers.{Numbers}
+use Rattle.protocol.specs.declared.shared.SharedFile.{SharedFile}
 use Rattle.protocol.specs.declared.step.Step.{Step}
-use Rattle.protocol.specs.Client.{noClient}
-use Rattle.protocol.specs.Reply.{noCalls}
+use Rattle.protocol.specs.declared.step.Step.the-variants.{Open, Close, Read, Write, Flush, Answer, Crash, Report, End}
+use Rattle.protocol.specs.declared.step.Step.the-variants.{Restart}
+use Rattle.protocol.specs.Client.{noClient, sideOf}
+use Rattle.protocol.specs.Reply.{noCalls, noGrants}
 use Rattle.protocol.specs.Step.{numbersOf, clientOf, fileOf, blockOf}
 use Rattle.blocks.specs.Stores.{Stores, lent}
 use Rattle.table.specs.TableStep.{noEntry, noSides}
 use Rattle.words.specs.Words.{sideHeld}
-use Rattle.words.specs.Rows.{listed, rowWords, wordAt, entryHeld, sidesHeld}
-use Rattle.words.specs.Said.{replySaid, callsSaid, Says}
+use Rattle.words.specs.Rows.{tableWords, wordAt, entryHeld, sidesHeld, fileHeld}
+use Rattle.words.specs.Said.{replySaid, callsSaid, grantsSaid, Says}
+use Rattle.words.proofs.Changing.{side-held}
 use Rattle.words.proofs.Listing.{getD-listed}
 use Rattle.service.specs.declared.service.Service.{Service}
 use Rattle.service.specs.declared.outcome.Outcome.{Outcome}
-use Rattle.service.specs.Contents.{tableIn, entryAt, sidesAt, clientAt}
+use Rattle.service.specs.Contents.{sizesOf, tableIn, entryAt, sidesAt, clientAt}
 use Rattle.service.specs.Step.{stepOf}
 use Rattle.service.specs.Lent.{serviceHeld, reportedHeld, Stepped}
 use Rattle.service.specs.Demand3.{refused}
@@ -41,13 +48,14 @@ use Rattle.stepfile.specs.Input.{readAt}
 use Rattle.writer.specs.Buffer.{WroteIfRoom}
 use Rattle.ledger.specs.declared.annotated.Annotated.{Annotated}
 use Rattle.ledger.specs.declared.ledger.Ledger.{Ledger}
-use Rattle.ledger.specs.Ledger.{entered, noted, toldOf, mayCache, holdsBlock, stepTold, ledgerAfter}
+use Rattle.ledger.specs.declared.lines.Lines.{Lines}
+use Rattle.ledger.specs.Ledger.{entered, linesAt, noted, toldOf, mayCache, holdsBlock, stepTold, ledgerAfter}
 use Rattle.ledger.specs.Refusals.{refusalsAfter}
 use Rattle.ledger.specs.Wrapped.{wrappedStep}
 use Rattle.ledger.specs.Annotated.{annotatedBy, annotatedAfter}
 use Rattle.ledger.proofs.Wrapping.{found-there, noted-wrapped}
-use Rattle.sentences.specs.Scene.{rowOf, sceneHeld}
-use Rattle.sentences.specs.Explained.{saidOf, sentenceOf, noStepText, settingText, explainedText, explainedRoom, explainedLine, explainedBy}
+use Rattle.sentences.specs.Scene.{sceneHeld, wholeHeld, wholeOf, keptBefore}
+use Rattle.sentences.specs.Explained.{saidOf, restartedText, sentenceOf, noStepText, settingText, explainedText, explainedRoom, explainedLine, explainedBy}
 use Rattle.telling.specs.Lines.{canTell}
 use Rattle.telling.proofs.Reaching.{lineBytes, line-bytes}
 use Rattle.telling.specs.Reached.{Reached}
@@ -55,20 +63,9 @@ use Rattle.telling.proofs.LineByLine.{one-more}
 use Rattle.explaining.specs.declared.tell.Seen.{Seen}
 use Rattle.explaining.specs.Lines.{explaining, settingAt, stateHeld, TellsLine}
 use Rattle.explaining.proofs.Scenes.{sceneBy, said-alike}
+use Rattle.explaining.proofs.Wholes.{kept-whole, kept-row, Alike, restart-agree}
 
--- ---- what the row of a file holds
-
-module _ (t : List ℕ) (f : ℕ) where
-  row-entry : entryHeld (rowOf t f) 0 ≡ entryHeld t f
-  unfolding listed
-  row-entry = refl
-
-  row-sides : sidesHeld (rowOf t f) 0 ≡ sidesHeld t f
-  unfolding listed
-  row-sides = refl
-
-  row-word : (k : ℕ) → k < rowWords → getD (rowOf t f) k 0 ≡ wordAt t f k
-  row-word k h = getD-listed rowWords (λ j. wordAt t f j) 0 k h
+-- ---- what is kept from before a step
 
 -- the service that the arrays hold has it
 module _ (z : Sizes) (t : List ℕ) (flags : List Bool) (a : Stores) (f : ℕ) (there : f < maxFiles) where
@@ -78,11 +75,11 @@ module _ (z : Sizes) (t : List ℕ) (flags : List Bool) (a : Stores) (f : ℕ) (
   sides-there : sidesHeld t f ≡ sidesAt (serviceHeld z t flags a) f
   sides-there = sym (getD-listed maxFiles (λ g. sidesHeld t g) noSides f there)
 
-  side-there : (i : ℕ) → i < maxClients → sideHeld (getD (rowOf t f) (10 + i) 0) ≡ clientAt (serviceHeld z t flags a) i f
-  side-there i h =
-      ap sideHeld (row-word t f (10 + i) (omega arith))
-      ∙ sym (getD-listed maxClients (λ j. sideHeld (wordAt t f (10 + j))) noClient i h)
-      ∙ ap (λ (d : Sides). getD (d .of) i noClient) sides-there
+  own-there : (i : ℕ) → sideOf (sidesHeld t f) i ≡ clientAt (serviceHeld z t flags a) i f
+  own-there i = ap (λ (d : Sides). sideOf d i) sides-there
+
+  side-there : (i : ℕ) → i < maxClients → sideHeld (wordAt t f (10 + i)) ≡ clientAt (serviceHeld z t flags a) i f
+  side-there i h = sym (getD-listed maxClients (λ j. sideHeld (wordAt t f (10 + j))) noClient i h) ∙ own-there i
 
 -- ---- a step that was taken
 
@@ -91,8 +88,10 @@ module _
     (is : q ≡ numbersOf x) (t₀ : List ℕ) (flags₀ : List Bool) (a₀ : Stores) (words₀ t : List ℕ) (flags : List Bool)
     (a : Stores) (words : List ℕ) (said : ℕ)
     (taken : Stepped given (q .kind) (q .client) (q .file) (q .block) (q .value) t₀ flags₀ a₀ words₀ t flags a words said)
-    (l₀ : Ledger) (row : List ℕ) (rowed : row ≡ rowOf t₀ (q .file % maxFiles)) (seen : Seen)
-    (caching : seen .caching ≡ sideHeld (getD row (10 + q .client % maxClients) 0) .opens .caching)
+    (t-long : length t₀ ≡ tableWords)
+    (l₀ : Ledger) (b₀ before : List ℕ) (b-long : length b₀ ≡ tableWords)
+    (kept : before ≡ keptBefore (q .kind) (q .file) t₀ b₀) (seen : Seen)
+    (caching : seen .caching ≡ sideHeld (wordAt before (q .file % maxFiles) (10 + q .client % maxClients)) .opens .caching)
     (told :
     seen .told
     ≡ toldOf (seen .caching) (lent [] [] (a₀ .held) (a₀ .dirty)) (entered (l₀ .written) (l₀ .writers) (l₀ .copied) [])
@@ -124,7 +123,12 @@ module _
 
   outcome-is :
       _≡_ {A = Outcome}
-      (record { service = serviceHeld given t flags a; reply = replySaid said words; calls = callsSaid said words })
+      (record {
+        service = serviceHeld given t flags a;
+        reply = replySaid said words;
+        calls = callsSaid said words;
+        grants = grantsSaid said words;
+      })
       o
   outcome-is = stepped-outcome given x q t₀ flags₀ a₀ words₀ t flags a words said is taken
 
@@ -137,20 +141,27 @@ module _
   calls-is : callsSaid said words ≡ o .calls
   calls-is = ap (λ (k : Outcome). k .calls) outcome-is
 
-  says : Says said words (o .reply) (o .calls)
-  says = subst (λ (k : Outcome). Says said words (k .reply) (k .calls)) (asked-outcome s x q is) (taken .says .says)
+  says : Says said words (o .reply) (o .calls) (o .grants)
+  says =
+      subst (λ (k : Outcome). Says said words (k .reply) (k .calls) (k .grants)) (asked-outcome s x q is) (taken .says .says)
 
-  row-is : row ≡ rowOf t₀ f
-  row-is = rowed ∙ ap (λ (r : Numbers). rowOf t₀ (r .file % maxFiles)) is
+  -- the row of the file, as it was
+  row-is : fileHeld before f ≡ fileHeld t₀ f
+  row-is =
+      ap (λ (l : List ℕ). fileHeld l f) kept
+      ∙ ap (λ (r : Numbers). fileHeld (keptBefore (r .kind) (r .file) t₀ b₀) f) is
+      ∙ kept-row t₀ b₀ t-long b-long (numbersOf x .kind) (fileOf x)
+
+  sides-is : sidesHeld before f ≡ sidesAt s f
+  sides-is = ap (λ (y : SharedFile). y .sides) row-is ∙ sides-there given t₀ flags₀ a₀ f file-in
 
   -- what was seen
   caching-is : seen .caching ≡ clientAt s i f .opens .caching
   caching-is =
       caching
-      ∙ ap (λ (r : Numbers). sideHeld (getD row (10 + r .client % maxClients) 0) .opens .caching) is
-      ∙ ap (λ (k : List ℕ). sideHeld (getD k (10 + i) 0) .opens .caching) row-is
-      ∙ ap (λ own. own .opens .caching)
-      (side-there given t₀ flags₀ a₀ f file-in i client-in)
+      ∙ ap (λ (r : Numbers). sideHeld (wordAt before (r .file % maxFiles) (10 + r .client % maxClients)) .opens .caching) is
+      ∙ ap (λ (own : ClientFile). own .opens .caching)
+      (sym (side-held before f i client-in) ∙ ap (λ (d : Sides). sideOf d i) sides-is)
 
   found : refused s x ≡ false → (seen .told ≡ stepTold s l₀ x) × (seen .caching ≡ mayCache s x) × (seen .holds ≡ holdsBlock s x)
   found ok =
@@ -176,36 +187,80 @@ module _
       )
 
   -- the scene that the arrays hold
+  abbrev lines : ℕ → ℕ → Lines
+  lines = linesAt (entered (l₀ .written) (l₀ .writers) [] [])
+
   abbrev held : List ℕ
   held =
-      saidOf fresh (sceneHeld sizes x row t flags (getD (l₀ .waiting) f 0) (seen .told) (seen .caching)) x (o .calls) (o .reply)
+      saidOf fresh (sceneHeld sizes x before t flags (getD (l₀ .waiting) f 0) (seen .told) (seen .caching))
+      (wholeHeld before t lines) x (o .calls) (o .reply)
 
   scene-is :
-      sceneHeld sizes x row t flags (getD (l₀ .waiting) f 0) (seen .told) (seen .caching)
+      sceneHeld sizes x before t flags (getD (l₀ .waiting) f 0) (seen .told) (seen .caching)
       ≡ sceneBy sizes (tableIn (o .service) .reported) (entryAt s f) (entryAt (o .service) f) (sidesAt s f)
       (getD (l₀ .waiting) f 0) (seen .told) (seen .caching)
   scene-is =
       let reports : reportedHeld flags ≡ tableIn (o .service) .reported = ap (λ (k : Service). tableIn k .reported) service-is in
-      let before : entryHeld row 0 ≡ entryAt s f =
-      ap (λ (k : List ℕ). entryHeld k 0) row-is ∙ row-entry t₀ f ∙ entry-there given t₀ flags₀ a₀ f file-in in
+      let came : entryHeld before f ≡ entryAt s f =
+      ap (λ (y : SharedFile). y .entry) row-is ∙ entry-there given t₀ flags₀ a₀ f file-in in
       let after : entryHeld t f ≡ entryAt (o .service) f =
       entry-there given t flags a f file-in ∙ ap (λ (k : Service). entryAt k f) service-is in
-      let sides : sidesHeld row 0 ≡ sidesAt s f =
-      ap (λ (k : List ℕ). sidesHeld k 0) row-is ∙ row-sides t₀ f ∙ sides-there given t₀ flags₀ a₀ f file-in in
-      λ k. sceneBy sizes (reports k) (before k) (after k) (sides k) (getD (l₀ .waiting) f 0) (seen .told) (seen .caching)
+      λ k. sceneBy sizes (reports k) (came k) (after k) (sides-is k) (getD (l₀ .waiting) f 0) (seen .told) (seen .caching)
+
+  -- what a restart is told by
+  module _ (restarts : numbersOf x .kind ≡ 11) where
+    all-kept : before ≡ t₀
+    all-kept =
+        kept
+        ∙ ap (λ (r : Numbers). keptBefore (r .kind) (r .file) t₀ b₀) is
+        ∙ kept-whole t₀ b₀ t-long b-long (numbersOf x .kind) (fileOf x) restarts
+
+    whole-alike : Alike (sizesOf s .files) (wholeHeld before t lines) (wholeOf s l₀ x)
+    whole-alike =
+        let fits : (g : ℕ) → g < sizesOf s .files → g < maxFiles = λ g h. file-fits (in-force-permitted given) h in
+        record {
+          entry = λ g h. ap (λ (l : List ℕ). entryHeld l g) all-kept ∙ entry-there given t₀ flags₀ a₀ g (fits g h);
+          after = λ g h. entry-there given t flags a g (fits g h) ∙ ap (λ (k : Service). entryAt k g) service-is;
+          side = λ j g h.
+              ap (λ (l : List ℕ). sideOf (sidesHeld l g) j) all-kept ∙ own-there given t₀ flags₀ a₀ g (fits g h) j;
+          lines = refl;
+        }
+
+  looks : restartedText (sizesOf s) (wholeHeld before t lines) x ≡ restartedText (sizesOf s) (wholeOf s l₀ x) x
+  looks = looks-at x refl
+    where
+      looks-at : (y : Step) → x ≡ y
+          → restartedText (sizesOf s) (wholeHeld before t lines) y ≡ restartedText (sizesOf s) (wholeOf s l₀ x) y
+      looks-at (Open m j g) e = refl
+      looks-at (Close m j g) e = refl
+      looks-at (Read j g c) e = refl
+      looks-at (Write j g c v) e = refl
+      looks-at (Flush j g c) e = refl
+      looks-at (Answer j g) e = refl
+      looks-at Crash e = refl
+      looks-at (Report j) e = refl
+      looks-at End e = refl
+      looks-at (Restart j) e =
+          restart-agree (sizesOf s) (wholeHeld before t lines) (wholeOf s l₀ x) j
+          (whole-alike (ap (λ (y : Step). numbersOf y .kind) e))
 
   sentence-is : held ≡ sentenceOf fresh s l₀ x
   unfolding sentenceOf
   sentence-is =
-      ap (λ c. saidOf fresh c x (o .calls) (o .reply)) scene-is
-      ∙ said-alike fresh s l₀ x sizes sized (seen .told) (seen .caching) (λ ok. (found ok .0, found ok .1))
+      ap (λ c. saidOf fresh c (wholeHeld before t lines) x (o .calls) (o .reply)) scene-is
+      ∙ said-alike fresh s l₀ x sizes sized (seen .told) (seen .caching) (wholeHeld before t lines)
+      (λ ok. (found ok .0, found ok .1))
+      (λ ok. looks)
 
   pub step-told :
       (refusals₀ out₀ : List ℕ) (at : ℕ) (l : Ledger) (refusals out : List ℕ) (at′ : ℕ)
-      → ((reply : Reply) (calls : List ℕ) → Says said words reply calls → callsSaid said words ≡ calls
+      → ((reply : Reply) (calls : List ℕ) (granted : List Granting)
+      → Says said words reply calls granted
+      → callsSaid said words ≡ calls
       → WroteIfRoom explainedRoom out₀ at
-      (explainedText n reply calls
-      (saidOf fresh (sceneHeld sizes x row t flags (getD (l₀ .waiting) f 0) (seen .told) (seen .caching)) x calls reply))
+      (explainedText n reply calls granted
+      (saidOf fresh (sceneHeld sizes x before t flags (getD (l₀ .waiting) f 0) (seen .told) (seen .caching))
+      (wholeHeld before t lines) x calls reply))
       out at′)
       → at′ ≤ at + explainedRoom
       → l ≡ noted n (wrappedStep x) (replySaid said words) (seen .caching) (seen .holds) l₀
@@ -222,8 +277,9 @@ module _
       record {
         next = λ k. record { service = service-is k; ledger = ledger k; refusals = counted k };
         wrote =
-            subst (λ (k : List ℕ). WroteIfRoom explainedRoom out₀ at (explainedText n (o .reply) (o .calls) k) out at′) sentence-is
-            (wrote (o .reply) (o .calls) says calls-is);
+            subst (λ (k : List ℕ). WroteIfRoom explainedRoom out₀ at (explainedText n (o .reply) (o .calls) (o .grants) k) out at′)
+            sentence-is
+            (wrote (o .reply) (o .calls) (o .grants) says calls-is);
         most = most;
       }
 
@@ -253,29 +309,38 @@ module _ (fresh : Bool) (s : Service) (n : ℕ) (text : List ℕ) (x : Setting) 
       by OutOfRange = refl
       by Missing = refl
 
+  no-grants : noGrants ≡ setOutcome s x .grants
+  no-grants = by x
+    where
+      by : (y : Setting) → noGrants ≡ setOutcome s y .grants
+      by (Are z) = refl
+      by OutOfRange = refl
+      by Missing = refl
+
   pub set-told :
       (l : Ledger) (s′ : Service) (reply : Reply) (refusals₀ refusals out₀ : List ℕ) (at : ℕ) (out : List ℕ) (at′ : ℕ)
       → s′ ≡ setOutcome s x .service
       → reply ≡ setOutcome s x .reply
-      → WroteIfRoom explainedRoom out₀ at (explainedText n reply noCalls (settingText x)) out at′
+      → WroteIfRoom explainedRoom out₀ at (explainedText n reply noCalls noGrants (settingText x)) out at′
       → at′ ≤ at + explainedRoom
       → refusals ≡ refusalsAfter reply refusals₀
       → TellsLine fresh (record { service = s; ledger = l; refusals = refusals₀ }) n text NoStep out₀ at
       (record { service = s′; ledger = l; refusals = refusals }) out at′
   set-told l s′ reply refusals₀ refusals out₀ at out at′ goes replies wrote most counts =
       let o : Outcome = outcomeOf fresh s n text NoStep in
-      let outcome : _≡_ {A = Outcome} (record { service = s′; reply = reply; calls = noCalls }) o =
-      (λ k. record { service = goes k; reply = replies k; calls = no-calls k }) ∙ outcome-set in
+      let outcome : _≡_ {A = Outcome} (record { service = s′; reply = reply; calls = noCalls; grants = noGrants }) o =
+      (λ k. record { service = goes k; reply = replies k; calls = no-calls k; grants = no-grants k }) ∙ outcome-set in
       let counted : refusals ≡ refusalsAfter (o .reply) refusals₀ =
       counts ∙ ap (λ (o : Outcome). refusalsAfter (o .reply) refusals₀) outcome in
       record {
         next = λ k. record { service = outcome k .service; ledger = l; refusals = counted k };
         wrote =
             subst
-            (λ (t : List ℕ). WroteIfRoom explainedRoom out₀ at (explainedText n (o .reply) (o .calls) t) out at′)
+            (λ (t : List ℕ). WroteIfRoom explainedRoom out₀ at (explainedText n (o .reply) (o .calls) (o .grants) t) out at′)
             said-set
             (subst
-            (λ (o : Outcome). WroteIfRoom explainedRoom out₀ at (explainedText n (o .reply) (o .calls) (settingText x)) out at′)
+            (λ (o : Outcome).
+            WroteIfRoom explainedRoom out₀ at (explainedText n (o .reply) (o .calls) (o .grants) (settingText x)) out at′)
             outcome
             wrote);
         most = most;

@@ -18,6 +18,7 @@ use Rattle.protocol.specs.declared.reply.Reply.the-variants.{Granted, Waiting, 
 use Rattle.protocol.specs.declared.reply.Reply.the-variants.{AnsweredGrant, Done}
 use Rattle.protocol.specs.declared.step.Step.{Step}
 use Rattle.protocol.specs.declared.step.Step.the-variants.{Open, Close, Read, Write, Flush, Answer, Crash, Report, End}
+use Rattle.protocol.specs.declared.step.Step.the-variants.{Restart}
 use Rattle.protocol.specs.Reply.{isRefused}
 use Rattle.protocol.specs.Step.{fileOf}
 use Rattle.service.specs.declared.service.Service.{Service}
@@ -30,8 +31,8 @@ use Rattle.service.proofs.Accepted.{refusalOf, rejected, refused-changes-nothin
 use Rattle.ledger.specs.declared.ledger.Ledger.{Ledger}
 use Rattle.ledger.specs.declared.told.Told.{Told}
 use Rattle.ledger.specs.Ledger.{waitingSince, mayCache, stepTold}
-use Rattle.sentences.specs.Scene.{Scene, sceneOf}
-use Rattle.sentences.specs.Explained.{saidOf}
+use Rattle.sentences.specs.Scene.{Scene, sceneOf, Whole, wholeOf}
+use Rattle.sentences.specs.Explained.{restartedText, saidOf}
 
 abbrev pub sceneBy : Sizes → List Bool → Entry → Entry → Sides → ℕ → Told → Bool → Scene
 sceneBy z reported e e′ sides since told caching =
@@ -93,15 +94,17 @@ no-file-refused P s (Answer i f) h second third =
 no-file-refused P s Crash h second third = absurd (some-file s h)
 no-file-refused P s (Report i) h second third = absurd (some-file s h)
 no-file-refused P s End h second third = absurd (some-file s h)
+no-file-refused P s (Restart i) h second third = absurd (some-file s h)
 
 -- ---- the same sentence
 
 module _
     (fresh : Bool) (x : Step) (kinds : List ℕ) (z : Sizes) (r₁ r₂ : List Bool) (e₁ e₂ a₁ a₂ : Entry) (d₁ d₂ : Sides)
-    (n₁ n₂ : ℕ) (t₁ t₂ : Told) (c₁ c₂ : Bool) where
+    (n₁ n₂ : ℕ) (t₁ t₂ : Told) (c₁ c₂ : Bool) (w₁ w₂ : Whole) where
   abbrev Same : Reply → Type 0
   Same r =
-      saidOf fresh (sceneBy z r₁ e₁ a₁ d₁ n₁ t₁ c₁) x kinds r ≡ saidOf fresh (sceneBy z r₂ e₂ a₂ d₂ n₂ t₂ c₂) x kinds r
+      saidOf fresh (sceneBy z r₁ e₁ a₁ d₁ n₁ t₁ c₁) w₁ x kinds r
+      ≡ saidOf fresh (sceneBy z r₂ e₂ a₂ d₂ n₂ t₂ c₂) w₂ x kinds r
 
   -- a refusal looks at who has reported, at the entry and at the line of the wait
   same-refused : (r : Reply) → isRefused r ≡ true → r₁ ≡ r₂ → e₁ ≡ e₂ → n₁ ≡ n₂ → Same r
@@ -114,18 +117,28 @@ module _
   same-refused Done h p e n = conflict h refl
 
   -- any other reply looks neither at who has reported nor at that line
-  same-accepted : (r : Reply) → isRefused r ≡ false → e₁ ≡ e₂ → a₁ ≡ a₂ → d₁ ≡ d₂ → t₁ ≡ t₂ → c₁ ≡ c₂ → Same r
-  same-accepted (Refused k) h e a d t c = conflict refl h
-  same-accepted (Granted g) h e a d t c = rw d
-  same-accepted Waiting h e a d t c = rw e
-  same-accepted (Value v) h e a d t c = rw t
-  same-accepted (Answered k) h e a d t c = rw a
-  same-accepted (AnsweredGrant k i g) h e a d t c = rw (e, d)
-  same-accepted Done h e a d t c = rw c
+  same-accepted :
+      (r : Reply)
+      → isRefused r ≡ false
+      → e₁ ≡ e₂
+      → a₁ ≡ a₂
+      → d₁ ≡ d₂
+      → t₁ ≡ t₂
+      → c₁ ≡ c₂
+      → restartedText z w₁ x ≡ restartedText z w₂ x
+      → Same r
+  same-accepted (Refused k) h e a d t c w = conflict refl h
+  same-accepted (Granted g) h e a d t c w = rw d
+  same-accepted Waiting h e a d t c w = rw e
+  same-accepted (Value v) h e a d t c w = rw t
+  same-accepted (Answered k) h e a d t c w = rw a
+  same-accepted (AnsweredGrant k i g) h e a d t c w = rw (e, d)
+  same-accepted Done h e a d t c w = rw (c, w)
 
 -- what the code finds in the row of the step's file, wrapped, and tells of a read
 module _ (fresh : Bool) (s : Service) (l : Ledger) (x : Step) (z : Sizes) (sized : z ≡ sizesOf s) (told : Told) (caching : Bool)
-    (found : refused s x ≡ false → (told ≡ stepTold s l x) × (caching ≡ mayCache s x)) where
+    (whole : Whole) (found : refused s x ≡ false → (told ≡ stepTold s l x) × (caching ≡ mayCache s x))
+    (looks : refused s x ≡ false → restartedText (sizesOf s) whole x ≡ restartedText (sizesOf s) (wholeOf s l x) x) where
   abbrev g : ℕ
   g = fileOf x % maxFiles
 
@@ -137,7 +150,9 @@ module _ (fresh : Bool) (s : Service) (l : Ledger) (x : Step) (z : Sizes) (sized
       sceneBy k (tableIn (o .service) .reported) (entryAt s g) (entryAt (o .service) g) (sidesAt s g) (waitingSince l g) told caching
 
   abbrev Alike : Type 0
-  Alike = saidOf fresh (scene (sizesOf s)) x (o .calls) (o .reply) ≡ saidOf fresh (sceneOf s l x) x (o .calls) (o .reply)
+  Alike =
+      saidOf fresh (scene (sizesOf s)) whole x (o .calls) (o .reply)
+      ≡ saidOf fresh (sceneOf s l x) (wholeOf s l x) x (o .calls) (o .reply)
 
   in-force : Alike
   in-force =
@@ -148,17 +163,20 @@ module _ (fresh : Bool) (s : Service) (l : Ledger) (x : Step) (z : Sizes) (sized
       mod-eq-of-lt (file-fits (in-force-permitted (s .sizes)) (leb-false (sizesOf s .files) (fileOf x) some)) in
       split (refused s x)
       (λ not-ok.
-      same-refused fresh x (o .calls) (sizesOf s) _ _ _ _ _ _ _ _ _ _ _ _ _ _ (o .reply) not-ok
+      same-refused fresh x (o .calls) (sizesOf s) _ _ _ _ _ _ _ _ _ _ _ _ _ _ whole (wholeOf s l x) (o .reply) not-ok
       (ap (λ (k : Service). tableIn k .reported) (refused-changes-nothing s x not-ok))
       (ap (entryAt s) here)
       (ap (waitingSince l) here))
       (λ ok.
-      same-accepted fresh x (o .calls) (sizesOf s) _ _ _ _ _ _ _ _ _ _ _ _ _ _ (o .reply) ok
+      same-accepted fresh x (o .calls) (sizesOf s) _ _ _ _ _ _ _ _ _ _ _ _ _ _ whole (wholeOf s l x) (o .reply) ok
       (ap (entryAt s) here)
       (ap (entryAt (o .service)) here)
       (ap (sidesAt s) here)
       (found ok .0)
-      (found ok .1)))
+      (found ok .1)
+      (looks ok)))
 
-  pub said-alike : saidOf fresh (scene z) x (o .calls) (o .reply) ≡ saidOf fresh (sceneOf s l x) x (o .calls) (o .reply)
-  said-alike = ap (λ (k : Sizes). saidOf fresh (scene k) x (o .calls) (o .reply)) sized ∙ in-force
+  pub said-alike :
+      saidOf fresh (scene z) whole x (o .calls) (o .reply)
+      ≡ saidOf fresh (sceneOf s l x) (wholeOf s l x) x (o .calls) (o .reply)
+  said-alike = ap (λ (k : Sizes). saidOf fresh (scene k) whole x (o .calls) (o .reply)) sized ∙ in-force

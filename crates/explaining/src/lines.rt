@@ -11,13 +11,14 @@ use crate::tell::look;
 use crate::tell::tell_no_step;
 use crate::tell::tell_setting;
 use crate::tell::tell_step;
+use ledger::NOTES;
 use ledger::REFUSAL_NUMBERS;
 use protocol::asked;
 use reader::is_set;
 use reader::read_at;
 use reader::read_first_setting;
 use sentences::EXPLAINED_ROOM;
-use sentences::row_at;
+use sentences::keep_before;
 use service::FLAGS;
 use service::take_step;
 use sizes::MAX_CELLS;
@@ -54,8 +55,8 @@ pub fn explain_lines(
     copies: &mut [u64; MAX_CELLS],
     held: &mut [bool; MAX_CELLS],
     dirty: &mut [bool; MAX_CELLS],
-    written: &mut [u64; MAX_PLACES],
-    writers: &mut [u8; MAX_PLACES],
+    written: &mut [u64; NOTES],
+    writers: &mut [u8; NOTES],
     copied: &mut [u64; MAX_CELLS],
     waiting: &mut [u64; MAX_FILES],
     refusals: &mut [u64; REFUSAL_NUMBERS],
@@ -88,6 +89,7 @@ pub fn explain_lines(
     let given = begun.sizes;
     let force = given.in_force();
     let mut words = [0u64; SAID];
+    let mut before = [0u64; WORDS];
     let mut number = begun.number;
     let mut used = begun.used;
     let mut to = begun.written;
@@ -103,8 +105,8 @@ pub fn explain_lines(
             continue;
         };
         let named = asked(step);
-        let row = row_at(table, named.file % MAX_FILES);
-        let seen = look(named, &row, held, dirty, written, writers, copied);
+        keep_before(table, named.kind, named.file, &mut before);
+        let seen = look(named, &before, held, dirty, written, writers, copied);
         let said = take_step(
             given,
             named.kind,
@@ -129,7 +131,7 @@ pub fn explain_lines(
             step,
             said,
             &words,
-            &row,
+            &before,
             seen,
             table,
             flags,

@@ -13,6 +13,7 @@ ghost use Rattle.explaining.specs.Session.{startOf, freshSession, resume
 use crate::turn::explain_turn;
 use ledger::Annotated;
 use ledger::Ledger;
+use ledger::NOTES;
 use ledger::REFUSAL_NUMBERS;
 use picture::PICTURE_ROOM;
 use picture::write_picture;
@@ -76,8 +77,8 @@ impl Session {
         copies: &mut [u64; MAX_CELLS],
         held: &mut [bool; MAX_CELLS],
         dirty: &mut [bool; MAX_CELLS],
-        written: &mut [u64; MAX_PLACES],
-        writers: &mut [u8; MAX_PLACES],
+        written: &mut [u64; NOTES],
+        writers: &mut [u8; NOTES],
         copied: &mut [u64; MAX_CELLS],
         waiting: &mut [u64; MAX_FILES],
         refusals: &mut [u64; REFUSAL_NUMBERS],
@@ -156,8 +157,8 @@ impl Session {
         copies: &[u64; MAX_CELLS],
         held: &[bool; MAX_CELLS],
         dirty: &[bool; MAX_CELLS],
-        written: &[u64; MAX_PLACES],
-        writers: &[u8; MAX_PLACES],
+        written: &[u64; NOTES],
+        writers: &[u8; NOTES],
         copied: &[u64; MAX_CELLS],
         waiting: &[u64; MAX_FILES],
         refusals: &[u64; REFUSAL_NUMBERS],

@@ -5,11 +5,12 @@ ghost use mathlib.Core.List.{List, []};
 ghost use Prim.Native.Nat.{ℕ, _+_, _/_, _%_, _≤_};
 ghost use lib.ListN.{length, getD};
 ghost use Rattle.sizes.specs.Sizes.{maxClients, maxFiles, maxBlocks, Permitted, cell};
+ghost use Rattle.protocol.specs.declared.reply.Granting.{Granting};
 ghost use Rattle.protocol.specs.declared.reply.Reply.{Reply};
 ghost use Rattle.protocol.specs.Step.{fileOf};
 ghost use Rattle.blocks.specs.Stores.{lent};
 ghost use Rattle.words.specs.Words.{sideHeld};
-ghost use Rattle.words.specs.Rows.{rowWords, tableWords};
+ghost use Rattle.words.specs.Rows.{tableWords, wordAt};
 ghost use Rattle.words.specs.Said.{saidRoom, callsSaid, replySaid, Says};
 ghost use Rattle.service.specs.declared.service.Service.{Service};
 ghost use Rattle.service.specs.Lent.{lentFlags};
@@ -17,14 +18,15 @@ ghost use Rattle.stepfile.specs.declared.parsed.Parsed.the-variants.{NoStep};
 ghost use Rattle.stepfile.specs.declared.setting.Setting.the-variants as settings;
 ghost use Rattle.writer.specs.Buffer.{WroteIfRoom};
 ghost use Rattle.ledger.specs.declared.ledger.Ledger.{Ledger};
-ghost use Rattle.ledger.specs.Ledger.{entered, noted, toldOf};
+ghost use Rattle.ledger.specs.Ledger.{entered, linesAt, noted, toldOf};
 ghost use Rattle.ledger.specs.Refusals.{refusalsAfter};
 ghost use Rattle.ledger.specs.Wrapped.{wrappedStep};
-ghost use Rattle.sentences.specs.Scene.{sceneHeld};
+ghost use Rattle.sentences.specs.Scene.{sceneHeld, wholeHeld};
 ghost use Rattle.sentences.specs.Explained.{saidOf, explainedText, explainedRoom};
 ghost use Rattle.playing.specs.Lines.{Long};
 ghost use Rattle.explaining.specs.Lines.{settingAt, stateHeld, TellsLine};
 use blocks::cell_of;
+use ledger::NOTES;
 use ledger::REFUSAL_NUMBERS;
 use ledger::Told;
 use ledger::count_refusal;
@@ -62,19 +64,19 @@ pub struct Seen {
     pub holds: bool,
 }
 
-// Looks at what the step names, in the row of its file and beside it. The numbers are wrapped.
+// Looks at what the step names, in the row of its file before the step and beside it. The numbers are wrapped.
 pub fn look(
     named: Numbers,
-    row: &[u64; ROW],
+    before: &[u64; WORDS],
     held: &[bool; MAX_CELLS],
     dirty: &[bool; MAX_CELLS],
-    written: &[u64; MAX_PLACES],
-    writers: &[u8; MAX_PLACES],
+    written: &[u64; NOTES],
+    writers: &[u8; NOTES],
     copied: &[u64; MAX_CELLS],
 ) -> Seen
-    requires { ⌜ length (now row) ≡ rowWords ⌝ }
+    requires { ⌜ length (now before) ≡ tableWords ⌝ }
     ensures { λ r. ⌜ r .caching
-        ≡ sideHeld (getD (now (row .entry)) (10 + named .client % maxClients) 0) .opens .caching ⌝ }
+        ≡ sideHeld (wordAt (now (before .entry)) (named .file % maxFiles) (10 + named .client % maxClients)) .opens .caching ⌝ }
     ensures { λ r. ⌜ r .told ≡ toldOf (r .caching) (lent [] [] (now (held .entry)) (now (dirty .entry)))
         (entered (now (written .entry)) (now (writers .entry)) (now (copied .entry)) [])
         (named .client % maxClients) (named .file % maxFiles) (named .block % maxBlocks) ⌝ }
@@ -84,7 +86,7 @@ pub fn look(
     let client = named.client;
     let file = named.file;
     let block = named.block;
-    let own = side_of(row[10 + client % MAX_CLIENTS]);
+    let own = side_of(before[file % MAX_FILES * ROW + (10 + client % MAX_CLIENTS)]);
     let caching = own.opens.caching;
     Seen {
         told: read_told(
@@ -113,12 +115,12 @@ pub fn tell_step(
     step: Step,
     said: u64,
     words: &[u64; SAID],
-    row: &[u64; ROW],
+    before: &[u64; WORDS],
     seen: Seen,
     table: &[u64; WORDS],
     flags: &[bool; FLAGS],
-    written: &mut [u64; MAX_PLACES],
-    writers: &mut [u8; MAX_PLACES],
+    written: &mut [u64; NOTES],
+    writers: &mut [u8; NOTES],
     copied: &mut [u64; MAX_CELLS],
     waiting: &mut [u64; MAX_FILES],
     refusals: &mut [u64; REFUSAL_NUMBERS],
@@ -126,17 +128,19 @@ pub fn tell_step(
     requires { ⌜ Permitted sizes ⌝ }
     requires { ⌜ said / 256 ≤ saidRoom ⌝ }
     requires { ⌜ length (now words) ≡ saidRoom ⌝ }
-    requires { ⌜ length (now row) ≡ rowWords ⌝ }
+    requires { ⌜ length (now before) ≡ tableWords ⌝ }
     requires { ⌜ length (now table) ≡ tableWords ⌝ }
     requires { ⌜ length (now flags) ≡ lentFlags ⌝ }
-    ensures { λ r. ⌜ ((reply : Reply) (calls : List ℕ)
-        → Says said (now (words .entry)) reply calls
+    ensures { λ r. ⌜ ((reply : Reply) (calls : List ℕ) (granted : List Granting)
+        → Says said (now (words .entry)) reply calls granted
         → callsSaid said (now (words .entry)) ≡ calls
         → WroteIfRoom explainedRoom (now (out .entry)) at
-        (explainedText line reply calls
+        (explainedText line reply calls granted
         (saidOf fresh
-        (sceneHeld sizes step (now (row .entry)) (now (table .entry)) (now (flags .entry))
+        (sceneHeld sizes step (now (before .entry)) (now (table .entry)) (now (flags .entry))
         (getD (now (waiting .entry)) (fileOf step % maxFiles) 0) (seen .told) (seen .caching))
+        (wholeHeld (now (before .entry)) (now (table .entry))
+        (linesAt (entered (now (written .entry)) (now (writers .entry)) [] [])))
         step calls reply))
         (now (out .exit)) r) ⌝ }
     ensures { λ r. ⌜ r ≤ at + explainedRoom ⌝ }
@@ -147,8 +151,25 @@ pub fn tell_step(
         ≡ refusalsAfter (replySaid said (now (words .entry))) (now (refusals .entry)) ⌝ }
 {
     let named = asked(step);
-    let since = waiting[named.file % MAX_FILES];
     let told = seen.told;
+    let next = explain_step(
+        out,
+        at,
+        line,
+        fresh,
+        sizes,
+        step,
+        said,
+        words,
+        before,
+        table,
+        flags,
+        written,
+        writers,
+        waiting[named.file % MAX_FILES],
+        told,
+        seen.caching,
+    );
     let reply = reply_of(said, words);
     note_line(
         line,
@@ -162,22 +183,7 @@ pub fn tell_step(
         waiting,
     );
     count_refusal(reply, refusals);
-    explain_step(
-        out,
-        at,
-        line,
-        fresh,
-        sizes,
-        step,
-        said,
-        words,
-        row,
-        table,
-        flags,
-        since,
-        told,
-        seen.caching,
-    )
+    next
 }
 
 // The sizes after a setting, and the offset past its text.

@@ -7,6 +7,7 @@ ghost use Rattle.service.specs.Lent.{lentFlags};
 ghost use Rattle.ledger.specs.Ledger.{entered};
 ghost use Rattle.explaining.specs.Turn.{ExplainsTurn};
 use crate::lines::explain_lines;
+use ledger::NOTES;
 use ledger::REFUSAL_NUMBERS;
 use sentences::EXPLAINED_ROOM;
 use service::FLAGS;
@@ -47,8 +48,8 @@ pub fn explain_turn(
     copies: &mut [u64; MAX_CELLS],
     held: &mut [bool; MAX_CELLS],
     dirty: &mut [bool; MAX_CELLS],
-    written: &mut [u64; MAX_PLACES],
-    writers: &mut [u8; MAX_PLACES],
+    written: &mut [u64; NOTES],
+    writers: &mut [u8; NOTES],
     copied: &mut [u64; MAX_CELLS],
     waiting: &mut [u64; MAX_FILES],
     refusals: &mut [u64; REFUSAL_NUMBERS],

@@ -9,3 +9,5 @@ pub mod GrantedRow
 pub mod WaitingRow
 pub mod FlushedRow
 pub mod AnsweredRow
+pub mod ForgottenRow
+pub mod RestartStep

@@ -1,7 +1,8 @@
--- The steps on one file: an open, a close, a flush and an answer, at both sides. They look at the sizes in force z, at
--- whether the server recovers, at the file as both sides have it, and at its blocks and copies among all.
+-- The steps on one file: an open, a close, a flush and an answer, at both sides; and what a restart does to it. They look
+-- at the sizes in force z, at whether the server recovers, at the file as both sides have it, and at its blocks and
+-- copies among all.
 use Prim.Native.Nat.{ℕ}
-use mathlib.Core.Bool.{Bool, cond}
+use mathlib.Core.Bool.{Bool, false, cond}
 use mathlib.Core.List.{List}
 use lib.Dec.{eqb}
 use Rattle.records.specs.declared.record.Mode.{Mode}
@@ -13,9 +14,9 @@ use Rattle.protocol.specs.declared.shared.SharedFile.{SharedFile}
 use Rattle.protocol.specs.declared.step.Step.{Step}
 use Rattle.protocol.specs.Step.{FileAct, opens, closes, flushes, answers, nothing, fileAct}
 use Rattle.protocol.specs.Entry.{callTo, callsOut, callsFor, callsDue, waitingEntry, grantOf, grantedEntry}
-use Rattle.protocol.specs.Entry.{closedEntry, flushedEntry, answeredEntry}
+use Rattle.protocol.specs.Entry.{closedEntry, flushedEntry, answeredEntry, forgottenEntry}
 use Rattle.protocol.specs.Client.{sideOf, withSide, grantedClient, keepsBlocks, closedClient, flushedClient}
-use Rattle.protocol.specs.Client.{answeredClient}
+use Rattle.protocol.specs.Client.{answeredClient, noClient}
 use Rattle.protocol.specs.Reply.{noCalls}
 use Rattle.protocol.specs.Refusal.{Test, tested, openTests, closeTests, flushTests, answerTests}
 use Rattle.blocks.specs.Stores.{Stores, dirtyIn, anyDirty, sentBlocks, droppedUnless, answeredStores}
@@ -140,3 +141,18 @@ acted z recovering x a nothing = leaving x a Done
 -- a step that is on no one file leaves all as it came
 unfoldable pub fileStep : Sizes → Bool → SharedFile → Stores → Step → FileAfter
 fileStep z recovering x a y = acted z recovering x a (fileAct y)
+
+-- ---- restarting
+
+-- "Its counts, permissions, marks, copies and any waiting open of its own go at both ends" (document 02, Wish 8)
+abbrev pub forgotten : Sizes → ℕ → SharedFile → Stores → ℕ → FileAfter
+forgotten z f x a i =
+    leaving
+    (record { entry = forgottenEntry (z .clients) (x .entry) i; sides = withSide (x .sides) i noClient })
+    (droppedUnless (z .blocks) false i f a)
+    Done
+
+-- "Then a call on it counts as replied to with no blocks, which may grant opens of others": it answers, whether or not
+-- the server recovers. Without a call it is refused that, and nothing more changes.
+unfoldable pub afterRestart : Sizes → ℕ → SharedFile → Stores → ℕ → FileAfter
+afterRestart z f x a i = let o = forgotten z f x a i in acted z false (o .file) (o .stores) (answers i f)

@@ -13,6 +13,7 @@ use Rattle.service.specs.NothingBehind.{afterSteps}
 use Rattle.service.proofs.Owing.{Owed}
 use Rattle.service.proofs.NothingBehind.{fresh-owed}
 use Rattle.service.proofs.Reached.{Reached, reached-fresh, reached-after, promised-at, owed-after, behind-at}
+use Rattle.ledger.proofs.AllBooked.{all-booked}
 use Rattle.ledger.proofs.Provenance.{Agrees, agrees-after, line-told, fresh-agrees}
 use Rattle.history.specs.Past.{Past, noPast, pastAfter, pastAll}
 use Rattle.history.specs.Promises.{Kept}
@@ -35,7 +36,8 @@ module _ (z : Sizes) where
             record {
               read = read;
               end = end;
-              told = line-told (in-force-permitted z) s (p .memory) (p .ledger) (p .steps) x (h .agrees) read;
+              told = line-told (in-force-permitted z) s (p .memory) (p .ledger) (p .steps) x
+                  (all-booked z s (p .memory) (p .recovery) (h .reached)) (h .agrees) read;
             };
         nothingBehind = behind-at z s (p .memory) (p .recovery) (h .reached) (h .owed);
       }
@@ -47,7 +49,9 @@ module _ (z : Sizes) where
         record {
           reached = reached-after z s (p .memory) (p .recovery) (h .reached) x;
           owed = owed-after z s (p .memory) (p .recovery) (h .reached) (h .owed) x;
-          agrees = agrees-after (in-force-permitted z) s (p .memory) (p .ledger) (p .steps) n x some (h .agrees);
+          agrees =
+              agrees-after (in-force-permitted z) s (p .memory) (p .ledger) (p .steps) n x some
+              (all-booked z s (p .memory) (p .recovery) (h .reached)) (h .agrees);
         }
 
     pub steps-sound : (xs : List Step) (s : Service) (p : Past) → Sound s p → Sound (afterSteps s xs) (pastAll n s xs p)

@@ -71,6 +71,7 @@ module _ (z : Sizes) (n : ℕ) (some : 0 < n) (s : Service) (p : Past) (h : Soun
                 sizes = h .agrees .sizes;
                 ruled = crash .agrees .ruled;
                 names = crash .agrees .names;
+                losses = crash .agrees .losses;
                 memory = crash .agrees .memory;
                 copied = crash .agrees .copied;
                 waiting = crash .agrees .waiting;

@@ -20,6 +20,7 @@ use Rattle.decision.proofs.Storing.{length-stored, getD-stored}
 use Rattle.protocol.specs.declared.entry.Entry.{Entry}
 use Rattle.protocol.specs.declared.step.Step.the-variants.{Crash}
 use Rattle.protocol.specs.Entry.{crashedEntry}
+use Rattle.protocol.specs.Book.{History}
 use Rattle.protocol.specs.Table.{Row, seen}
 use Rattle.protocol.proofs.Invariant.{Running, Recovering}
 use Rattle.protocol.proofs.View.{View, crashedView}
@@ -183,7 +184,7 @@ module _
         (λ j. refl)
 
     pub moved-recovers :
-        (Recovering : View → ℕ → (ℕ → Bool) → Row → Type 0) (m : Memory) (t : List Row)
+        (Recovering : View → History → (ℕ → Bool) → Row → Type 0) (m : Memory) (t : List Row)
         → Recovers z Recovering crashedS m t
         → Recovers z Recovering moved m t
     moved-recovers Recovering m t h =

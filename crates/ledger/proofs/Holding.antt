@@ -7,18 +7,22 @@ use lib.Dec.{eqb}
 use lib.ListN.{getD, set}
 use Rattle.sizes.specs.declared.sizes.Sizes.{Sizes}
 use Rattle.sizes.specs.Sizes.{Permitted, cell, firstCell}
-use Rattle.decision.specs.Lists.{stored}
+use Rattle.decision.specs.Lists.{firstOf, stored}
 use Rattle.decision.specs.Callback.{invalidates}
 use Rattle.sizes.proofs.InForce.{client-fits, block-fits}
 use Rattle.protocol.specs.declared.step.Step.{Step}
 use Rattle.protocol.specs.declared.step.Step.the-variants.{Open, Close, Read, Write, Flush, Answer, Crash, Report, End}
+use Rattle.protocol.specs.declared.step.Step.the-variants.{Restart}
+use Rattle.protocol.specs.declared.shared.SharedFile.{SharedFile}
+use Rattle.protocol.specs.Refusal.{answerTests}
 use Rattle.protocol.specs.Client.{kept, keepsBlocks, sideOf}
 use Rattle.protocol.specs.Entry.{callTo, callsFor, callsOut, grantOf}
 use Rattle.blocks.specs.Stores.{Stores, heldIn, droppedUnless, answeredStores}
-use Rattle.file.specs.FileStep.{FileAfter, answered}
+use Rattle.file.specs.FileStep.{FileAfter, answered, afterAnswer, forgotten, afterRestart}
 use Rattle.service.specs.declared.service.Service.{Service}
 use Rattle.service.specs.declared.outcome.Outcome.{Outcome}
 use Rattle.service.specs.Contents.{sizesOf, entryAt, fileAt, storesOf, clientAt, heldAt}
+use Rattle.service.specs.Restart.{restartedBelow}
 use Rattle.service.specs.Demand3.{refused, after}
 use Rattle.service.proofs.Tests.{split, conflict, either}
 use Rattle.service.proofs.Contents.{cell-same}
@@ -75,6 +79,41 @@ module _
   answered-held kind j g a e =
       kept-held (z .blocks) (not (invalidates kind)) (firstCell j g) (a .held) (cell i f b) e
 
+  answer-held :
+      (x : SharedFile) (a : Stores) (j g : ℕ)
+      → heldIn (afterAnswer z x a j g .stores) i f b ≡ true
+      → heldIn a i f b ≡ true
+  answer-held x a j g =
+      let kind = callTo (z .clients) (x .entry) j in
+      let o : FileAfter = answered z g x a j kind in
+      let e = o .file .entry in
+      let opener = e .waiter in
+      let keep = keepsBlocks (e .mode) (grantOf (z .clients) e opener (e .mode)) (sideOf (o .file .sides) opener) in
+      either (λ (o : FileAfter). heldIn (o .stores) i f b ≡ true → heldIn a i f b ≡ true)
+      (eqb (callsOut (z .clients) e) 0)
+      (λ _ h. answered-held kind j g a (granted-held keep opener g (o .stores) h))
+      (λ _ h. answered-held kind j g a h)
+
+  -- what a restart leaves, file by file
+  restart-held :
+      (x : SharedFile) (a : Stores) (j g : ℕ)
+      → heldIn (afterRestart z g x a j .stores) i f b ≡ true
+      → heldIn a i f b ≡ true
+  unfolding afterRestart
+  restart-held x a j g =
+      let o : FileAfter = forgotten z g x a j in
+      either (λ (o : FileAfter). heldIn (o .stores) i f b ≡ true → heldIn a i f b ≡ true)
+      (eqb (firstOf (answerTests z false (o .file .entry) j g)) 0)
+      (λ _ h. granted-held false j g a (answer-held (o .file) (o .stores) j g h))
+      (λ _ h. granted-held false j g a h)
+
+  restarted-held : (j k : ℕ) → heldAt (restartedBelow z j k s) i f b ≡ true → heldAt s i f b ≡ true
+  unfolding restartedBelow
+  restarted-held j zero h = h
+  restarted-held j (suc k) h =
+      let t = restartedBelow z j k s in
+      restarted-held j k (restart-held (fileAt t k) (storesOf t) j k h)
+
   -- a step that stores the flag of one copy, if a test holds
   put-held :
       (j g c : ℕ) (put : Bool)
@@ -110,20 +149,11 @@ module _
   done-held (Write j g c v) a miss =
       put-held j g c (clientAt s j g .opens .caching) (names-there most s size (Write j g c v) a) (rw a at miss)
   done-held (Flush j g c) a miss = λ h. h
-  done-held (Answer j g) a miss =
-      let x = fileAt s g in
-      let kind = callTo (z .clients) (x .entry) j in
-      let o : FileAfter = answered z g x (storesOf s) j kind in
-      let e = o .file .entry in
-      let opener = e .waiter in
-      let keep = keepsBlocks (e .mode) (grantOf (z .clients) e opener (e .mode)) (sideOf (o .file .sides) opener) in
-      either (λ (o : FileAfter). heldIn (o .stores) i f b ≡ true → heldAt s i f b ≡ true)
-      (eqb (callsOut (z .clients) e) 0)
-      (λ _ h. answered-held kind j g (storesOf s) (granted-held keep opener g (o .stores) h))
-      (λ _ h. answered-held kind j g (storesOf s) h)
+  done-held (Answer j g) a miss = answer-held (fileAt s g) (storesOf s) j g
   done-held Crash a miss = λ h. h
   done-held (Report j) a miss = λ h. h
   done-held End a miss = λ h. h
+  done-held (Restart j) a miss = restarted-held j (z .files)
 
   pub held-before :
       (x : Step) → copies i f b s x ≡ false → heldAt (after s x) i f b ≡ true → heldAt s i f b ≡ true

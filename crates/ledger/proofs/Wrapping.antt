@@ -10,6 +10,7 @@ use Rattle.sizes.proofs.InForce.{in-force-permitted, client-fits, file-fits, bl
 use Rattle.protocol.specs.declared.reply.Reply.{Reply}
 use Rattle.protocol.specs.declared.step.Step.{Step}
 use Rattle.protocol.specs.declared.step.Step.the-variants.{Open, Close, Read, Write, Flush, Answer, Crash, Report, End}
+use Rattle.protocol.specs.declared.step.Step.the-variants.{Restart}
 use Rattle.protocol.specs.Reply.{isRefused}
 use Rattle.protocol.specs.Step.{clientOf, fileOf, blockOf, renamed}
 use Rattle.service.specs.declared.service.Service.{Service}
@@ -34,11 +35,12 @@ refused-noted n (Open m i f) reply caching held l e =
 refused-noted n (Close m i f) reply caching held l e = refl
 refused-noted n (Read i f b) reply caching held l e = rw e
 refused-noted n (Write i f b v) reply caching held l e = rw e
-refused-noted n (Flush i f b) reply caching held l e = refl
-refused-noted n (Answer i f) reply caching held l e = refl
+refused-noted n (Flush i f b) reply caching held l e = rw e
+refused-noted n (Answer i f) reply caching held l e = rw e
 refused-noted n Crash reply caching held l e = refl
 refused-noted n (Report i) reply caching held l e = refl
 refused-noted n End reply caching held l e = refl
+refused-noted n (Restart i) reply caching held l e = rw e
 
 renamed-same :
     (client file block : ℕ → ℕ) (x : Step)
@@ -55,6 +57,7 @@ renamed-same client file block (Answer i f) ci cf cb = rw (ci, cf)
 renamed-same client file block Crash ci cf cb = refl
 renamed-same client file block (Report i) ci cf cb = rw ci
 renamed-same client file block End ci cf cb = refl
+renamed-same client file block (Restart i) ci cf cb = rw ci
 
 module _ (s : Service) (x : Step) where
   -- an accepted step: the wrapped numbers are its own

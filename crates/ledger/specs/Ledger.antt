@@ -1,15 +1,17 @@
--- The ledger: which line wrote each block, at which line each copy came to its client, and since which line an open
+-- The ledger: which lines wrote each block, at which line each copy came to its client, and since which line an open
 -- waits. Lines have numbers from 1; 0 stands for none. The places are those of the blocks and of the copies.
-use Prim.Native.Nat.{ℕ}
+use Prim.Native.Nat.{ℕ, zero, suc, _+_, _*_}
 use mathlib.Core.Bool.{Bool, true, false, cond, not, _&&_}
 use mathlib.Core.List.{List}
+use lib.Dec.{eqb}
 use lib.ListN.{getD, set, replicate}
-use Rattle.sizes.specs.Sizes.{maxFiles, maxPlaces, maxCells, place, cell}
+use Rattle.sizes.specs.Sizes.{maxFiles, maxBlocks, maxPlaces, maxCells, place, cell}
 use Rattle.protocol.specs.declared.reply.Reply.{Reply}
 use Rattle.protocol.specs.declared.reply.Reply.the-variants.{Granted, Waiting, Value, Refused, Answered}
 use Rattle.protocol.specs.declared.reply.Reply.the-variants.{AnsweredGrant, Done}
 use Rattle.protocol.specs.declared.step.Step.{Step}
 use Rattle.protocol.specs.declared.step.Step.the-variants.{Open, Close, Read, Write, Flush, Answer, Crash, Report, End}
+use Rattle.protocol.specs.declared.step.Step.the-variants.{Restart}
 use Rattle.protocol.specs.Reply.{isRefused}
 use Rattle.protocol.specs.Step.{clientOf, fileOf, blockOf}
 use Rattle.blocks.specs.Stores.{Stores, heldIn, dirtyIn}
@@ -17,6 +19,7 @@ use Rattle.service.specs.declared.service.Service.{Service}
 use Rattle.service.specs.Contents.{clientAt, storesOf}
 use Rattle.service.specs.Step.{stepOf}
 use Rattle.ledger.specs.declared.ledger.Ledger.{Ledger}
+use Rattle.ledger.specs.declared.lines.Lines.{Lines}
 use Rattle.ledger.specs.declared.told.Told.{Told}
 
 -- the lent arrays, together
@@ -24,16 +27,29 @@ abbrev pub entered : List ℕ → List ℕ → List ℕ → List ℕ → Ledger
 entered written writers copied waiting =
     record { written = written; writers = writers; copied = copied; waiting = waiting }
 
+-- three writes are noted of each block: the latest that is safe, the latest that is at risk, and the latest if it was
+-- lost
+abbrev pub notes : ℕ
+notes = 3 * maxPlaces
+
 -- nothing is noted yet
 unfoldable pub emptyLedger : Ledger
-emptyLedger = entered (replicate maxPlaces 0) (replicate maxPlaces 0) (replicate maxCells 0) (replicate maxFiles 0)
+emptyLedger = entered (replicate notes 0) (replicate notes 0) (replicate maxCells 0) (replicate maxFiles 0)
 
--- what stands in it
-abbrev pub writtenAt : Ledger → ℕ → ℕ → ℕ
-writtenAt l f b = getD (l .written) (place f b) 0
+-- what stands in it: the lines and the clients of the writes to the block at place p, and to block b of file f
+abbrev pub linesIn : Ledger → ℕ → Lines
+linesIn l p =
+    record {
+      safe = getD (l .written) p 0;
+      saver = getD (l .writers) p 0;
+      risk = getD (l .written) (maxPlaces + p) 0;
+      risker = getD (l .writers) (maxPlaces + p) 0;
+      lost = getD (l .written) (2 * maxPlaces + p) 0;
+      loser = getD (l .writers) (2 * maxPlaces + p) 0;
+    }
 
-abbrev pub writerAt : Ledger → ℕ → ℕ → ℕ
-writerAt l f b = getD (l .writers) (place f b) 0
+abbrev pub linesAt : Ledger → ℕ → ℕ → Lines
+linesAt l f b = linesIn l (place f b)
 
 abbrev pub copiedAt : Ledger → ℕ → ℕ → ℕ → ℕ
 copiedAt l i f b = getD (l .copied) (cell i f b) 0
@@ -43,7 +59,7 @@ waitingSince l f = getD (l .waiting) f 0
 
 -- ---- what a line makes of it
 
--- line n is noted, if the test holds: at a file, at a copy, or at a block, with the client that wrote it
+-- line n is noted, if the test holds: at a file, or at a copy
 abbrev pub waitNoted : Bool → ℕ → ℕ → Ledger → Ledger
 waitNoted test n f l =
     entered (l .written) (l .writers) (l .copied) (cond test (set (l .waiting) f n) (l .waiting))
@@ -52,13 +68,56 @@ abbrev pub copyNoted : Bool → ℕ → ℕ → ℕ → ℕ → Ledger → Ledge
 copyNoted test n i f b l =
     entered (l .written) (l .writers) (cond test (set (l .copied) (cell i f b) n) (l .copied)) (l .waiting)
 
-abbrev pub writeNoted : Bool → ℕ → ℕ → ℕ → ℕ → Ledger → Ledger
-writeNoted test n i f b l =
+-- the ledger with other lines of the block at place p
+abbrev pub withLines : ℕ → Lines → Ledger → Ledger
+withLines p x l =
     entered
-    (cond test (set (l .written) (place f b) n) (l .written))
-    (cond test (set (l .writers) (place f b) i) (l .writers))
+    (set (set (set (l .written) p (x .safe)) (maxPlaces + p) (x .risk)) (2 * maxPlaces + p) (x .lost))
+    (set (set (set (l .writers) p (x .saver)) (maxPlaces + p) (x .risker)) (2 * maxPlaces + p) (x .loser))
     (l .copied)
     (l .waiting)
+
+-- line n of client i writes the block: a delayed write is at risk, one that is sent at once is safe
+abbrev pub wroteLines : ℕ → ℕ → Bool → Lines → Lines
+wroteLines n i true x =
+    record { safe = x .safe; saver = x .saver; risk = n; risker = i; lost = 0; loser = 0 }
+wroteLines n i false x = record { safe = n; saver = i; risk = 0; risker = 0; lost = 0; loser = 0 }
+
+abbrev pub writeNoted : ℕ → ℕ → ℕ → Bool → Ledger → Ledger
+writeNoted n i p delayed l = withLines p (wroteLines n i delayed (linesIn l p)) l
+
+-- whether a write of client i is at risk
+abbrev pub risksIn : ℕ → Lines → Bool
+risksIn i x = not (eqb (x .risk) 0) && eqb (x .risker) i
+
+-- what client i had at risk has come to the server, or is lost
+abbrev pub cameLines : ℕ → Lines → Lines
+cameLines i x =
+    cond (risksIn i x)
+    (record { safe = x .risk; saver = x .risker; risk = 0; risker = 0; lost = x .lost; loser = x .loser })
+    x
+
+abbrev pub lostLines : ℕ → Lines → Lines
+lostLines i x =
+    cond (risksIn i x)
+    (record { safe = x .safe; saver = x .saver; risk = 0; risker = 0; lost = x .risk; loser = x .risker })
+    x
+
+-- at place p
+abbrev pub cameAt : ℕ → ℕ → Ledger → Ledger
+cameAt i p l = withLines p (cameLines i (linesIn l p)) l
+
+abbrev pub lostAt : ℕ → ℕ → Ledger → Ledger
+lostAt i p l = withLines p (lostLines i (linesIn l p)) l
+
+-- at k places from p on, and at all below k
+unfoldable pub cameFrom : ℕ → ℕ → ℕ → Ledger → Ledger
+cameFrom i p zero l = l
+cameFrom i p (suc k) l = cameAt i (p + k) (cameFrom i p k l)
+
+unfoldable pub lostBelow : ℕ → ℕ → Ledger → Ledger
+lostBelow i zero l = l
+lostBelow i (suc k) l = lostAt i k (lostBelow i k l)
 
 abbrev pub isWaiting : Reply → Bool
 isWaiting (Granted g) = false
@@ -78,19 +137,23 @@ abbrev pub writesCopy : Bool → Reply → Bool
 writesCopy caching reply = not (isRefused reply) && caching
 
 -- Line n gave the step, and the step the reply: an open that waits is noted; a read that fetches is noted at the
--- copy; an accepted write at the block, with its client, and at the copy if it is written there. `caching` and `held`
--- say of the client that reads or writes whether it could cache, and held the block, before the step.
+-- copy; an accepted write at the block, with its client, and at the copy if it is written there. An accepted flush and
+-- an accepted answer bring what the client had at risk to the server, at the block and on the file. At a restart that
+-- is lost, everywhere. `caching` and `held` say of the client that reads or writes whether it could cache, and held the
+-- block, before the step.
 abbrev pub noted : ℕ → Step → Reply → Bool → Bool → Ledger → Ledger
 noted n (Open m i f) reply caching held l = waitNoted (isWaiting reply) n f l
 noted n (Close m i f) reply caching held l = l
 noted n (Read i f b) reply caching held l = copyNoted (fetches caching held reply) n i f b l
 noted n (Write i f b v) reply caching held l =
-    copyNoted (writesCopy caching reply) n i f b (writeNoted (not (isRefused reply)) n i f b l)
-noted n (Flush i f b) reply caching held l = l
-noted n (Answer i f) reply caching held l = l
+    copyNoted (writesCopy caching reply) n i f b
+    (cond (isRefused reply) l (writeNoted n i (place f b) caching l))
+noted n (Flush i f b) reply caching held l = cond (isRefused reply) l (cameFrom i (place f b) 1 l)
+noted n (Answer i f) reply caching held l = cond (isRefused reply) l (cameFrom i (place f 0) maxBlocks l)
 noted n Crash reply caching held l = l
 noted n (Report i) reply caching held l = l
 noted n End reply caching held l = l
+noted n (Restart i) reply caching held l = cond (isRefused reply) l (lostBelow i maxPlaces l)
 
 -- whether the client that the step names may cache the file that it names, and holds the block
 abbrev pub mayCache : Service → Step → Bool
@@ -105,6 +168,10 @@ ledgerAfter n s x l = noted n x (stepOf s x .reply) (mayCache s x) (holdsBlock s
 
 -- ---- what it tells of a read
 
+-- "the latest write not lost": the line and the client of the one at risk, else of the safe one
+abbrev pub latestIn : Lines → ℕ × ℕ
+latestIn x = cond (eqb (x .risk) 0) (x .safe, x .saver) (x .risk, x .risker)
+
 -- The copy is taken where `valueRead` takes it (crates/blocks/specs/Stores.antt): "a station that may cache gives the
 -- held block".
 abbrev pub toldOf : Bool → Stores → Ledger → ℕ → ℕ → ℕ → Told
@@ -113,8 +180,10 @@ toldOf caching a l i f b =
       own = caching && heldIn a i f b;
       dirty = dirtyIn a i f b;
       since = copiedAt l i f b;
-      line = writtenAt l f b;
-      client = writerAt l f b;
+      line = latestIn (linesAt l f b) .0;
+      client = latestIn (linesAt l f b) .1;
+      lost = linesAt l f b .lost;
+      loser = linesAt l f b .loser;
     }
 
 -- what is told of a read by client i of block b of file f, before the read

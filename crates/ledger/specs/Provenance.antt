@@ -1,5 +1,6 @@
 -- What is promised of an accepted read, wherever it comes: the line that is named is that of the latest accepted write
--- to the file and block, with its client, and its value is the value read; the copy is told where the read takes it.
+-- to the file and block that is not lost, with its client, and its value is the value read; the copy is told where the
+-- read takes it. And of a restart: the writes that are told as lost are those of its dirty blocks.
 -- Crate history promises it in every history.
 use Prim.Native.Nat.{ℕ, _<_}
 use mathlib.Core.Path.{_≡_}
@@ -10,13 +11,15 @@ use Rattle.protocol.specs.declared.reply.Reply.{Reply}
 use Rattle.protocol.specs.declared.reply.Reply.the-variants.{Value}
 use Rattle.protocol.specs.declared.step.Step.{Step}
 use Rattle.protocol.specs.declared.step.Step.the-variants.{Open, Close, Read, Write, Flush, Answer, Crash, Report, End}
+use Rattle.protocol.specs.declared.step.Step.the-variants.{Restart}
+use Rattle.protocol.specs.Book.{HistoryOf, wrote, came, lost, riskedBy, Named, none, by, firstOf}
 use Rattle.service.specs.declared.service.Service.{Service}
-use Rattle.service.specs.Contents.{sizesOf, blockAt, clientAt, copyAt, heldAt}
+use Rattle.service.specs.Contents.{sizesOf, blockAt, clientAt, copyAt, heldAt, dirtyAt}
 use Rattle.service.specs.Step.{stepOf}
-use Rattle.service.specs.Demand3.{refused}
+use Rattle.service.specs.Demand3.{refused, delays}
 use Rattle.ledger.specs.declared.told.Told.{Told}
 use Rattle.ledger.specs.declared.ledger.Ledger.{Ledger}
-use Rattle.ledger.specs.Ledger.{waitingSince, isWaiting, fetches, writesCopy, readTold}
+use Rattle.ledger.specs.Ledger.{waitingSince, isWaiting, fetches, writesCopy, linesAt, risksIn, readTold}
 
 -- ---- the past
 
@@ -26,34 +29,52 @@ pub record Event : Type 0 where
   pub step : Step
   pub before : Service
 
--- an accepted write, and the latest of them to one block: there is none yet, or this one
-pub record Written : Type 0 where
+-- what a line wrote
+pub record Noted : Type 0 where
   pub line : ℕ
-  pub client : ℕ
   pub value : ℕ
 
-pub data Origin : Type 0 where
-  never : Origin
-  by : Written → Origin
+-- The accepted writes to block b of file f that are not lost, the newest first, after line n has given the step to the
+-- service s; `earlier` were they before. They are those of the reference memory, with their lines.
+abbrev pub historyAfter : ℕ → ℕ → ℕ → Service → Step → Bool → HistoryOf Noted → HistoryOf Noted
+historyAfter f b n s (Open m i f′) refusal earlier = earlier
+historyAfter f b n s (Close m i f′) refusal earlier = earlier
+historyAfter f b n s (Read i f′ b′) refusal earlier = earlier
+historyAfter f b n s (Write i f′ b′ v) refusal earlier =
+    cond (eqb f f′ && eqb b b′ && not refusal)
+    (wrote i (record { line = n; value = v }) (delays s i f′) earlier)
+    earlier
+historyAfter f b n s (Flush i f′ b′) refusal earlier =
+    cond (eqb f f′ && eqb b b′ && not refusal) (came i earlier) earlier
+historyAfter f b n s (Answer i f′) refusal earlier = cond (eqb f f′ && not refusal) (came i earlier) earlier
+historyAfter f b n s Crash refusal earlier = earlier
+historyAfter f b n s (Report i) refusal earlier = earlier
+historyAfter f b n s End refusal earlier = earlier
+historyAfter f b n s (Restart i) refusal earlier = cond refusal earlier (lost i earlier)
 
--- the latest accepted write to block b of file f, after line n has given the step; `earlier` was it before
-abbrev pub originAfter : ℕ → ℕ → ℕ → Step → Bool → Origin → Origin
-originAfter f b n (Open m i f′) refusal earlier = earlier
-originAfter f b n (Close m i f′) refusal earlier = earlier
-originAfter f b n (Read i f′ b′) refusal earlier = earlier
-originAfter f b n (Write i f′ b′ v) refusal earlier =
-    cond (eqb f f′ && eqb b b′ && not refusal) (by (record { line = n; client = i; value = v })) earlier
-originAfter f b n (Flush i f′ b′) refusal earlier = earlier
-originAfter f b n (Answer i f′) refusal earlier = earlier
-originAfter f b n Crash refusal earlier = earlier
-originAfter f b n (Report i) refusal earlier = earlier
-originAfter f b n End refusal earlier = earlier
+-- in the past, whose latest event comes first
+unfoldable pub historyIn : ℕ → ℕ → List Event → HistoryOf Noted
+historyIn f b [] = []
+historyIn f b (e ∷ past) =
+    historyAfter f b (e .line) (e .before) (e .step) (refused (e .before) (e .step)) (historyIn f b past)
 
--- the latest accepted write to block b of file f in the past, whose latest event comes first
-unfoldable pub latestWrite : ℕ → ℕ → List Event → Origin
-latestWrite f b [] = never
-latestWrite f b (e ∷ past) =
-    originAfter f b (e .line) (e .step) (refused (e .before) (e .step)) (latestWrite f b past)
+-- The latest accepted write to the block, where it is lost: a restart of its client took it while it was at risk, and
+-- none was accepted since. k are the writes that are not lost, before the step.
+abbrev pub lossAfter : ℕ → ℕ → Step → Bool → HistoryOf Noted → Named Noted → Named Noted
+lossAfter f b (Open m i f′) refusal k earlier = earlier
+lossAfter f b (Close m i f′) refusal k earlier = earlier
+lossAfter f b (Read i f′ b′) refusal k earlier = earlier
+lossAfter f b (Write i f′ b′ v) refusal k earlier = cond (eqb f f′ && eqb b b′ && not refusal) none earlier
+lossAfter f b (Flush i f′ b′) refusal k earlier = earlier
+lossAfter f b (Answer i f′) refusal k earlier = earlier
+lossAfter f b Crash refusal k earlier = earlier
+lossAfter f b (Report i) refusal k earlier = earlier
+lossAfter f b End refusal k earlier = earlier
+lossAfter f b (Restart i) refusal k earlier = cond (not refusal && riskedBy i k) (firstOf k) earlier
+
+unfoldable pub lossIn : ℕ → ℕ → List Event → Named Noted
+lossIn f b [] = none
+lossIn f b (e ∷ past) = lossAfter f b (e .step) (refused (e .before) (e .step)) (historyIn f b past) (lossIn f b past)
 
 -- the line of the latest event that the test finds, 0 if it finds none
 unfoldable pub latestLine : (Service → Step → Bool) → List Event → ℕ
@@ -75,6 +96,7 @@ copies i f b s (Answer i′ f′) = false
 copies i f b s Crash = false
 copies i f b s (Report i′) = false
 copies i f b s End = false
+copies i f b s (Restart i′) = false
 
 -- the step is an open of file f that has to wait
 abbrev pub beginsWait : ℕ → Service → Step → Bool
@@ -87,18 +109,25 @@ beginsWait f s (Answer i f′) = false
 beginsWait f s Crash = false
 beginsWait f s (Report i) = false
 beginsWait f s End = false
+beginsWait f s (Restart i) = false
 
 -- ---- what is promised of each line
 
--- "the named line is the latest accepted write to that file and block before this line, its station and value are
--- those of that line"; "never written" (line 0) where there is none, and then the value is 0
-abbrev pub NamesWrite : Told → Reply → Origin → Type 0
-NamesWrite t reply never = (t .line ≡ 0) × (reply ≡ Value 0)
-NamesWrite t reply (by w) =
-    (0 < w .line) × (t .line ≡ w .line) × (t .client ≡ w .client) × (reply ≡ Value (w .value))
+-- the named line, its client and its value are those of the latest write not lost; where there is none no line is
+-- named, and the value is 0
+abbrev pub NamesWrite : Told → Reply → HistoryOf Noted → Type 0
+NamesWrite t reply [] = (t .line ≡ 0) × (reply ≡ Value 0)
+NamesWrite t reply (w ∷ ws) =
+    (0 < w .value .line) × (t .line ≡ w .value .line) × (t .client ≡ w .client) × (reply ≡ Value (w .value .value))
+
+-- a loss is told where the latest accepted write is lost, with the line and the client of that write
+abbrev pub NamesLoss : Told → Named Noted → Type 0
+NamesLoss t none = t .lost ≡ 0
+NamesLoss t (by i w) = (0 < w .line) × (t .lost ≡ w .line) × (t .loser ≡ i)
 
 pub record ReadIsTold (s : Service) (l : Ledger) (past : List Event) (i f b : ℕ) : Type 0 where
-  pub origin : NamesWrite (readTold s l i f b) (stepOf s (Read i f b) .reply) (latestWrite f b past)
+  pub origin : NamesWrite (readTold s l i f b) (stepOf s (Read i f b) .reply) (historyIn f b past)
+  pub loss : NamesLoss (readTold s l i f b) (lossIn f b past)
   -- "own copy" is said exactly when the read takes the copy
   pub copy : readTold s l i f b .own ≡ (clientAt s i f .opens .caching && heldAt s i f b)
   pub source :
@@ -107,7 +136,21 @@ pub record ReadIsTold (s : Service) (l : Ledger) (past : List Event) (i f b : �
   pub since : readTold s l i f b .since ≡ latestLine (copies i f b) past
   pub some : readTold s l i f b .own ≡ true → 0 < readTold s l i f b .since
 
--- where a step is to be explained: reads, and since when an open of a file waits
+-- what is told of the writes that a restart of client i loses: those of its dirty blocks, each with its latest line
+pub record RestartIsTold (s : Service) (l : Ledger) (past : List Event) (i f b : ℕ) : Type 0 where
+  pub dirty : risksIn i (linesAt l f b) ≡ dirtyAt s i f b
+  pub line :
+      dirtyAt s i f b ≡ true
+      → (w : Noted) × (firstOf (historyIn f b past) ≡ by i w) × (linesAt l f b .risk ≡ w .line)
+
+-- where a step is to be explained: reads, restarts, and since when an open of a file waits
 pub record LineIsTold (s : Service) (l : Ledger) (past : List Event) (x : Step) : Type 0 where
   pub reads : (i f b : ℕ) → x ≡ Read i f b → refused s x ≡ false → ReadIsTold s l past i f b
+  pub restarts :
+      (i f b : ℕ)
+      → x ≡ Restart i
+      → refused s x ≡ false
+      → f < sizesOf s .files
+      → b < sizesOf s .blocks
+      → RestartIsTold s l past i f b
   pub waits : (f : ℕ) → f < sizesOf s .files → waitingSince l f ≡ latestLine (beginsWait f) past

@@ -1,15 +1,15 @@
 // The ledger as a value, in arrays of the largest sizes.
 ghost use mathlib.Core.Path.{_≡_};
 ghost use Rattle.ledger.specs.Ledger.{emptyLedger};
+use crate::lines::NOTES;
 use sizes::MAX_CELLS;
 use sizes::MAX_FILES;
-use sizes::MAX_PLACES;
 
 // Lines have numbers from 1; 0 stands for none.
 pub struct Ledger {
-    // Of each block: the line of the latest accepted write to it, and its client.
-    pub written: [u64; MAX_PLACES],
-    pub writers: [u8; MAX_PLACES],
+    // Of each block: the lines of the writes to it that `Lines` has, and their clients.
+    pub written: [u64; NOTES],
+    pub writers: [u8; NOTES],
     // Of each copy: the line at which it was fetched, or written there.
     pub copied: [u64; MAX_CELLS],
     // Of each file: the line at which the latest open that waits, or waited, began to wait.
@@ -22,8 +22,8 @@ impl Ledger {
         ensures { λ r. ⌜ r ≡ emptyLedger ⌝ }
     {
         Ledger {
-            written: [0; MAX_PLACES],
-            writers: [0; MAX_PLACES],
+            written: [0; NOTES],
+            writers: [0; NOTES],
             copied: [0; MAX_CELLS],
             waiting: [0; MAX_FILES],
         }

@@ -1,16 +1,23 @@
 // Lines noted in the ledger.
 ghost use mathlib.Core.Path.{_≡_};
 ghost use mathlib.Core.Bool.{cond};
-ghost use Prim.Native.Nat.{_%_};
+ghost use mathlib.Core.List.{[]};
+ghost use Prim.Native.Nat.{_+_, _%_, _≤_};
 ghost use lib.ListN.{set};
-ghost use Rattle.sizes.specs.Sizes.{maxClients, maxFiles, maxBlocks, place, cell};
+ghost use Rattle.sizes.specs.Sizes.{maxClients, maxFiles, maxBlocks, maxPlaces, cell};
 ghost use Rattle.protocol.specs.Reply.{isRefused};
-ghost use Rattle.ledger.specs.Ledger.{entered, isWaiting, noted};
+ghost use Rattle.ledger.specs.Ledger.{entered, isWaiting, writeNoted, cameAt, cameFrom, lostAt, lostBelow};
+ghost use Rattle.ledger.specs.Ledger.{noted};
 ghost use Rattle.ledger.specs.Wrapped.{wrappedStep};
+use crate::lines::NOTES;
+use crate::lines::lines_in;
+use crate::lines::put_lines;
 use blocks::cell_of;
+use blocks::first_place;
 use blocks::place_of;
 use protocol::Reply;
 use protocol::Step;
+use sizes::MAX_BLOCKS;
 use sizes::MAX_CELLS;
 use sizes::MAX_CLIENTS;
 use sizes::MAX_FILES;
@@ -24,8 +31,8 @@ pub fn note_line(
     reply: Reply,
     caching: bool,
     held: bool,
-    written: &mut [u64; MAX_PLACES],
-    writers: &mut [u8; MAX_PLACES],
+    written: &mut [u64; NOTES],
+    writers: &mut [u8; NOTES],
     copied: &mut [u64; MAX_CELLS],
     waiting: &mut [u64; MAX_FILES],
 )
@@ -56,8 +63,26 @@ pub fn note_line(
             value: _,
         } => {
             let accepted = !is_refused(reply);
-            note_write(accepted, line, client, file, block, written, writers);
+            let at = place_of(file, block);
+            note_write(accepted, line, client, at, caching, written, writers);
             note_copy(accepted & caching, line, client, file, block, copied);
+        }
+        Step::Flush {
+            client,
+            file,
+            block,
+        } => {
+            let sent = !is_refused(reply);
+            let at = place_of(file, block);
+            note_came(sent, client, at, 1, written, writers);
+        }
+        Step::Answer { client, file } => {
+            let answered = !is_refused(reply);
+            let first = first_place(file);
+            note_came(answered, client, first, MAX_BLOCKS, written, writers);
+        }
+        Step::Restart { client } => {
+            note_lost(!is_refused(reply), client, written, writers);
         }
         _ => {}
     }
@@ -91,7 +116,7 @@ fn is_refused(reply: Reply) -> bool
     }
 }
 
-// The line is noted, if the test holds: at the file, at the client's copy of the block, or at the block.
+// The line is noted, if the test holds: at the file, or at the client's copy of the block.
 fn note_wait(test: bool, line: u64, file: usize, waiting: &mut [u64; MAX_FILES])
     ensures { λ _. ⌜ now (waiting .exit)
         ≡ cond test (set (now (waiting .entry)) (file % maxFiles) line) (now (waiting .entry)) ⌝ }
@@ -119,25 +144,89 @@ fn note_copy(
     }
 }
 
+// The client's write to the block at the place, which is wrapped, is noted, if the test holds.
 fn note_write(
     test: bool,
     line: u64,
     client: usize,
-    file: usize,
-    block: usize,
-    written: &mut [u64; MAX_PLACES],
-    writers: &mut [u8; MAX_PLACES],
+    at: usize,
+    delayed: bool,
+    written: &mut [u64; NOTES],
+    writers: &mut [u8; NOTES],
 )
-    ensures { λ _. ⌜ now (written .exit)
-        ≡ cond test (set (now (written .entry)) (place (file % maxFiles) (block % maxBlocks)) line)
-        (now (written .entry)) ⌝ }
-    ensures { λ _. ⌜ now (writers .exit)
-        ≡ cond test (set (now (writers .entry)) (place (file % maxFiles) (block % maxBlocks)) (client % maxClients))
-        (now (writers .entry)) ⌝ }
+    ensures { λ _. ⌜ entered (now (written .exit)) (now (writers .exit)) [] []
+        ≡ cond test
+        (writeNoted line (client % maxClients) (at % maxPlaces) delayed
+        (entered (now (written .entry)) (now (writers .entry)) [] []))
+        (entered (now (written .entry)) (now (writers .entry)) [] []) ⌝ }
 {
     if test {
-        let at = place_of(file, block);
-        written[at] = line;
-        writers[at] = (client % MAX_CLIENTS) as u8;
+        let lines = lines_in(written, writers, at);
+        put_lines(
+            lines.wrote(line, (client % MAX_CLIENTS) as u8, delayed),
+            at,
+            written,
+            writers,
+        );
     }
+}
+
+// What the client had at risk has come to the server, if the test holds, at so many places from the first on.
+fn note_came(
+    test: bool,
+    client: usize,
+    first: usize,
+    count: usize,
+    written: &mut [u64; NOTES],
+    writers: &mut [u8; NOTES],
+)
+    requires { ⌜ first + count ≤ maxPlaces ⌝ }
+    ensures { λ _. ⌜ entered (now (written .exit)) (now (writers .exit)) [] []
+        ≡ cond test
+        (cameFrom (client % maxClients) first count (entered (now (written .entry)) (now (writers .entry)) [] []))
+        (entered (now (written .entry)) (now (writers .entry)) [] []) ⌝ }
+{
+    if !test {
+        return;
+    }
+    let by = (client % MAX_CLIENTS) as u8;
+    let mut k = 0;
+    while k < count {
+        note_came_at(by, first + k, written, writers);
+        k += 1;
+    }
+}
+
+fn note_came_at(client: u8, at: usize, written: &mut [u64; NOTES], writers: &mut [u8; NOTES])
+    ensures { λ _. ⌜ entered (now (written .exit)) (now (writers .exit)) [] []
+        ≡ cameAt client (at % maxPlaces) (entered (now (written .entry)) (now (writers .entry)) [] []) ⌝ }
+{
+    let lines = lines_in(written, writers, at);
+    put_lines(lines.came(client), at, written, writers);
+}
+
+// What the client had at risk is lost, if the test holds, at every place.
+fn note_lost(test: bool, client: usize, written: &mut [u64; NOTES], writers: &mut [u8; NOTES])
+    ensures { λ _. ⌜ entered (now (written .exit)) (now (writers .exit)) [] []
+        ≡ cond test
+        (lostBelow (client % maxClients) maxPlaces (entered (now (written .entry)) (now (writers .entry)) [] []))
+        (entered (now (written .entry)) (now (writers .entry)) [] []) ⌝ }
+{
+    if !test {
+        return;
+    }
+    let by = (client % MAX_CLIENTS) as u8;
+    let mut k = 0;
+    while k < MAX_PLACES {
+        note_lost_at(by, k, written, writers);
+        k += 1;
+    }
+}
+
+fn note_lost_at(client: u8, at: usize, written: &mut [u64; NOTES], writers: &mut [u8; NOTES])
+    ensures { λ _. ⌜ entered (now (written .exit)) (now (writers .exit)) [] []
+        ≡ lostAt client (at % maxPlaces) (entered (now (written .entry)) (now (writers .entry)) [] []) ⌝ }
+{
+    let lines = lines_in(written, writers, at);
+    put_lines(lines.lost(client), at, written, writers);
 }

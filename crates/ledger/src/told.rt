@@ -5,10 +5,11 @@ ghost use Prim.Native.Nat.{_%_};
 ghost use Rattle.sizes.specs.Sizes.{maxClients, maxFiles, maxBlocks};
 ghost use Rattle.blocks.specs.Stores.{lent};
 ghost use Rattle.ledger.specs.Ledger.{entered, toldOf};
+use crate::lines::NOTES;
+use crate::lines::lines_in;
 use blocks::cell_of;
 use blocks::place_of;
 use sizes::MAX_CELLS;
-use sizes::MAX_PLACES;
 
 pub struct Told {
     // From the client's own copy; else from the server.
@@ -17,9 +18,12 @@ pub struct Told {
     pub dirty: bool,
     // The line at which the copy was fetched, or written there.
     pub since: u64,
-    // The line that wrote the value, 0 if none did, and the client that wrote it.
+    // The line of the latest write that is not lost, 0 if there is none, and its client.
     pub line: u64,
     pub client: u8,
+    // The line of the latest write, if that is lost, else 0, and its client.
+    pub lost: u64,
+    pub loser: u8,
 }
 
 // What is told of a read by a client that may cache or not, before the read. The numbers are wrapped.
@@ -30,8 +34,8 @@ pub fn read_told(
     block: usize,
     held: &[bool; MAX_CELLS],
     dirty: &[bool; MAX_CELLS],
-    written: &[u64; MAX_PLACES],
-    writers: &[u8; MAX_PLACES],
+    written: &[u64; NOTES],
+    writers: &[u8; NOTES],
     copied: &[u64; MAX_CELLS],
 ) -> Told
     ensures { λ r. ⌜ r ≡ toldOf caching (lent [] [] (now (held .entry)) (now (dirty .entry)))
@@ -39,12 +43,14 @@ pub fn read_told(
         (client % maxClients) (file % maxFiles) (block % maxBlocks) ⌝ }
 {
     let cell = cell_of(client, file, block);
-    let place = place_of(file, block);
+    let lines = lines_in(written, writers, place_of(file, block));
     Told {
         own: caching & held[cell],
         dirty: dirty[cell],
         since: copied[cell],
-        line: written[place],
-        client: writers[place],
+        line: lines.latest(),
+        client: lines.writer(),
+        lost: lines.lost,
+        loser: lines.loser,
     }
 }

@@ -3,4 +3,5 @@ pub mod Copying
 pub mod Grants
 pub mod Calls
 pub mod Lists
+pub mod Losses
 pub mod Names

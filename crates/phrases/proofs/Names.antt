@@ -10,6 +10,7 @@ use Rattle.protocol.specs.declared.entry.Entry.{Entry}
 use Rattle.protocol.specs.declared.step.Numbers.{Numbers}
 use Rattle.protocol.specs.declared.step.Step.{Step}
 use Rattle.protocol.specs.declared.step.Step.the-variants.{Open, Close, Read, Write, Flush, Answer, Crash, Report, End}
+use Rattle.protocol.specs.declared.step.Step.the-variants.{Restart}
 use Rattle.protocol.specs.Step.{numbersOf, modeOf}
 use Rattle.phrases.specs.Phrase.{modeByKind}
 use Rattle.phrases.specs.Refusal.{refusalText}
@@ -27,6 +28,7 @@ mode-kind (Answer i f) = refl
 mode-kind Crash = refl
 mode-kind (Report i) = refl
 mode-kind End = refl
+mode-kind (Restart i) = refl
 
 -- the mode that the numbers of a step name is the step's
 module _ (x : Step) {q : Numbers} (is : q ≡ numbersOf x) where

@@ -1,5 +1,5 @@
 -- What is said of an accepted step.
-use Prim.Native.Nat.{ℕ}
+use Prim.Native.Nat.{ℕ, zero, suc}
 use mathlib.Core.Bool.{Bool, cond, not}
 use mathlib.Core.List.{List, [], _∷_, _++_}
 use lib.Dec.{eqb}
@@ -14,10 +14,13 @@ use Rattle.protocol.specs.declared.entry.Entry.{Entry}
 use Rattle.protocol.specs.declared.reply.Grant.{Grant}
 use Rattle.protocol.specs.declared.step.Step.{Step}
 use Rattle.protocol.specs.declared.step.Step.the-variants.{Open, Close, Read, Write, Flush, Answer, Crash, Report, End}
+use Rattle.protocol.specs.declared.step.Step.the-variants.{Restart}
 use Rattle.protocol.specs.Client.{keepsBlocks}
 use Rattle.protocol.specs.Entry.{recordAt, callTo}
 use Rattle.stepfile.specs.Text.{bytes, argumentText}
+use Rattle.ledger.specs.declared.lines.Lines.{Lines}
 use Rattle.ledger.specs.declared.told.Told.{Told}
+use Rattle.ledger.specs.Ledger.{risksIn}
 use Rattle.phrases.specs.Phrase.{clientText, fileText, blockText, forText, openText, stateText, listText}
 
 -- ---- reads
@@ -30,16 +33,29 @@ ownText dirty since =
 abbrev pub sourceText : Told → List ℕ
 sourceText t = cond (t .own) (ownText (t .dirty) (t .since)) (bytes ": from the server")
 
--- no line wrote it: it is 0, or the session began with an image
-abbrev pub unwrittenText : Bool → List ℕ
-unwrittenText fresh = cond fresh (bytes "; never written") (bytes "; as the image has it")
+-- no line wrote it, or each that did was lost: it is 0, or the session began with an image
+abbrev pub unwrittenText : Bool → ℕ → List ℕ
+unwrittenText fresh lost =
+    cond fresh (cond (eqb lost 0) (bytes "; never written") (bytes "; as at the start")) (bytes "; as the image has it")
 
 -- whose write, which line; `fresh` says whether the session began with the fresh service
-abbrev pub originText : Bool → Told → List ℕ
-originText fresh t =
+abbrev pub writtenText : Bool → Told → List ℕ
+writtenText fresh t =
     cond (eqb (t .line) 0)
-    (unwrittenText fresh)
+    (unwrittenText fresh (t .lost))
     (bytes "; written by " ++ (clientText (t .client) ++ (bytes " at line" ++ argumentText (t .line))))
+
+-- "Its writes to a block since it was last clean there are lost" (document 02, Wish 8): a later write to the block,
+-- where a restart has lost it
+abbrev pub lostText : Told → List ℕ
+lostText t =
+    cond (eqb (t .lost) 0)
+    []
+    (bytes "; the write of "
+    ++ (clientText (t .loser) ++ (bytes " at line" ++ (argumentText (t .lost) ++ bytes " was lost"))))
+
+abbrev pub originText : Bool → Told → List ℕ
+originText fresh t = writtenText fresh t ++ lostText t
 
 abbrev pub readText : Bool → Told → ℕ → ℕ → ℕ → List ℕ
 readText fresh t i f b = clientText i ++ (bytes "," ++ (blockText f b ++ (sourceText t ++ originText fresh t)))
@@ -119,3 +135,36 @@ doneText caching (Answer i f) = []
 doneText caching Crash = bytes "the server crashes; every station has to report"
 doneText caching (Report i) = clientText i ++ bytes " reports what it has open"
 doneText caching End = bytes "the recovery ends"
+doneText caching (Restart i) = clientText i ++ bytes " restarts"
+
+-- ---- restarts
+
+-- a write that is lost
+abbrev pub lossText : ℕ → ℕ → ℕ → List ℕ
+lossText f b line = blockText f b ++ (bytes " at line" ++ argumentText line)
+
+-- the next of a list, after those that are told: a comma stands between two
+abbrev pub nextText : List ℕ → List ℕ → List ℕ
+nextText [] next = next
+nextText (c ∷ told) next = (c ∷ told) ++ (bytes "," ++ next)
+
+-- what client i had at risk in the first b blocks of file f, after those that are told; `lines` has the lines of each
+-- block of each file
+unfoldable pub lossesOn : (ℕ → ℕ → Lines) → ℕ → ℕ → ℕ → List ℕ → List ℕ
+lossesOn lines i f zero told = told
+lossesOn lines i f (suc b) told =
+    let before = lossesOn lines i f b told in
+    cond (risksIn i (lines f b)) (nextText before (lossText f b (lines f b .risk))) before
+
+-- in the first files, by file and block
+unfoldable pub lossesBelow : (ℕ → ℕ → Lines) → ℕ → ℕ → ℕ → List ℕ
+lossesBelow lines i blocks zero = []
+lossesBelow lines i blocks (suc f) = lossesOn lines i f blocks (lossesBelow lines i blocks f)
+
+abbrev pub orNone : List ℕ → List ℕ
+orNone [] = bytes " none"
+orNone (c ∷ told) = c ∷ told
+
+-- all of them
+abbrev pub lossesText : (ℕ → ℕ → Lines) → ℕ → ℕ → ℕ → List ℕ
+lossesText lines i files blocks = orNone (lossesBelow lines i blocks files)

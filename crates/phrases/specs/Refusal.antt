@@ -9,6 +9,7 @@ use Rattle.sizes.specs.declared.sizes.Sizes.{Sizes}
 use Rattle.protocol.specs.declared.entry.Entry.{Entry}
 use Rattle.protocol.specs.declared.step.Step.{Step}
 use Rattle.protocol.specs.declared.step.Step.the-variants.{Open, Close, Read, Write, Flush, Answer, Crash, Report, End}
+use Rattle.protocol.specs.declared.step.Step.the-variants.{Restart}
 use Rattle.protocol.specs.Step.{clientOf, fileOf, blockOf, modeOf}
 use Rattle.table.specs.TableStep.{isReported}
 use Rattle.stepfile.specs.Text.{bytes, argumentText}
@@ -49,6 +50,7 @@ neededText (Answer i f) = []
 neededText Crash = []
 neededText (Report i) = []
 neededText End = []
+neededText (Restart i) = []
 
 abbrev pub notOpenText : Step → ℕ → ℕ → List ℕ
 notOpenText x i f = clientText i ++ (bytes " does not have" ++ (fileText f ++ (bytes " open" ++ neededText x)))

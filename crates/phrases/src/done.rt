@@ -1,4 +1,4 @@
-// What is said of an accepted close, write, flush, crash, report or end, and of an answer.
+// What is said of an accepted close, write, flush, crash, report, end or restart, and of an answer.
 ghost use Prim.Native.Nat.{_+_, _≤_};
 ghost use mathlib.Core.Bool.{false, cond};
 ghost use lib.ListN.{length};
@@ -47,6 +47,7 @@ pub fn put_done(out: &mut [u8], at: usize, caching: bool, step: Step) -> usize
         Step::Crash => put_text(out, at, b"the server crashes; every station has to report"),
         Step::Report { client } => put_report(out, at, client),
         Step::End => put_text(out, at, b"the recovery ends"),
+        Step::Restart { client } => put_restarts(out, at, client),
     }
 }
 
@@ -110,6 +111,15 @@ fn put_report(out: &mut [u8], at: usize, client: usize) -> usize
 {
     let word = put_client(out, at, client);
     put_text(out, word, b" reports what it has open")
+}
+
+fn put_restarts(out: &mut [u8], at: usize, client: usize) -> usize
+    requires { ⌜ at + 37 ≤ length (now out) ⌝ }
+    ensures { λ r. ⌜ Wrote (now (out .entry)) at (doneText false (Step.Restart client)) (now (out .exit)) r ⌝ }
+    ensures { λ r. ⌜ r ≤ at + 37 ⌝ }
+{
+    let word = put_client(out, at, client);
+    put_text(out, word, b" restarts")
 }
 
 // How many blocks an answer sent.

@@ -7,6 +7,7 @@ mod pending;
 mod phrase;
 mod read;
 mod refusal;
+mod restart;
 mod wait;
 
 pub use done::put_answer;
@@ -21,5 +22,7 @@ pub use phrase::put_client;
 pub use phrase::put_text;
 pub use read::put_read;
 pub use refusal::put_refusal;
+pub use restart::put_losses;
+pub use restart::put_opened;
 pub use wait::put_state;
 pub use wait::put_wait;

@@ -30,7 +30,7 @@ pub fn put_list(out: &mut [u8], at: usize, n: usize, flags: [bool; MAX_CLIENTS])
     next
 }
 
-fn put_number(out: &mut [u8], at: usize, number: usize, listed: bool) -> usize
+pub fn put_number(out: &mut [u8], at: usize, number: usize, listed: bool) -> usize
     requires { ⌜ at + 21 ≤ length (now out) ⌝ }
     ensures { λ r. ⌜ Wrote (now (out .entry)) at (cond listed (argumentText number) []) (now (out .exit)) r ⌝ }
     ensures { λ r. ⌜ r ≤ at + 21 ⌝ }

@@ -5,7 +5,8 @@ ghost use mathlib.Core.List.{[]};
 ghost use lib.ListN.{length};
 ghost use Rattle.stepfile.specs.Text.{bytes};
 ghost use Rattle.writer.specs.Buffer.{Wrote};
-ghost use Rattle.phrases.specs.Accepted.{ownText, sourceText, unwrittenText, originText, readText};
+ghost use Rattle.phrases.specs.Accepted.{ownText, sourceText, unwrittenText, writtenText, lostText, originText};
+ghost use Rattle.phrases.specs.Accepted.{readText};
 use crate::phrase::put_block;
 use crate::phrase::put_client;
 use crate::phrase::put_text;
@@ -22,9 +23,9 @@ pub fn put_read(
     file: usize,
     block: usize,
 ) -> usize
-    requires { ⌜ at + 211 ≤ length (now out) ⌝ }
+    requires { ⌜ at + 292 ≤ length (now out) ⌝ }
     ensures { λ r. ⌜ Wrote (now (out .entry)) at (readText fresh told client file block) (now (out .exit)) r ⌝ }
-    ensures { λ r. ⌜ r ≤ at + 211 ⌝ }
+    ensures { λ r. ⌜ r ≤ at + 292 ⌝ }
 {
     let comma = put_client(out, at, client);
     let place = put_text(out, comma, b",");
@@ -67,14 +68,23 @@ fn put_dirty(out: &mut [u8], at: usize, dirty: bool) -> usize
     at
 }
 
-// Whose write it is, and of which line.
+// Whose write it is, of which line, and whose later write was lost.
 fn put_origin(out: &mut [u8], at: usize, fresh: bool, told: Told) -> usize
-    requires { ⌜ at + 70 ≤ length (now out) ⌝ }
+    requires { ⌜ at + 151 ≤ length (now out) ⌝ }
     ensures { λ r. ⌜ Wrote (now (out .entry)) at (originText fresh told) (now (out .exit)) r ⌝ }
+    ensures { λ r. ⌜ r ≤ at + 151 ⌝ }
+{
+    let loss = put_written(out, at, fresh, told);
+    put_lost(out, loss, told)
+}
+
+fn put_written(out: &mut [u8], at: usize, fresh: bool, told: Told) -> usize
+    requires { ⌜ at + 70 ≤ length (now out) ⌝ }
+    ensures { λ r. ⌜ Wrote (now (out .entry)) at (writtenText fresh told) (now (out .exit)) r ⌝ }
     ensures { λ r. ⌜ r ≤ at + 70 ⌝ }
 {
     if told.line == 0 {
-        return put_unwritten(out, at, fresh);
+        return put_unwritten(out, at, fresh, told.lost);
     }
     let writer = put_text(out, at, b"; written by ");
     let word = put_client(out, writer, told.client as usize);
@@ -82,13 +92,31 @@ fn put_origin(out: &mut [u8], at: usize, fresh: bool, told: Told) -> usize
     put_argument(out, number, told.line)
 }
 
-fn put_unwritten(out: &mut [u8], at: usize, fresh: bool) -> usize
+fn put_unwritten(out: &mut [u8], at: usize, fresh: bool, lost: u64) -> usize
     requires { ⌜ at + 21 ≤ length (now out) ⌝ }
-    ensures { λ r. ⌜ Wrote (now (out .entry)) at (unwrittenText fresh) (now (out .exit)) r ⌝ }
+    ensures { λ r. ⌜ Wrote (now (out .entry)) at (unwrittenText fresh lost) (now (out .exit)) r ⌝ }
     ensures { λ r. ⌜ r ≤ at + 21 ⌝ }
 {
-    if fresh {
+    if !fresh {
+        return put_text(out, at, b"; as the image has it");
+    }
+    if lost == 0 {
         return put_text(out, at, b"; never written");
     }
-    put_text(out, at, b"; as the image has it")
+    put_text(out, at, b"; as at the start")
+}
+
+fn put_lost(out: &mut [u8], at: usize, told: Told) -> usize
+    requires { ⌜ at + 81 ≤ length (now out) ⌝ }
+    ensures { λ r. ⌜ Wrote (now (out .entry)) at (lostText told) (now (out .exit)) r ⌝ }
+    ensures { λ r. ⌜ r ≤ at + 81 ⌝ }
+{
+    if told.lost == 0 {
+        return at;
+    }
+    let loser = put_text(out, at, b"; the write of ");
+    let word = put_client(out, loser, told.loser as usize);
+    let number = put_text(out, word, b" at line");
+    let end = put_argument(out, number, told.lost);
+    put_text(out, end, b" was lost")
 }

@@ -221,5 +221,6 @@ fn put_needed(out: &mut [u8], at: usize, step: Step) -> usize
         Step::Crash => at,
         Step::Report { client: _ } => at,
         Step::End => at,
+        Step::Restart { client: _ } => at,
     }
 }

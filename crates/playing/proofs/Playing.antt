@@ -57,16 +57,20 @@ pub set-outcome :
     → setOutcome s x ≡ outcomeOf settable s number l NoStep
 set-outcome settable s number l x first is = ap (setOutcome s) is ∙ sym (when _ _ first)
 
+-- the reply line of an outcome
+abbrev pub told : ℕ → Outcome → List ℕ
+told number o = lineText number (o .reply) (o .calls) (o .grants)
+
 -- the line's outcome gives the service after it and its reply line
 replied :
     (settable : Bool) (s : Service) (number : ℕ) (l : List ℕ) (p : Parsed) (o : Outcome)
     → parseLine l ≡ p
     → o ≡ outcomeOf settable s number l p
-    → (o .service ≡ playing settable .next s number l) × (lineText number (o .reply) (o .calls) ≡ playing settable .say s number l)
+    → (o .service ≡ playing settable .next s number l) × (told number o ≡ playing settable .say s number l)
 unfolding replyLine serviceAfter
 replied settable s number l p o gives is =
     let fine : o ≡ outcomeOf settable s number l (parseLine l) = is ∙ ap (outcomeOf settable s number l) (sym gives) in
-    (ap (λ (x : Outcome). x .service) fine, ap (λ (x : Outcome). lineText number (x .reply) (x .calls)) fine)
+    (ap (λ (x : Outcome). x .service) fine, ap (told number) fine)
 
 -- One line more: it was read, the service is that of its outcome, and its reply line was written.
 pub line-played :
@@ -77,11 +81,11 @@ pub line-played :
     → canTell lineRoom (length out₁) to number ≡ true
     → o ≡ outcomeOf settable s number (lineBytes input used next) p
     → s′ ≡ o .service
-    → WroteIfRoom lineRoom out₁ to (lineText number (o .reply) (o .calls)) out₂ to′
+    → WroteIfRoom lineRoom out₁ to (told number o) out₂ to′
     → to′ ≤ to + lineRoom
     → Reached (playing settable) s₀ first input out₀ s′ (number + 1) next to′ out₂
 line-played settable s₀ first input out₀ s number used to out₁ p next o s′ to′ out₂ w e can is goes wrote most =
-    one-more (playing settable) s₀ first input out₀ s number used to out₁ p next s′ (lineText number (o .reply) (o .calls)) to′ out₂ w e can
+    one-more (playing settable) s₀ first input out₀ s number used to out₁ p next s′ (told number o) to′ out₂ w e can
     (λ l at gives.
     let (after, says) =
     replied settable s number l p o gives (is ∙ ap (λ (x : List ℕ). outcomeOf settable s number x p) (line-bytes input used next l at)) in

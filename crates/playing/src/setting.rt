@@ -72,7 +72,8 @@ const REFUSED: u64 = 334;
 // into the loop over lines, where it is not.
 pub fn write_setting(out: &mut [u8], number: u64, setting: Setting) -> usize
     ensures { λ r. ⌜ ((s : Service) → WroteIfRoom lineRoom (now (out .entry)) 0
-        (lineText number (setOutcome s setting .reply) (setOutcome s setting .calls)) (now (out .exit)) r) ⌝ }
+        (lineText number (setOutcome s setting .reply) (setOutcome s setting .calls) (setOutcome s setting .grants))
+        (now (out .exit)) r) ⌝ }
     ensures { λ r. ⌜ r ≤ lineRoom ⌝ }
 {
     match setting {

@@ -4,9 +4,9 @@
 -- a number name each clause.
 use Prim.Native.Nat.{ℕ, _≤_, _<_}
 use mathlib.Core.Path.{_≡_}
-use mathlib.Core.Bool.{Bool, true, false, _&&_}
+use mathlib.Core.Bool.{Bool, true, false, cond, not, _&&_}
 use mathlib.Core.Logic.{_⊎_}
-use mathlib.Core.List.{List}
+use mathlib.Core.List.{List, [], _∷_}
 use lib.Dec.{eqb, ltb}
 use lib.ListN.{length}
 use Rattle.records.specs.declared.record.Mode.{Mode}
@@ -20,6 +20,7 @@ use Rattle.decision.specs.State.{recordIn}
 use Rattle.decision.specs.Callback.{writesBack, invalidates}
 use Rattle.protocol.specs.Entry.{waits, callTo}
 use Rattle.protocol.specs.Client.{noClient}
+use Rattle.protocol.specs.Book.{HistoryOf, History, latest, riskedBy}
 use Rattle.protocol.specs.Table.{Row}
 use Rattle.protocol.proofs.View.{View}
 pub mod Flags
@@ -27,6 +28,7 @@ pub mod Lists
 pub mod Count
 pub mod Change
 pub mod Last
+pub mod Book
 pub mod Fresh
 pub mod Block
 pub mod Permission
@@ -41,6 +43,8 @@ pub mod Owing
 pub mod Answer
 pub mod Open
 pub mod Recovery
+pub mod Restart
+pub mod Summary
 
 -- what a client has of the file
 abbrev pub mayCache : ClientFile → Bool
@@ -106,14 +110,36 @@ pub record Sound
     (n : ℕ)
     (version : Version)
     (client : ℕ → ClientFile)
-    (block : ℕ)
     (copy : ℕ → ℕ)
     (held dirty : ℕ → Bool)
     (k : ℕ) : Type 0 where
   pub clients : Clients n version client
   pub copied : (s : ℕ) → Copied version (client s) (copy s) (held s) (dirty s) k
-  -- D4: where no client has the block dirty, the server's block is the reference memory's number.
-  pub cleanIsRight : ((s : ℕ) → dirty s ≡ true → ⊥) → block ≡ k
+
+-- All writes of the history are safe.
+abbrev pub AllSafe : {A : Type 0} → HistoryOf A → Type 0
+AllSafe [] = Unit {0}
+AllSafe (w ∷ ws) = (w .safe ≡ true) × AllSafe ws
+
+-- It is some writes at risk, all of the client, and then safe ones.
+abbrev pub Risks : {A : Type 0} → ℕ → HistoryOf A → Type 0
+Risks i [] = Unit {0}
+Risks i (w ∷ ws) = ((w .safe ≡ true) × AllSafe ws) ⊎ ((w .safe ≡ false) × (w .client ≡ i) × Risks i ws)
+
+-- the latest safe write, 0 where there is none
+abbrev pub latestSafe : History → ℕ
+latestSafe [] = 0
+latestSafe (w ∷ ws) = cond (w .safe) (w .value) (latestSafe ws)
+
+-- What the reference memory says of the server's block and of who has it dirty, running or not.
+pub record Booked (block : ℕ) (dirty : ℕ → Bool) (k : History) : Type 0 where
+  -- D4: only one client has writes at risk.
+  pub risker : ℕ
+  pub shape : Risks risker k
+  -- D5: the server's block is the latest safe write.
+  pub server : block ≡ latestSafe k
+  -- D6: the block is dirty at a client just where the latest write is at risk, and that client's.
+  pub risk : (s : ℕ) → dirty s ≡ riskedBy s k
 
 -- A2, B3, B4: the last writer is the marked client, as far as the table has heard them: all clients while the server runs,
 -- those that have reported while it recovers.
@@ -174,8 +200,9 @@ abbrev pub everybody : ℕ → Bool
 everybody s = true
 
 -- While the server runs, the table agrees with everybody.
-pub record Running (n : ℕ) (v : View) (k : ℕ) : Type 0 where
-  pub sound : Sound n (v .entry .version) (v .client) (v .block) (v .copy) (v .held) (v .dirty) k
+pub record Running (n : ℕ) (v : View) (k : History) : Type 0 where
+  pub sound : Sound n (v .entry .version) (v .client) (v .copy) (v .held) (v .dirty) (latest k)
+  pub booked : Booked (v .block) (v .dirty) k
   pub table : Agrees n (v .entry .records) (v .entry .last) (v .client) everybody
   -- There is a place for each client's callback.
   pub calls : length (v .entry .calls) ≡ n
@@ -184,8 +211,9 @@ pub record Running (n : ℕ) (v : View) (k : ℕ) : Type 0 where
       → Waiting (v .entry .version) (v .client) (v .entry .waiter) (v .entry .mode) (callTo n (v .entry))
 
 -- While it recovers, the table agrees with those that have reported, and the row that must be given back with everybody.
-pub record Recovering (n : ℕ) (v : View) (k : ℕ) (reported : ℕ → Bool) (row : Row) : Type 0 where
-  pub sound : Sound n (v .entry .version) (v .client) (v .block) (v .copy) (v .held) (v .dirty) k
+pub record Recovering (n : ℕ) (v : View) (k : History) (reported : ℕ → Bool) (row : Row) : Type 0 where
+  pub sound : Sound n (v .entry .version) (v .client) (v .copy) (v .held) (v .dirty) (latest k)
+  pub booked : Booked (v .block) (v .dirty) k
   pub table : Agrees n (v .entry .records) (v .entry .last) (v .client) reported
   pub calls : length (v .entry .calls) ≡ n
   -- B1: no open waits.

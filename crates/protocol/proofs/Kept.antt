@@ -11,6 +11,8 @@ use Rattle.protocol.proofs.Invariant.Settle.{settle-kept, settle-backs}
 use Rattle.protocol.proofs.Invariant.Owing.{running-owes, recovering-owes}
 use Rattle.protocol.proofs.Invariant.Answer.{answer-kept, answer-backs}
 use Rattle.protocol.proofs.Invariant.Recovery.{crash-kept, crash-again-kept, report-kept, end-kept}
+use Rattle.protocol.proofs.Invariant.Restart.{restart-kept, restart-backs, restart-cut-off-kept}
+use Rattle.protocol.proofs.Invariant.Restart.{restart-cut-off-backs}
 
 -- `nobody` is no client: that is all that is asked of n.
 pub promises : (n : ℕ) → n ≤ nobody → Promises n (Running n) (Recovering n)
@@ -32,11 +34,15 @@ promises n bound =
       answersBack = λ v k i h _. answer-backs n v k i h;
       answersLastBack = λ v k i h. answer-last-backs n v k i bound h;
       owes = λ v k i. running-owes n v k i;
+      restarts = λ v k i. restart-kept n v k i bound;
+      restartsBack = λ v k i. restart-backs n v k i bound;
       crashes = λ v k. crash-kept n v k bound;
       crashesAgain = λ v k reported row. crash-again-kept n v k reported row bound;
       readsOwn = λ v k i reported row h _. own-read-is n v k i reported row h;
       writesOwn = λ v k i x reported row h _. own-write-kept n v k i x reported row h;
       reports = λ v k i reported row h below _. report-kept n v k i reported row h below;
+      restartsCutOff = λ v k i reported row. restart-cut-off-kept n v k i reported row bound;
+      restartsCutOffBack = λ v k i reported row. restart-cut-off-backs n v k i reported row bound;
       owesStill = λ v k i reported row. recovering-owes n v k i reported row;
       ends = end-kept n;
     }

@@ -3,10 +3,11 @@
 -- have room for more clients than there are. Assumes nothing.
 use Prim.Native.Nat.{ℕ, zero, suc, _<_, _≤_}
 use mathlib.Core.Path.{_≡_, refl, sym, ap, _∙_}
-use mathlib.Core.Bool.{Bool, cond, not}
+use mathlib.Core.Bool.{Bool, true, false, cond, not}
 use mathlib.Core.List.{List, _∷_}
 use native.Mathlib.Nat.{le-refl}
 use native.Mathlib.Omega.{arith}
+use lib.Dec.{eqb}
 use lib.ListN.{set, take, replicate}
 use lib.Seq.{getD-take, take-set-lt}
 use Rattle.records.specs.declared.record.Mode.{Mode}
@@ -15,7 +16,7 @@ use Rattle.protocol.specs.declared.client.ClientFile.{ClientFile}
 use Rattle.protocol.specs.declared.entry.Entry.{Entry}
 use Rattle.records.specs.Record.{notOpen, isWrite, opened, closed, uncached, endsWriting}
 use Rattle.sizes.specs.Sizes.{nobody}
-use Rattle.decision.specs.Lists.{stored}
+use Rattle.decision.specs.Lists.{stored, filled}
 use Rattle.decision.specs.Callback.{asksNothing, callbackDue, writesBack, invalidates}
 use Rattle.decision.proofs.Counting.{count-agree}
 use Rattle.decision.proofs.Agreeing.{due-agree, calls-agree, permission-agree}
@@ -23,7 +24,7 @@ use Rattle.decision.proofs.Storing.{stored-agree}
 use Rattle.protocol.specs.Entry.{recordAt, waits, kindOf, callTo, callsOut, callsFor, callsDue, waitingEntry}
 use Rattle.protocol.specs.Entry.{grantOf}
 use Rattle.protocol.specs.Entry.{grantedEntry, closedEntry, answeredEntry, crashedEntry, freshEntry}
-use Rattle.protocol.specs.Entry.{reportedEntry}
+use Rattle.protocol.specs.Entry.{reportedEntry, forgottenEntry}
 use Rattle.protocol.specs.Table.{seen}
 
 -- storing into a list, and taking the places that are stored
@@ -169,6 +170,24 @@ module _ (n : ℕ) (e : Entry) where
           mode = e .mode;
           calls = take-set-lt n (e .calls) i 0 below k;
         }
+
+    pub forgotten-seen : seen n (forgottenEntry n e i) ≡ forgottenEntry n (seen n e) i
+    forgotten-seen =
+        λ k.
+        record {
+          records = take-set-lt n (e .records) i notOpen below k;
+          version = e .version;
+          last = forgottenEntry n e i .last;
+          waiter = forgottenEntry n e i .waiter;
+          mode = forgottenEntry n e i .mode;
+          calls = calls (eqb (e .waiter) i) k;
+        }
+      where
+        calls :
+            (own : Bool)
+            → take n (cond own (filled n 0 (e .calls)) (e .calls)) ≡ cond own (filled n 0 (take n (e .calls))) (take n (e .calls))
+        calls true = take-stored n n (λ j. 0) (e .calls) (le-refl n)
+        calls false = refl
 
     pub reported-seen : (own : ClientFile) → seen n (reportedEntry e i own) ≡ reportedEntry (seen n e) i own
     reported-seen own =

@@ -8,9 +8,9 @@ use lib.Dec.{eqb}
 use Rattle.records.specs.declared.record.Mode.{Mode}
 use Rattle.protocol.specs.declared.entry.Entry.{Entry}
 use Rattle.protocol.specs.declared.client.ClientFile.{ClientFile}
-use Rattle.decision.specs.Callback.{writesBack, invalidates}
-use Rattle.protocol.specs.Entry.{callTo, waitingEntry, grantOf, grantedEntry, closedEntry, flushedEntry, answeredEntry}
-use Rattle.protocol.specs.Entry.{crashedEntry, freshEntry, reportedEntry}
+use Rattle.decision.specs.Callback.{writesBack, invalidates, asksNothing}
+use Rattle.protocol.specs.Entry.{callTo, callsOut, waitingEntry, grantOf, grantedEntry, closedEntry, flushedEntry, answeredEntry}
+use Rattle.protocol.specs.Entry.{crashedEntry, freshEntry, reportedEntry, forgottenEntry}
 use Rattle.protocol.specs.Client.{noClient, grantedClient, keepsBlocks, closedClient, flushedClient, answeredClient}
 
 pub record View : Type 0 where
@@ -146,6 +146,28 @@ crashedView n v = withEntry v (crashedEntry n (v .entry))
 
 abbrev pub reportedView : View → ℕ → View
 reportedView v i = withEntry v (reportedEntry (v .entry) i (v .client i))
+
+-- client i has restarted: both sides have nothing of it
+abbrev pub forgottenView : ℕ → View → ℕ → View
+forgottenView n v i =
+    record {
+      entry = forgottenEntry n (v .entry) i;
+      block = v .block;
+      client = at i noClient (v .client);
+      copy = at i 0 (v .copy);
+      held = at i false (v .held);
+      dirty = at i false (v .dirty);
+    }
+
+-- an answer of client i, if it has a call: where it is the last, the open that waits is granted
+abbrev pub answerView : ℕ → View → ℕ → View
+answerView n v i =
+    let w = callAnsweredView n v i in
+    cond (asksNothing (callTo n (v .entry) i)) v (cond (eqb (callsOut n (w .entry)) 0) (waiterGrantedView n w) w)
+
+-- "Then a call on it counts as replied to"
+abbrev pub restartedView : ℕ → View → ℕ → View
+restartedView n v i = answerView n (forgottenView n v i) i
 
 -- From v to w client j does not become marked, and if it is, the block stays dirty there; and so for every client.
 abbrev pub BacksAt : ℕ → View → View → Type 0

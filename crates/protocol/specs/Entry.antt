@@ -1,5 +1,5 @@
 -- The server's side of one file: the entry of the state table, and how an open, a grant, a close, a flush, an answer,
--- a crash and a report change it. n is the number of clients; what lies past them in a list is neither looked at nor
+-- a restart, a crash and a report change it. n is the number of clients; what lies past them in a list is neither looked at nor
 -- changed.
 use Prim.Native.Nat.{ℕ}
 use mathlib.Core.Bool.{Bool, cond, not, _&&_}
@@ -120,6 +120,20 @@ answeredEntry e i kind =
       waiter = e .waiter;
       mode = e .mode;
       calls = set (e .calls) i 0;
+    }
+
+-- "Its counts, permissions, marks .. and any waiting open of its own go .., with the calls of that open" (document 02,
+-- Wish 8): the server forgets client i
+abbrev pub forgottenEntry : ℕ → Entry → ℕ → Entry
+forgottenEntry n e i =
+    let own = eqb (e .waiter) i in
+    record {
+      records = set (e .records) i notOpen;
+      version = e .version;
+      last = cond (eqb (e .last) i) nobody (e .last);
+      waiter = cond own nobody (e .waiter);
+      mode = cond own Read (e .mode);
+      calls = cond own (filled n 0 (e .calls)) (e .calls);
     }
 
 -- "the server's readers, writers, permissions, last writers, waits .. are lost"; "Versions .. survive a crash"

@@ -8,14 +8,15 @@ use Rattle.records.specs.declared.record.Mode.the-variants.{Read as ForRead, Wr
 use Rattle.protocol.specs.declared.step.Numbers.{Numbers}
 use Rattle.protocol.specs.declared.step.Step.{Step}
 use Rattle.protocol.specs.declared.step.Step.the-variants.{Open, Close, Read, Write, Flush, Answer, Crash}
-use Rattle.protocol.specs.declared.step.Step.the-variants.{Report, End}
+use Rattle.protocol.specs.declared.step.Step.the-variants.{Report, End, Restart}
 
 -- what a step touches: one file, with its entry, the clients' sides of it, its blocks and their copies; one block of a
--- file, for a client; or the whole table
+-- file, for a client; the whole table; or all files
 pub data Class : Type 0 where
   OnFile : ℕ → Class
   OnBlock : ℕ → ℕ → Class
   OnTable : Class
+  OnAll : Class
 
 abbrev pub classOf : Step → Class
 classOf (Open m i f) = OnFile f
@@ -27,6 +28,7 @@ classOf (Answer i f) = OnFile f
 classOf Crash = OnTable
 classOf (Report i) = OnTable
 classOf End = OnTable
+classOf (Restart i) = OnAll
 
 -- ---- what a step does, for the definition of each class; a step of another class does nothing there
 
@@ -47,6 +49,7 @@ fileAct (Answer i f) = answers i f
 fileAct Crash = nothing
 fileAct (Report i) = nothing
 fileAct End = nothing
+fileAct (Restart i) = nothing
 
 pub data BlockAct : Type 0 where
   reads : ℕ → ℕ → ℕ → BlockAct
@@ -63,6 +66,7 @@ blockAct (Answer i f) = nothing
 blockAct Crash = nothing
 blockAct (Report i) = nothing
 blockAct End = nothing
+blockAct (Restart i) = nothing
 
 pub data TableAct : Type 0 where
   crashes : TableAct
@@ -80,6 +84,23 @@ tableAct (Answer i f) = nothing
 tableAct Crash = crashes
 tableAct (Report i) = reports i
 tableAct End = ends
+tableAct (Restart i) = nothing
+
+pub data AllAct : Type 0 where
+  restarts : ℕ → AllAct
+  nothing : AllAct
+
+abbrev pub allAct : Step → AllAct
+allAct (Open m i f) = nothing
+allAct (Close m i f) = nothing
+allAct (Read i f b) = nothing
+allAct (Write i f b v) = nothing
+allAct (Flush i f b) = nothing
+allAct (Answer i f) = nothing
+allAct Crash = nothing
+allAct (Report i) = nothing
+allAct End = nothing
+allAct (Restart i) = restarts i
 
 -- ---- a step as five numbers
 
@@ -102,10 +123,11 @@ numbersOf (Answer i f) = five 7 i f 0 0
 numbersOf Crash = five 8 0 0 0 0
 numbersOf (Report i) = five 9 i 0 0 0
 numbersOf End = five 10 0 0 0 0
+numbersOf (Restart i) = five 11 i 0 0 0
 
 -- how many kinds there are; one of them is the step of these numbers, and what it does not name is not looked at
 abbrev pub kinds : ℕ
-kinds = 11
+kinds = 12
 
 abbrev pub stepAsked : ℕ → ℕ → ℕ → ℕ → ℕ → Step
 stepAsked kind i f b v =
@@ -118,7 +140,8 @@ stepAsked kind i f b v =
     (cond (eqb kind 6) (Flush i f b)
     (cond (eqb kind 7) (Answer i f)
     (cond (eqb kind 8) Crash
-    (cond (eqb kind 9) (Report i) End)))))))))
+    (cond (eqb kind 9) (Report i)
+    (cond (eqb kind 10) End (Restart i)))))))))))
 
 -- what a step names
 abbrev pub clientOf : Step → ℕ
@@ -141,6 +164,7 @@ modeOf (Answer i f) = ForRead
 modeOf Crash = ForRead
 modeOf (Report i) = ForRead
 modeOf End = ForRead
+modeOf (Restart i) = ForRead
 
 -- the same step with its client, file and block renamed
 abbrev pub renamed : (ℕ → ℕ) → (ℕ → ℕ) → (ℕ → ℕ) → Step → Step
@@ -153,3 +177,4 @@ renamed client file block (Answer i f) = Answer (client i) (file f)
 renamed client file block Crash = Crash
 renamed client file block (Report i) = Report (client i)
 renamed client file block End = End
+renamed client file block (Restart i) = Restart (client i)

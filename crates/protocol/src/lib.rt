@@ -38,6 +38,7 @@ pub use refusal::REPORTED;
 pub use refusal::VERSION_SPENT;
 pub use refusal::refused_if;
 pub use reply::Grant;
+pub use reply::Granting;
 pub use reply::Reply;
 pub use shared::SharedFile;
 pub use step::Numbers;

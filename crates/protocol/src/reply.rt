@@ -1,4 +1,8 @@
-// What a step is answered. The callbacks of an open that waits stand beside the reply, one kind for each client.
+// What a step is answered. What it brings to others stands beside the reply: the callbacks of an open that waits, one kind
+// for each client, and the opens of others that are granted, one after the other.
+ghost use mathlib.Core.Path.{_≡_};
+ghost use Rattle.protocol.specs.Reply.{noGranting};
+use crate::entry::NOBODY;
 use records::Version;
 
 // What the server tells the opener of a file.
@@ -6,6 +10,28 @@ pub struct Grant {
     pub latest: Version,
     pub previous: Version,
     pub caching: bool,
+}
+
+// The open of a client that waited, and that a step of another grants.
+pub struct Granting {
+    pub client: u8,
+    pub grant: Grant,
+}
+
+impl Granting {
+    // What stands past the last in a list of them.
+    pub fn none() -> Self
+        ensures { λ r. ⌜ r ≡ noGranting ⌝ }
+    {
+        Granting {
+            client: NOBODY,
+            grant: Grant {
+                latest: Version::none(),
+                previous: Version::none(),
+                caching: false,
+            },
+        }
+    }
 }
 
 pub enum Reply {
@@ -21,6 +47,6 @@ pub enum Reply {
     Answered(usize),
     // The callback is answered with so many blocks, and this client's waiting open is granted.
     AnsweredGrant(usize, u8, Grant),
-    // Done: a close, a write, a flush, a crash, a report, or the end of recovery.
+    // Done: a close, a write, a flush, a crash, a report, the end of recovery, or a restart.
     Done,
 }

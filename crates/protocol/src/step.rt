@@ -45,6 +45,10 @@ pub enum Step {
     },
     // Recovery ends.
     End,
+    // A client has restarted, and says so.
+    Restart {
+        client: usize,
+    },
 }
 
 // A step as five numbers; those that it does not have are 0.
@@ -94,6 +98,7 @@ pub fn asked(step: Step) -> Numbers
         Step::Crash => asked_of(8, 0, 0, 0, 0),
         Step::Report { client } => asked_of(9, client, 0, 0, 0),
         Step::End => asked_of(10, 0, 0, 0, 0),
+        Step::Restart { client } => asked_of(11, client, 0, 0, 0),
     }
 }
 

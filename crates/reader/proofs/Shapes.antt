@@ -34,12 +34,12 @@ module _ (s l : List ℕ) (f : ℕ → Shape) (r : Number) (read : argument l �
 
 -- a number that a step takes alone
 module _ (s : List ℕ) (x : ℕ → Step) (r : Number) where
-  pub report-missing : r ≡ Missing → onward (numberIn s r) (λ a rest. found (x a) rest) ≡ nothing
-  report-missing e = ap (λ t. onward (numberIn s t) (λ a rest. found (x a) rest)) e
+  pub alone-missing : r ≡ Missing → onward (numberIn s r) (λ a rest. found (x a) rest) ≡ nothing
+  alone-missing e = ap (λ t. onward (numberIn s t) (λ a rest. found (x a) rest)) e
 
-  pub report-there : (a next : ℕ) → r ≡ Is a next
+  pub alone-there : (a next : ℕ) → r ≡ Is a next
       → onward (numberIn s r) (λ a rest. found (x a) rest) ≡ found (x a) (drop next s)
-  report-there a next e = ap (λ t. onward (numberIn s t) (λ a rest. found (x a) rest)) e
+  alone-there a next e = ap (λ t. onward (numberIn s t) (λ a rest. found (x a) rest)) e
 
 -- two
 module _ (s : List ℕ) (f : ℕ → ℕ → Shape) (r : Pair) where
@@ -92,7 +92,7 @@ module _ (s l : List ℕ) (r : Begun) (there : r ≡ NoStep → ⊥) where
       → onward (numberIn s n) (λ a rest. found (x a) rest) ≡ begunIn s r → shaped (one x) l ≡ begunIn s r
   unfolding shaped
   short-number x n read is =
-      ap (λ t. onward t (λ a rest. found (x a) rest)) (read (λ e. some _ is (report-missing s x n e))) ∙ is
+      ap (λ t. onward t (λ a rest. found (x a) rest)) (read (λ e. some _ is (alone-missing s x n e))) ∙ is
 
   pub short-pair : (f : ℕ → ℕ → Shape) (p : Pair)
       → ((f : ℕ → ℕ → Shape) → (p ≡ NoPair → ⊥) → shaped (taking (λ a. taking (f a))) l ≡ pairIn s f p)

@@ -43,6 +43,8 @@ const RP: u64 = 0x5250;
 
 const EN: u64 = 0x454e;
 
+const BT: u64 = 0x4254;
+
 // The room that a short step is given, up to its value: a word, three numbers of at most two digits with a space
 // before each, and the byte that follows.
 const SHORT_ROOM: usize = 12;
@@ -90,6 +92,7 @@ fn short_at(s: &[u8], at: usize) -> Begun
             step: Step::End,
             next: from,
         },
+        BT => restart_of(digit_at(s, from)),
         _ => Begun::Missing,
     }
 }
@@ -124,6 +127,7 @@ fn long_at(s: &[u8], at: usize) -> Begun
             step: Step::End,
             next: from,
         },
+        BT => restart_of(argument_at(s, from)),
         _ => Begun::Missing,
     }
 }
@@ -254,6 +258,21 @@ fn report_of(number: Number) -> Begun
     };
     Begun::Is {
         step: Step::Report {
+            client: value as usize,
+        },
+        next,
+    }
+}
+
+fn restart_of(number: Number) -> Begun
+    ensures { λ r. ⌜ ((s : List ℕ)
+        → onward (numberIn s number) (λ a rest. found (Step.Restart a) rest) ≡ begunIn s r) ⌝ }
+{
+    let Number::Is { value, next } = number else {
+        return Begun::Missing;
+    };
+    Begun::Is {
+        step: Step::Restart {
             client: value as usize,
         },
         next,

@@ -16,7 +16,7 @@ use Rattle.decision.proofs.Storing.{stored-agree}
 use Rattle.protocol.specs.declared.entry.Entry.{Entry}
 use Rattle.protocol.specs.declared.reply.Reply.the-variants.{Done}
 use Rattle.protocol.specs.declared.step.Step.the-variants.{Crash}
-use Rattle.protocol.specs.Reply.{noCalls}
+use Rattle.protocol.specs.Reply.{noCalls, noGrants}
 use Rattle.table.specs.TableStep.{entryOf, tableStep}
 use Rattle.service.specs.declared.service.Service.{Service}
 use Rattle.service.specs.Contents.{sizesOf, tableIn}
@@ -68,6 +68,7 @@ module _
             };
         reply = Done;
         calls = noCalls;
+        grants = noGrants;
       }
 
 -- blocks that agree are taken alike

@@ -12,7 +12,7 @@ use Rattle.records.specs.Version.{asRead}
 use Rattle.protocol.specs.declared.entry.Entry.{Entry}
 use Rattle.protocol.specs.declared.reply.Reply.the-variants.{Refused, Done}
 use Rattle.protocol.specs.declared.step.Step.the-variants.{Crash}
-use Rattle.protocol.specs.Reply.{noCalls}
+use Rattle.protocol.specs.Reply.{noCalls, noGrants}
 use Rattle.table.specs.TableStep.{entryOf}
 use Rattle.service.specs.declared.service.Service.{Service}
 use Rattle.service.specs.declared.outcome.Outcome.{Outcome}
@@ -79,13 +79,13 @@ withContents s entries blocks =
 -- what an accepted reading hands back: the service after a crash, with these versions and blocks
 abbrev pub restored : Service → List Entry → List ℕ → Outcome
 restored s entries blocks =
-    record { service = withContents (after s Crash) entries blocks; reply = Done; calls = noCalls }
+    record { service = withContents (after s Crash) entries blocks; reply = Done; calls = noCalls; grants = noGrants }
 
 -- "17 when the bytes are no image"
 unfoldable pub readingOf : Service → List ℕ → Outcome
 readingOf s bytes =
     cond (isImage (sizesOf s) bytes) (restored s (decodedFiles bytes) (decodedBlocks bytes))
-    (record { service = s; reply = Refused 17; calls = noCalls })
+    (record { service = s; reply = Refused 17; calls = noCalls; grants = noGrants })
 
 -- the sizes with which the bytes begin, 0 for those that are missing
 abbrev pub sizesIn : List ℕ → Sizes

@@ -13,6 +13,7 @@ use crate::numbers::byte_at;
 use image::IMAGE_ROOM;
 use image::put_image;
 use protocol::Entry;
+use protocol::Granting;
 use protocol::NO_IMAGE;
 use protocol::Reply;
 use service::Outcome;
@@ -42,6 +43,7 @@ pub fn read_image(service: Service, bytes: &[u8]) -> Outcome
     ensures { λ r. ⌜ r ≡ readingOf service (now (bytes .entry)) ⌝ }
     ensures { λ r. ⌜ AcceptsExactly service (now (bytes .entry)) r ⌝ }
 {
+    let none = Granting::none();
     let given = service.sizes;
     let sizes = given.in_force();
     let files = decode_files(bytes);
@@ -51,6 +53,7 @@ pub fn read_image(service: Service, bytes: &[u8]) -> Outcome
             service,
             reply: Reply::Refused(NO_IMAGE),
             calls: [0; MAX_CLIENTS],
+            grants: [none; MAX_FILES],
         };
     }
     let crashed = service.crashed();
@@ -58,6 +61,7 @@ pub fn read_image(service: Service, bytes: &[u8]) -> Outcome
         service: with_contents(crashed, files, &blocks),
         reply: Reply::Done,
         calls: [0; MAX_CLIENTS],
+        grants: [none; MAX_FILES],
     }
 }
 

@@ -1,5 +1,6 @@
--- Both mornings of the README, a service of small sizes with a recovery, and an open with three callbacks, explained
--- line by line from the definitions by evaluation; and the sentences of states that take many steps. Assumes nothing.
+-- Both mornings of the README, a service of small sizes with a recovery, an open with three callbacks, and restarts,
+-- explained line by line from the definitions by evaluation; and the sentences of states that take many steps. Assumes
+-- nothing.
 use Prim.Native.Nat.{ℕ}
 use mathlib.Core.Path.{_≡_, refl}
 use mathlib.Core.Bool.{true}
@@ -12,9 +13,11 @@ use Rattle.decision.specs.Callback.{orderedCalls}
 use Rattle.decision.specs.Permission.{permissionAtGrant}
 use Rattle.protocol.specs.declared.step.Step.the-variants.{Open}
 use Rattle.protocol.specs.Entry.{freshEntry}
+use Rattle.protocol.specs.Reply.{grantsValues}
 use Rattle.access.specs.BlockStep.{blockStep}
-use Rattle.file.specs.FileStep.{fileStep}
+use Rattle.file.specs.FileStep.{fileStep, afterRestart}
 use Rattle.table.specs.TableStep.{tableStep}
+use Rattle.service.specs.Restart.{restartedBelow, grantsBelow, allStep}
 use Rattle.service.specs.Step.{stepOf}
 use Rattle.service.specs.Fresh.{fresh}
 use Rattle.stepfile.specs.Text.{bytes, decimal, digitsOf, valuesText}
@@ -23,12 +26,12 @@ use Rattle.stepfile.specs.Setting.{settingOf}
 use Rattle.stepfile.specs.Line.{callsText as replyCalls}
 use Rattle.stepfile.specs.Transcript.{lines, transcript}
 use Rattle.stepfile.specs.Played.{serviceAfter}
-use Rattle.ledger.specs.Ledger.{emptyLedger, ledgerAfter}
+use Rattle.ledger.specs.Ledger.{emptyLedger, cameFrom, lostBelow, ledgerAfter}
 use Rattle.ledger.specs.Annotated.{unannotated, annotatedAfter}
 use Rattle.phrases.specs.Phrase.{numbersText}
-use Rattle.phrases.specs.Accepted.{callsText}
+use Rattle.phrases.specs.Accepted.{callsText, lossesOn, lossesBelow}
 use Rattle.phrases.specs.Refusal.{refusalText}
-use Rattle.sentences.specs.Explained.{sentenceOf, explainedText, explainedLine}
+use Rattle.sentences.specs.Explained.{grantsText, sentenceOf, explainedText, explainedLine}
 
 -- what is said of an input, line by line, from the fresh service and an empty ledger
 abbrev explained : List ℕ → List ℕ
@@ -192,6 +195,48 @@ pub record Examples : Type 0 where
       ∷ bytes " drop its copy\n"
       ∷ bytes "5 A 0    station 5 answers for file 0, blocks sent: 0; stations still to answer: 2 7\n"
       ∷ [])
+  -- a restart that loses two writes and grants two opens, the reads after it, and one that changes nothing
+  pub restarts :
+      explained
+      (joined
+      (bytes "OW 0 0\n"
+      ∷ bytes "OW 0 1\n"
+      ∷ bytes "WR 0 0 0 5\n"
+      ∷ bytes "FL 0 0 0\n"
+      ∷ bytes "WR 0 0 0 6\n"
+      ∷ bytes "WR 0 1 1 7\n"
+      ∷ bytes "OR 2 1\n"
+      ∷ bytes "OR 1 0\n"
+      ∷ bytes "BT 0\n"
+      ∷ bytes "RD 1 0 0\n"
+      ∷ bytes "RD 2 1 1\n"
+      ∷ bytes "BT 3\n"
+      ∷ bytes "BT 8\n"
+      ∷ bytes "BT 01\n"
+      ∷ []))
+      ≡ joined
+      (bytes "1 G 2 1 1    station 0 has file 0 open for write at version 2 and may cache; it had no copy\n"
+      ∷ bytes "2 G 2 1 1    station 0 has file 1 open for write at version 2 and may cache; it had no copy\n"
+      ∷ bytes "3 K    station 0 writes file 0 block 0 in its copy\n"
+      ∷ bytes "4 K    station 0 sends file 0 block 0 to the server\n"
+      ∷ bytes "5 K    station 0 writes file 0 block 0 in its copy\n"
+      ∷ bytes "6 K    station 0 writes file 1 block 1 in its copy\n"
+      ∷ bytes "7 W 0:3    station 2 waits to open file 1 for read, which is ONE_WRITER; station 0 is called"
+      ∷ bytes " to write back and drop its copy\n"
+      ∷ bytes "8 W 0:3    station 1 waits to open file 0 for read, which is ONE_WRITER; station 0 is called"
+      ∷ bytes " to write back and drop its copy\n"
+      ∷ bytes "9 K 1 2 1 1 2 2 1 1    station 0 restarts; files it had open: 0 1; writes lost: file 0 block 0"
+      ∷ bytes " at line 5, file 1 block 1 at line 6; station 1 has file 0 open for read at version 2 and may"
+      ∷ bytes " cache; it had no copy; station 2 has file 1 open for read at version 2 and may cache; it had"
+      ∷ bytes " no copy\n"
+      ∷ bytes "10 V 5    station 1, file 0 block 0: from the server; written by station 0 at line 3; the"
+      ∷ bytes " write of station 0 at line 5 was lost\n"
+      ∷ bytes "11 V 0    station 2, file 1 block 1: from the server; as at the start; the write of station 0"
+      ∷ bytes " at line 6 was lost\n"
+      ∷ bytes "12 K    station 3 restarts; files it had open: none; writes lost: none\n"
+      ∷ bytes "13 N 2    there is no station 8; there are 8\n"
+      ∷ bytes "14 N 1    this line is no step\n"
+      ∷ [])
   -- "19 when a setting lies outside its range"
   pub range :
       explained (bytes "SET 9 1 1\n")
@@ -208,13 +253,15 @@ pub examples : Examples
 unfolding fresh emptyLedger ledgerAfter stepOf fileStep blockStep tableStep stateOf permissionAtGrant orderedCalls
     count stored decimal digitsOf valuesText digitsOn numeral argument shapeOf shaped step parseLine settingOf
     replyCalls lines transcript serviceAfter numbersText callsText sentenceOf explainedText explainedLine
-    annotatedAfter
+    annotatedAfter lossesOn lossesBelow grantsText afterRestart restartedBelow grantsBelow allStep cameFrom lostBelow
+    grantsValues
 examples =
     record {
       wheat = refl;
       barley = refl;
       small = refl;
       calls = refl;
+      restarts = refl;
       range = refl;
       full = refl;
       spent = refl;

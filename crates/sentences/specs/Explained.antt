@@ -1,15 +1,25 @@
 -- The line that `explain` prints: what `play` prints for it, and after four spaces what happened. The Bool `fresh` says
 -- whether the session began with the fresh service: a first line may choose its sizes then (`settable` in
 -- crates/stepfile/specs/Played.antt), and no block comes from an image.
-use Prim.Native.Nat.{ℕ}
-use mathlib.Core.Bool.{Bool, cond, _&&_}
+use Prim.Native.Nat.{ℕ, zero, suc}
+use mathlib.Core.Bool.{Bool, cond, not, _&&_}
 use mathlib.Core.List.{List, [], _∷_, _++_}
 use lib.Dec.{eqb}
+use Rattle.records.specs.Record.{isOpen}
+use Rattle.records.specs.Version.{asRead, previousVersion}
+use Rattle.sizes.specs.declared.sizes.Sizes.{Sizes}
+use Rattle.protocol.specs.declared.client.ClientFile.{ClientFile}
+use Rattle.protocol.specs.declared.entry.Entry.{Entry}
+use Rattle.protocol.specs.declared.reply.Grant.{Grant}
+use Rattle.protocol.specs.declared.reply.Granting.{Granting}
 use Rattle.protocol.specs.declared.reply.Reply.{Reply}
 use Rattle.protocol.specs.declared.reply.Reply.the-variants.{Granted, Waiting, Value, Refused, Answered}
 use Rattle.protocol.specs.declared.reply.Reply.the-variants.{AnsweredGrant, Done}
 use Rattle.protocol.specs.declared.step.Step.{Step}
+use Rattle.protocol.specs.declared.step.Step.the-variants.{Open, Close, Read, Write, Flush, Answer, Crash, Report, End}
+use Rattle.protocol.specs.declared.step.Step.the-variants.{Restart}
 use Rattle.protocol.specs.Client.{sideOf}
+use Rattle.protocol.specs.Entry.{recordAt, waits}
 use Rattle.protocol.specs.Step.{clientOf, fileOf, blockOf, modeOf}
 use Rattle.service.specs.declared.service.Service.{Service}
 use Rattle.service.specs.Step.{stepOf}
@@ -24,28 +34,84 @@ use Rattle.stepfile.specs.Line.{replyText}
 use Rattle.stepfile.specs.Played.{outcomeOf}
 use Rattle.ledger.specs.declared.annotated.Annotated.{Annotated}
 use Rattle.ledger.specs.declared.ledger.Ledger.{Ledger}
-use Rattle.phrases.specs.Accepted.{readText, grantText, waitText, answerText, stillText, doneText}
+use Rattle.phrases.specs.Phrase.{listText}
+use Rattle.phrases.specs.Accepted.{readText, grantText, waitText, answerText, stillText, doneText, lossesText}
 use Rattle.phrases.specs.Refusal.{refusalText}
-use Rattle.sentences.specs.Scene.{Scene, sceneOf}
+use Rattle.sentences.specs.Scene.{Scene, sceneOf, Whole, wholeOf}
+
+-- ---- restarts
+
+-- whether a restart of client i has granted an open: it was another's and waited before, and none waits after
+abbrev pub grants : ℕ → ℕ → Entry → Entry → Bool
+grants n i e e′ = waits n e && (not (eqb (e .waiter) i) && not (waits n e′))
+
+-- what the grant told, by the entry after it
+abbrev pub grantIn : Entry → ℕ → Grant
+grantIn e i =
+    record {
+      latest = asRead (e .version);
+      previous = previousVersion (asRead (e .version));
+      caching = recordAt e i .caching;
+    }
+
+-- "a call on it counts as replied to with no blocks, which may grant opens of others" (document 02, Wish 8): the open
+-- that waited on file f, if it is granted. e and e′ are the entry before and after, `own` the opener's side before.
+abbrev pub grantedText : ℕ → ℕ → Entry → Entry → ClientFile → ℕ → List ℕ
+grantedText n i e e′ own f =
+    cond (grants n i e e′)
+    (bytes "; " ++ grantText (e .mode) (grantIn e′ (e .waiter)) own (e .waiter) f)
+    []
+
+-- on the first files, ascending
+unfoldable pub grantsText : ℕ → Whole → ℕ → ℕ → List ℕ
+grantsText n w i zero = []
+grantsText n w i (suc f) =
+    grantsText n w i f ++ grantedText n i (w .entry f) (w .after f) (w .side (w .entry f .waiter) f) f
+
+-- what is said of a restart of client i besides that it restarts: what it had open, by its own record, which writes are
+-- lost, and which opens of others are granted
+abbrev pub restartText : Sizes → Whole → ℕ → List ℕ
+restartText z w i =
+    bytes "; files it had open:"
+    ++ (listText (z .files) (λ f. isOpen (w .side i f .opens))
+    ++ (bytes "; writes lost:"
+    ++ (lossesText (w .lines) i (z .files) (z .blocks) ++ grantsText (z .clients) w i (z .files))))
+
+-- of any other step nothing more is said
+abbrev pub restartedText : Sizes → Whole → Step → List ℕ
+restartedText z w (Open m i f) = []
+restartedText z w (Close m i f) = []
+restartedText z w (Read i f b) = []
+restartedText z w (Write i f b v) = []
+restartedText z w (Flush i f b) = []
+restartedText z w (Answer i f) = []
+restartedText z w Crash = []
+restartedText z w (Report i) = []
+restartedText z w End = []
+restartedText z w (Restart i) = restartText z w i
+
+-- ---- steps
 
 -- What is said of the step x, by its reply. An answer that grants gives the open that waited: the waiter's, in the mode
 -- in which it waits.
-abbrev pub saidOf : Bool → Scene → Step → List ℕ → Reply → List ℕ
-saidOf fresh c x kinds (Granted g) =
+abbrev pub saidOf : Bool → Scene → Whole → Step → List ℕ → Reply → List ℕ
+saidOf fresh c w x kinds (Granted g) =
     grantText (modeOf x) g (sideOf (c .sides) (clientOf x)) (clientOf x) (fileOf x)
-saidOf fresh c x kinds Waiting =
+saidOf fresh c w x kinds Waiting =
     waitText (c .sizes .clients) (c .entry) (modeOf x) (clientOf x) (fileOf x) kinds
-saidOf fresh c x kinds (Value v) = readText fresh (c .told) (clientOf x) (fileOf x) (blockOf x)
-saidOf fresh c x kinds (Refused k) = refusalText (c .sizes) (c .reported) (c .entry) (c .since) x k
-saidOf fresh c x kinds (Answered n) =
+saidOf fresh c w x kinds (Value v) = readText fresh (c .told) (clientOf x) (fileOf x) (blockOf x)
+saidOf fresh c w x kinds (Refused k) = refusalText (c .sizes) (c .reported) (c .entry) (c .since) x k
+saidOf fresh c w x kinds (Answered n) =
     answerText n (clientOf x) (fileOf x) ++ stillText (c .sizes .clients) (c .after)
-saidOf fresh c x kinds (AnsweredGrant n i g) =
+saidOf fresh c w x kinds (AnsweredGrant n i g) =
     answerText n (clientOf x) (fileOf x)
     ++ (bytes "; " ++ grantText (c .entry .mode) g (sideOf (c .sides) i) i (fileOf x))
-saidOf fresh c x kinds Done = doneText (c .caching) x
+saidOf fresh c w x kinds Done = doneText (c .caching) x ++ restartedText (c .sizes) w x
 
 unfoldable pub sentenceOf : Bool → Service → Ledger → Step → List ℕ
-sentenceOf fresh s l x = let o = stepOf s x in saidOf fresh (sceneOf s l x) x (o .calls) (o .reply)
+sentenceOf fresh s l x =
+    let o = stepOf s x in
+    saidOf fresh (sceneOf s l x) (wholeOf s l x) x (o .calls) (o .reply)
 
 -- ---- lines that are no steps
 
@@ -70,14 +136,14 @@ saidOfLine fresh s l n l′ (Is x) = sentenceOf fresh s l x
 saidOfLine fresh s l n l′ NoStep = cond (fresh && eqb n 1) (settingText (settingOf l′)) noStepText
 
 -- it begins as `play` prints it: `lineText` is `replyText` and LF
-unfoldable pub explainedText : ℕ → Reply → List ℕ → List ℕ → List ℕ
-explainedText n r kinds said = replyText n r kinds ++ (bytes "    " ++ (said ++ bytes "\n"))
+unfoldable pub explainedText : ℕ → Reply → List ℕ → List Granting → List ℕ → List ℕ
+explainedText n r kinds granted said = replyText n r kinds granted ++ (bytes "    " ++ (said ++ bytes "\n"))
 
 -- the text of line l, numbered n, which gives p; `annotatedBy` (crates/ledger/specs/Annotated.antt) is the state after it
 abbrev pub explainedBy : Bool → Annotated → ℕ → List ℕ → Parsed → List ℕ
 explainedBy fresh t n l p =
     let o = outcomeOf fresh (t .service) n l p in
-    explainedText n (o .reply) (o .calls) (saidOfLine fresh (t .service) (t .ledger) n l p)
+    explainedText n (o .reply) (o .calls) (o .grants) (saidOfLine fresh (t .service) (t .ledger) n l p)
 
 -- for `transcript` (crates/stepfile/specs/Transcript.antt)
 unfoldable pub explainedLine : Bool → Annotated → ℕ → List ℕ → List ℕ
@@ -85,4 +151,4 @@ explainedLine fresh t n l = explainedBy fresh t n l (parseLine l)
 
 -- the room that an explained line is given: more than it takes
 abbrev pub explainedRoom : ℕ
-explainedRoom = 7000
+explainedRoom = 64000

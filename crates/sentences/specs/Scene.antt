@@ -1,21 +1,27 @@
 -- What a sentence looks at besides the step and its reply.
-use Prim.Native.Nat.{ℕ, _%_}
-use mathlib.Core.Bool.{Bool}
+use Prim.Native.Nat.{ℕ, _+_, _*_, _%_}
+use mathlib.Core.Bool.{Bool, cond}
 use mathlib.Core.List.{List}
+use lib.Dec.{eqb}
+use lib.ListN.{getD}
 use Rattle.sizes.specs.declared.sizes.Sizes.{Sizes}
 use Rattle.sizes.specs.Sizes.{maxFiles}
+use Rattle.decision.specs.Lists.{stored}
+use Rattle.protocol.specs.declared.client.ClientFile.{ClientFile}
 use Rattle.protocol.specs.declared.client.Sides.{Sides}
 use Rattle.protocol.specs.declared.entry.Entry.{Entry}
 use Rattle.protocol.specs.declared.step.Step.{Step}
+use Rattle.protocol.specs.Client.{sideOf}
 use Rattle.protocol.specs.Step.{fileOf}
-use Rattle.words.specs.Rows.{listed, rowWords, wordAt, entryHeld, sidesHeld}
+use Rattle.words.specs.Rows.{rowWords, tableWords, entryHeld, sidesHeld}
 use Rattle.service.specs.declared.service.Service.{Service}
-use Rattle.service.specs.Contents.{sizesOf, tableIn, entryAt, sidesAt}
+use Rattle.service.specs.Contents.{sizesOf, tableIn, entryAt, sidesAt, clientAt}
 use Rattle.service.specs.Lent.{reportedHeld}
 use Rattle.service.specs.Step.{stepOf}
 use Rattle.ledger.specs.declared.ledger.Ledger.{Ledger}
+use Rattle.ledger.specs.declared.lines.Lines.{Lines}
 use Rattle.ledger.specs.declared.told.Told.{Told}
-use Rattle.ledger.specs.Ledger.{waitingSince, mayCache, stepTold}
+use Rattle.ledger.specs.Ledger.{waitingSince, mayCache, stepTold, linesAt}
 
 -- of the file that the step names; of file 0 where it names none
 pub record Scene : Type 0 where
@@ -48,22 +54,58 @@ sceneOf s l x =
       caching = mayCache s x;
     }
 
+-- of every file, which is what a restart is told by
+pub record Whole : Type 0 where
+  -- the server's entry of a file, before the step and after it
+  pub entry : ℕ → Entry
+  pub after : ℕ → Entry
+  -- a client's side of a file, before the step
+  pub side : ℕ → ℕ → ClientFile
+  -- the lines of the writes to a block of a file, before the step
+  pub lines : ℕ → ℕ → Lines
+
+abbrev pub wholeOf : Service → Ledger → Step → Whole
+wholeOf s l x =
+    record {
+      entry = entryAt s;
+      after = entryAt (stepOf s x .service);
+      side = λ i f. clientAt s i f;
+      lines = linesAt l;
+    }
+
 -- ---- in lent arrays
 
--- the row of file f, a table of one file
-abbrev pub rowOf : List ℕ → ℕ → List ℕ
-rowOf t f = listed rowWords (λ k. wordAt t f k)
+-- The words of the table that are kept from before a step, in an array as long as the table: those of the row of its
+-- file; before a restart, whose kind is 11, all of them.
+abbrev pub keptFrom : ℕ → ℕ → ℕ
+keptFrom kind f = cond (eqb kind 11) 0 (f % maxFiles * rowWords)
 
--- what is held by the file's row as it was before the step x, and by the table and the flags after it
+abbrev pub keptWords : ℕ → ℕ
+keptWords kind = cond (eqb kind 11) tableWords rowWords
+
+abbrev pub keptBefore : ℕ → ℕ → List ℕ → List ℕ → List ℕ
+keptBefore kind f t before =
+    stored (keptWords kind) (λ k. keptFrom kind f + k) (λ k. getD t (keptFrom kind f + k) 0) before
+
+-- what is held by the words that are kept from before the step x, and by the table and the flags after it
 abbrev pub sceneHeld : Sizes → Step → List ℕ → List ℕ → List Bool → ℕ → Told → Bool → Scene
-sceneHeld z x row t flags since told caching =
+sceneHeld z x before t flags since told caching =
     record {
       sizes = z;
       reported = reportedHeld flags;
-      entry = entryHeld row 0;
+      entry = entryHeld before (fileOf x % maxFiles);
       after = entryHeld t (fileOf x % maxFiles);
-      sides = sidesHeld row 0;
+      sides = sidesHeld before (fileOf x % maxFiles);
       since = since;
       told = told;
       caching = caching;
+    }
+
+abbrev pub wholeHeld : List ℕ → List ℕ → (ℕ → ℕ → Lines) → Whole
+wholeHeld before t lines =
+    record {
+      entry = entryHeld before;
+      after = entryHeld t;
+      side = λ i f. sideOf (sidesHeld before f) i;
+      lines = lines;
     }

@@ -1,24 +1,26 @@
 // The line that explains a step or a setting: what is printed for it, and after four spaces what happened.
 ghost use Prim.Native.Nat.{ℕ, _+_, _/_, _≤_};
 ghost use mathlib.Core.Path.{_≡_};
-ghost use mathlib.Core.List.{List};
+ghost use mathlib.Core.List.{List, []};
 ghost use lib.ListN.{length};
 ghost use Rattle.sizes.specs.Sizes.{Permitted};
+ghost use Rattle.protocol.specs.declared.reply.Granting.{Granting};
 ghost use Rattle.protocol.specs.declared.reply.Reply.{Reply};
-ghost use Rattle.words.specs.Rows.{rowWords, tableWords};
+ghost use Rattle.words.specs.Rows.{tableWords};
 ghost use Rattle.words.specs.Said.{saidRoom, callsSaid, Says};
 ghost use Rattle.service.specs.Lent.{lentFlags};
+ghost use Rattle.ledger.specs.Ledger.{entered, linesAt};
 ghost use Rattle.writer.specs.Buffer.{Wrote, WroteIfRoom};
-ghost use Rattle.sentences.specs.Scene.{sceneHeld};
+ghost use Rattle.sentences.specs.Scene.{sceneHeld, wholeHeld};
 ghost use Rattle.sentences.specs.Explained.{saidOf, settingText, explainedText, explainedRoom};
 use crate::sentence::put_sentence;
+use ledger::NOTES;
 use ledger::Told;
 use phrases::put_text;
 use protocol::Step;
 use service::FLAGS;
 use sizes::Sizes;
 use stepfile::Setting;
-use words::ROW;
 use words::SAID;
 use words::WORDS;
 use words::calls_with;
@@ -28,11 +30,11 @@ use writer::put_byte;
 use writer::put_said;
 
 // The room that an explained line is given: more than any takes.
-pub const EXPLAINED_ROOM: usize = 7000;
+pub const EXPLAINED_ROOM: usize = 64000;
 
-// Writes the line of a step, and answers the offset past it; the row is that of the file before the step, the table and
-// the flags are those after it. Where the buffer has less than EXPLAINED_ROOM bytes from the offset on, writes nothing
-// and answers the offset.
+// Writes the line of a step, and answers the offset past it. The words before the step are those that keep_before has
+// kept; the table and the flags are those after it, and the lines those before it. Where the buffer has less than
+// EXPLAINED_ROOM bytes from the offset on, writes nothing and answers the offset.
 pub fn explain_step(
     out: &mut [u8],
     at: usize,
@@ -42,9 +44,11 @@ pub fn explain_step(
     step: Step,
     said: u64,
     words: &[u64; SAID],
-    row: &[u64; ROW],
+    before: &[u64; WORDS],
     table: &[u64; WORDS],
     flags: &[bool; FLAGS],
+    written: &[u64; NOTES],
+    writers: &[u8; NOTES],
     since: u64,
     told: Told,
     caching: bool,
@@ -52,16 +56,18 @@ pub fn explain_step(
     requires { ⌜ Permitted sizes ⌝ }
     requires { ⌜ said / 256 ≤ saidRoom ⌝ }
     requires { ⌜ length (now words) ≡ saidRoom ⌝ }
-    requires { ⌜ length (now row) ≡ rowWords ⌝ }
+    requires { ⌜ length (now before) ≡ tableWords ⌝ }
     requires { ⌜ length (now table) ≡ tableWords ⌝ }
     requires { ⌜ length (now flags) ≡ lentFlags ⌝ }
-    ensures { λ r. ⌜ ((reply : Reply) (calls : List ℕ)
-        → Says said (now (words .entry)) reply calls
+    ensures { λ r. ⌜ ((reply : Reply) (calls : List ℕ) (granted : List Granting)
+        → Says said (now (words .entry)) reply calls granted
         → callsSaid said (now (words .entry)) ≡ calls
         → WroteIfRoom explainedRoom (now (out .entry)) at
-        (explainedText number reply calls
+        (explainedText number reply calls granted
         (saidOf fresh
-        (sceneHeld sizes step (now (row .entry)) (now (table .entry)) (now (flags .entry)) since told caching)
+        (sceneHeld sizes step (now (before .entry)) (now (table .entry)) (now (flags .entry)) since told caching)
+        (wholeHeld (now (before .entry)) (now (table .entry))
+        (linesAt (entered (now (written .entry)) (now (writers .entry)) [] [])))
         step calls reply))
         (now (out .exit)) r) ⌝ }
     ensures { λ r. ⌜ r ≤ at + explainedRoom ⌝ }
@@ -84,9 +90,11 @@ pub fn explain_step(
         step,
         reply,
         calls,
-        row,
+        before,
         table,
         flags,
+        written,
+        writers,
         since,
         told,
         caching,
@@ -105,10 +113,10 @@ pub fn explain_setting(
 ) -> usize
     requires { ⌜ said / 256 ≤ saidRoom ⌝ }
     requires { ⌜ length (now words) ≡ saidRoom ⌝ }
-    ensures { λ r. ⌜ ((reply : Reply) (calls : List ℕ)
-        → Says said (now (words .entry)) reply calls
+    ensures { λ r. ⌜ ((reply : Reply) (calls : List ℕ) (granted : List Granting)
+        → Says said (now (words .entry)) reply calls granted
         → WroteIfRoom explainedRoom (now (out .entry)) at
-        (explainedText number reply calls (settingText setting)) (now (out .exit)) r) ⌝ }
+        (explainedText number reply calls granted (settingText setting)) (now (out .exit)) r) ⌝ }
     ensures { λ r. ⌜ r ≤ at + explainedRoom ⌝ }
 {
     if out.len() < EXPLAINED_ROOM {

@@ -1,9 +1,10 @@
 // What is said of each line: definitions, in specs/, and the functions that write it into a lent buffer.
 mod explained;
+mod restart;
 mod scene;
 mod sentence;
 
 pub use explained::EXPLAINED_ROOM;
 pub use explained::explain_setting;
 pub use explained::explain_step;
-pub use scene::row_at;
+pub use scene::keep_before;

@@ -1,73 +1,61 @@
-// What a sentence looks at, read from lent arrays: the file's row as it was before the step, and the flags.
+// What a sentence looks at, read from lent arrays: the words that are kept from before the step, and the flags.
 ghost use mathlib.Core.Path.{_≡_};
-ghost use Prim.Native.Nat.{_<_};
-ghost use lib.ListN.{length};
+ghost use mathlib.Core.Bool.{cond};
+ghost use Prim.Native.Nat.{_+_, _*_, _%_, _≤_, _<_};
+ghost use lib.ListN.{length, getD};
 ghost use Rattle.sizes.specs.Sizes.{maxFiles};
+ghost use Rattle.decision.specs.Lists.{stored};
 ghost use Rattle.protocol.specs.Client.{sideOf};
-ghost use Rattle.words.specs.Rows.{rowWords, tableWords, entryHeld, sidesHeld};
+ghost use Rattle.words.specs.Rows.{rowWords, tableWords, sidesHeld};
 ghost use Rattle.service.specs.Lent.{lentFlags, reportedHeld};
-ghost use Rattle.sentences.specs.Scene.{rowOf};
+ghost use Rattle.sentences.specs.Scene.{keptBefore};
 use protocol::ClientFile;
-use protocol::Entry;
 use service::FLAGS;
 use sizes::MAX_CLIENTS;
+use sizes::MAX_FILES;
 use words::ROW;
 use words::WORDS;
-use words::calls_of;
-use words::last_of;
-use words::mode_of;
-use words::record_of;
 use words::side_of;
-use words::version_of;
-use words::waiter_of;
 
-// The row of a file.
-pub fn row_at(table: &[u64; WORDS], f: usize) -> [u64; ROW]
-    requires { ⌜ f < maxFiles ⌝ }
+// The kind of a restart.
+pub const RESTART: u64 = 11;
+
+// Keeps what a sentence looks at of the table before a step of this kind: the row of the file, which is wrapped, and
+// before a restart the whole table.
+pub fn keep_before(table: &[u64; WORDS], kind: u64, file: usize, before: &mut [u64; WORDS])
     requires { ⌜ length (now table) ≡ tableWords ⌝ }
-    ensures { λ r. ⌜ r ≡ rowOf (now (table .entry)) f ⌝ }
+    requires { ⌜ length (now before) ≡ tableWords ⌝ }
+    ensures { λ _. ⌜ now (before .exit) ≡ keptBefore kind file (now (table .entry)) (now (before .entry)) ⌝ }
 {
-    let mut row = [0; ROW];
-    let mut k = 0;
-    while k < ROW {
-        row[k] = table[f * ROW + k];
-        k += 1;
+    if kind == RESTART {
+        keep_words(table, 0, WORDS, before);
+    } else {
+        keep_words(table, file % MAX_FILES * ROW, ROW, before);
     }
-    row
 }
 
-// The server's entry of the file.
-pub fn entry_in(row: &[u64; ROW]) -> Entry
-    requires { ⌜ length (now row) ≡ rowWords ⌝ }
-    ensures { λ r. ⌜ r ≡ entryHeld (now (row .entry)) 0 ⌝ }
+fn keep_words(table: &[u64; WORDS], first: usize, count: usize, before: &mut [u64; WORDS])
+    requires { ⌜ length (now table) ≡ tableWords ⌝ }
+    requires { ⌜ length (now before) ≡ tableWords ⌝ }
+    requires { ⌜ first + count ≤ tableWords ⌝ }
+    ensures { λ _. ⌜ now (before .exit)
+        ≡ stored count (λ k. first + k) (λ k. getD (now (table .entry)) (first + k) 0) (now (before .entry)) ⌝ }
 {
-    let head = row[1];
-    Entry {
-        records: [
-            record_of(row[2]),
-            record_of(row[3]),
-            record_of(row[4]),
-            record_of(row[5]),
-            record_of(row[6]),
-            record_of(row[7]),
-            record_of(row[8]),
-            record_of(row[9]),
-        ],
-        version: version_of(head),
-        last: last_of(head),
-        waiter: waiter_of(head),
-        mode: mode_of(head),
-        calls: calls_of(row[18]),
+    let mut k: usize = 0;
+    while k < count {
+        before[first + k] = table[first + k];
+        k += 1;
     }
 }
 
 // A client's side of the file.
-pub fn side_in(row: &[u64; ROW], client: usize) -> ClientFile
-    requires { ⌜ length (now row) ≡ rowWords ⌝ }
-    ensures { λ r. ⌜ r ≡ sideOf (sidesHeld (now (row .entry)) 0) client ⌝ }
+pub fn side_in(table: &[u64; WORDS], f: usize, client: usize) -> ClientFile
+    requires { ⌜ f < maxFiles ⌝ }
+    requires { ⌜ length (now table) ≡ tableWords ⌝ }
+    ensures { λ r. ⌜ r ≡ sideOf (sidesHeld (now (table .entry)) f) client ⌝ }
 {
     if client < MAX_CLIENTS {
-        side_of(row[10 + client])
+        side_of(table[f * ROW + (10 + client)])
     } else {
         ClientFile::none()
     }

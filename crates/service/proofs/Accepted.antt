@@ -10,17 +10,20 @@ use Rattle.decision.specs.Lists.{firstOf}
 use Rattle.protocol.specs.declared.reply.Reply.the-variants.{Refused, Done}
 use Rattle.protocol.specs.declared.step.Step.{Step}
 use Rattle.protocol.specs.declared.step.Step.the-variants.{Open, Close, Read, Write, Flush, Answer, Crash, Report, End}
+use Rattle.protocol.specs.declared.step.Step.the-variants.{Restart}
 use Rattle.protocol.specs.Entry.{callTo, callsFor, callsOut}
 use Rattle.protocol.specs.Refusal.{Test, openTests, closeTests, readTests, writeTests, flushTests, answerTests}
+use Rattle.protocol.specs.Refusal.{restartTests}
 use Rattle.protocol.specs.Reply.{isRefused}
 use Rattle.access.specs.BlockStep.{afterRead, afterWrite, blockStep}
-use Rattle.protocol.specs.Reply.{noCalls}
+use Rattle.protocol.specs.Reply.{noCalls, noGrants, placed}
 use Rattle.file.specs.FileStep.{FileAfter, afterOpen, afterClose, afterFlush, answered, afterAnswer, fileStep}
 use Rattle.table.specs.TableStep.{reportTests, endTests, crashed, reported, ended, tableStep}
 use Rattle.service.specs.declared.service.Service.{Service}
 use Rattle.service.specs.declared.outcome.Outcome.{Outcome}
 use Rattle.service.specs.Contents.{sizesOf, tableIn, entryAt, reportedAt, clientAt, heldAt, dirtyAt, fileAt}
 use Rattle.service.specs.Contents.{storesOf}
+use Rattle.service.specs.Restart.{grantsBelow, restarted, allStep}
 use Rattle.service.specs.Step.{fileOutcome, blockOutcome, tableOutcome, stepOf}
 use Rattle.service.specs.Demand3.{refused, after}
 use Rattle.service.proofs.Tests.{split, either, conflict, when, unless}
@@ -66,6 +69,7 @@ testsOf z s (Answer i f) = answerTests z (tableIn s .recovering) (entryAt s f) i
 testsOf z s Crash = []
 testsOf z s (Report i) = reportTests z (tableIn s .recovering) (tableIn s .reported) i
 testsOf z s End = endTests z (tableIn s .recovering) (tableIn s .reported)
+testsOf z s (Restart i) = restartTests z i
 
 abbrev pub doneOf : Sizes → Service → Step → Outcome
 doneOf z s (Open m i f) = fileOutcome s f (afterOpen z (fileAt s f) (storesOf s) m i f)
@@ -77,6 +81,8 @@ doneOf z s (Answer i f) = fileOutcome s f (afterAnswer z (fileAt s f) (storesOf 
 doneOf z s Crash = tableOutcome s (record { table = crashed z (tableIn s); reply = Done })
 doneOf z s (Report i) = tableOutcome s (record { table = reported z (tableIn s) (s .clients) i; reply = Done })
 doneOf z s End = tableOutcome s (record { table = ended z (tableIn s); reply = Done })
+doneOf z s (Restart i) =
+    record { service = restarted z s i; reply = Done; calls = noCalls; grants = placed (grantsBelow z i (z .files) s) }
 
 all-numbered : (z : Sizes) (s : Service) (x : Step) → numbered (testsOf z s x) ≡ true
 all-numbered z s (Open m i f) = refl
@@ -88,6 +94,7 @@ all-numbered z s (Answer i f) = refl
 all-numbered z s Crash = refl
 all-numbered z s (Report i) = refl
 all-numbered z s End = refl
+all-numbered z s (Restart i) = refl
 
 -- what is done is no refusal
 accepts : (z : Sizes) (s : Service) (x : Step) → isRefused (doneOf z s x .reply) ≡ false
@@ -105,6 +112,7 @@ accepts z s (Answer i f) =
 accepts z s Crash = refl
 accepts z s (Report i) = refl
 accepts z s End = refl
+accepts z s (Restart i) = refl
 
 -- ---- the outcome of a step
 
@@ -113,7 +121,7 @@ abbrev pub refusalOf : Service → Step → ℕ
 refusalOf s x = firstOf (testsOf (sizesOf s) s x)
 
 pub accepted : (s : Service) (x : Step) → eqb (refusalOf s x) 0 ≡ true → stepOf s x ≡ doneOf (sizesOf s) s x
-unfolding stepOf fileStep blockStep tableStep
+unfolding stepOf fileStep blockStep tableStep allStep
 accepted s (Open m i f) e = ap (fileOutcome s f) (when _ _ e)
 accepted s (Close m i f) e = ap (fileOutcome s f) (when _ _ e)
 accepted s (Read i f b) e = ap (blockOutcome s) (when _ _ e)
@@ -123,13 +131,14 @@ accepted s (Answer i f) e = ap (fileOutcome s f) (when _ _ e)
 accepted s Crash e = refl
 accepted s (Report i) e = ap (tableOutcome s) (when _ _ e)
 accepted s End e = ap (tableOutcome s) (when _ _ e)
+accepted s (Restart i) e = when _ _ e
 
 -- the outcome that a refusal gives
 abbrev pub refusedWith : ℕ → Service → Outcome
-refusedWith k s = record { service = s; reply = Refused k; calls = noCalls }
+refusedWith k s = record { service = s; reply = Refused k; calls = noCalls; grants = noGrants }
 
 pub rejected : (s : Service) (x : Step) → eqb (refusalOf s x) 0 ≡ false → stepOf s x ≡ refusedWith (refusalOf s x) s
-unfolding stepOf fileStep blockStep tableStep
+unfolding stepOf fileStep blockStep tableStep allStep
 rejected s (Open m i f) e = ap (fileOutcome s f) (unless _ _ e) ∙ ap (refusedWith _) (same-file s f (storesOf s))
 rejected s (Close m i f) e = ap (fileOutcome s f) (unless _ _ e) ∙ ap (refusedWith _) (same-file s f (storesOf s))
 rejected s (Read i f b) e = ap (blockOutcome s) (unless _ _ e)
@@ -139,6 +148,7 @@ rejected s (Answer i f) e = ap (fileOutcome s f) (unless _ _ e) ∙ ap (refusedW
 rejected s Crash e = conflict refl e
 rejected s (Report i) e = ap (tableOutcome s) (unless _ _ e)
 rejected s End e = ap (tableOutcome s) (unless _ _ e)
+rejected s (Restart i) e = unless _ _ e
 
 -- "A refusal gives only its number; server, stations and every lent buffer stay as they came."
 pub refused-changes-nothing : (s : Service) (x : Step) → refused s x ≡ true → after s x ≡ s

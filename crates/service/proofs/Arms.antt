@@ -15,9 +15,10 @@ use Rattle.sizes.proofs.InForce.{in-force-permitted}
 use Rattle.protocol.specs.declared.client.ClientFile.{ClientFile}
 use Rattle.protocol.specs.declared.reply.Reply.the-variants.{Refused}
 use Rattle.protocol.specs.Step.{Class}
-use Rattle.protocol.specs.Step.{OnFile, OnBlock, OnTable}
+use Rattle.protocol.specs.Step.{OnFile, OnBlock, OnTable, OnAll}
 use Rattle.protocol.specs.declared.step.Step.{Step}
 use Rattle.protocol.specs.declared.step.Step.the-variants.{Open, Close, Read, Write, Flush, Answer, Crash, Report, End}
+use Rattle.protocol.specs.declared.step.Step.the-variants.{Restart}
 use Rattle.protocol.specs.Step.{classOf}
 use Rattle.blocks.specs.Stores.{Stores}
 use Rattle.access.specs.BlockStep.{blockStep}
@@ -43,11 +44,13 @@ abbrev isOnFile : Class → Bool
 isOnFile (OnFile f) = true
 isOnFile (OnBlock i f) = false
 isOnFile OnTable = false
+isOnFile OnAll = false
 
 abbrev fileOf : Class → ℕ
 fileOf (OnFile f) = f
 fileOf (OnBlock i f) = f
 fileOf OnTable = 0
+fileOf OnAll = 0
 
 -- a step that names no client or no file is refused with 2 or 3, whatever it does otherwise
 refused-first {ℓ} :
@@ -90,17 +93,20 @@ no-file z recovering a (Write i f b v) g c h = absurd (true≢false (sym (ap isO
 no-file z recovering a Crash g c h = absurd (true≢false (sym (ap isOnFile c)))
 no-file z recovering a (Report i) g c h = absurd (true≢false (sym (ap isOnFile c)))
 no-file z recovering a End g c h = absurd (true≢false (sym (ap isOnFile c)))
+no-file z recovering a (Restart i) g c h = absurd (true≢false (sym (ap isOnFile c)))
 
 -- whatever side stands for one that is not there
 abbrev isOnBlock : Class → Bool
 isOnBlock (OnFile f) = false
 isOnBlock (OnBlock i f) = true
 isOnBlock OnTable = false
+isOnBlock OnAll = false
 
 abbrev clientOf : Class → ℕ
 clientOf (OnFile f) = 0
 clientOf (OnBlock i f) = i
 clientOf OnTable = 0
+clientOf OnAll = 0
 
 no-block :
     (z : Sizes) (recovering : Bool) (a : Stores) (x : Step) (j g : ℕ)
@@ -128,6 +134,7 @@ no-block z recovering a (Answer i f) j g c h = absurd (true≢false (sym (ap isO
 no-block z recovering a Crash j g c h = absurd (true≢false (sym (ap isOnBlock c)))
 no-block z recovering a (Report i) j g c h = absurd (true≢false (sym (ap isOnBlock c)))
 no-block z recovering a End j g c h = absurd (true≢false (sym (ap isOnBlock c)))
+no-block z recovering a (Restart i) j g c h = absurd (true≢false (sym (ap isOnBlock c)))
 
 neither : (a b : Bool) → (a || b) ≡ false → (a ≡ false) × (b ≡ false)
 neither true b e = absurd (true≢false e)

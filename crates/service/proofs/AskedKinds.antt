@@ -5,7 +5,7 @@ use mathlib.Core.Bool.{Bool, false}
 use native.Mathlib.Omega.{arith}
 use lib.Arith.{lt-of-le-ne}
 use lib.Dec.{eqb}
-use borrow.Author.Tests.{eqb-true, eqb-false, ne-eqb}
+use borrow.Author.Tests.{eqb-true, eqb-false, eq-eqb, ne-eqb}
 use Rattle.records.specs.declared.record.Mode.{Mode}
 use Rattle.sizes.specs.declared.sizes.Sizes.{Sizes}
 use Rattle.sizes.proofs.Choosing.{split, conflict}
@@ -58,8 +58,13 @@ past n k h off = lt-of-le-ne h (λ e. off (sym e))
 pub on-table : (k : ℕ) → 4 ≤ k → (k ≡ 4 → ⊥) → (k ≡ 5 → ⊥) → (k ≡ 6 → ⊥) → (k ≡ 7 → ⊥) → 7 < k
 on-table k h a b c d = past 7 k (past 6 k (past 5 k (past 4 k h a) b) c) d
 
-pub end-asked : (k i f b v : ℕ) → 7 < k → (k ≡ 8 → ⊥) → (k ≡ 9 → ⊥) → stepAsked k i f b v ≡ End
-end-asked k i f b v past crash report =
+eleventh : (k : ℕ) → 7 < k → k < 11 → (k ≡ 8 → ⊥) → (k ≡ 9 → ⊥) → k ≡ 10
+eleventh k past low crash report =
+    let above : 9 < k = lt-of-le-ne (lt-of-le-ne past (λ e. crash (sym e))) (λ e. report (sym e)) in
+    omega arith
+
+pub end-asked : (k i f b v : ℕ) → 7 < k → k < 11 → (k ≡ 8 → ⊥) → (k ≡ 9 → ⊥) → stepAsked k i f b v ≡ End
+end-asked k i f b v past low crash report =
     rw (
       ne-eqb k 0 (λ e. omega arith),
       ne-eqb k 1 (λ e. omega arith),
@@ -71,13 +76,14 @@ end-asked k i f b v past crash report =
       ne-eqb k 7 (λ e. omega arith),
       ne-eqb k 8 crash,
       ne-eqb k 9 report,
+      eq-eqb k 10 (eleventh k past low crash report),
     )
 
-pub table-asked : (k i f b v : ℕ) → 7 < k → classOf (stepAsked k i f b v) ≡ OnTable
-table-asked k i f b v past =
+pub table-asked : (k i f b v : ℕ) → 7 < k → k < 11 → classOf (stepAsked k i f b v) ≡ OnTable
+table-asked k i f b v past low =
     split (eqb k 8)
     (λ e. rw (eqb-true k 8 e))
     (λ e.
     split (eqb k 9)
     (λ e′. rw (eqb-true k 9 e′))
-    (λ e′. ap classOf (end-asked k i f b v past (eqb-false k 8 e) (eqb-false k 9 e′))))
+    (λ e′. ap classOf (end-asked k i f b v past low (eqb-false k 8 e) (eqb-false k 9 e′))))

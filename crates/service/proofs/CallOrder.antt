@@ -20,6 +20,7 @@ use Rattle.protocol.specs.declared.reply.Grant.{Grant}
 use Rattle.protocol.specs.declared.reply.Reply.the-variants.{Granted, Waiting}
 use Rattle.protocol.specs.declared.step.Step.{Step}
 use Rattle.protocol.specs.declared.step.Step.the-variants.{Open, Close, Read, Write, Flush, Answer, Crash, Report, End}
+use Rattle.protocol.specs.declared.step.Step.the-variants.{Restart}
 use Rattle.protocol.specs.Entry.{recordAt, callTo, callsDue, callsFor, callsOut, grantOf}
 use Rattle.protocol.specs.Reply.{noCalls}
 use Rattle.file.specs.FileStep.{FileAfter, answered}
@@ -57,6 +58,7 @@ done-past z s (Answer i f) fits =
 done-past z s Crash fits = no-calls-past (z .clients)
 done-past z s (Report i) fits = no-calls-past (z .clients)
 done-past z s End fits = no-calls-past (z .clients)
+done-past z s (Restart i) fits = no-calls-past (z .clients)
 
 none-past : (s : Service) (x : Step) → NonePast (sizesOf s .clients) (stepOf s x .calls)
 none-past s x =

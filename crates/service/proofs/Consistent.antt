@@ -5,7 +5,7 @@ use mathlib.Core.Path.{_≡_, refl, ap, _∙_, subst⁻¹}
 use mathlib.Core.Bool.{Bool, true, false}
 use mathlib.Core.List.{List, [], _∷_}
 use lib.ListN.{length, replicate, length-replicate, getD-replicate}
-use borrow.Author.Tests.{not-false}
+use borrow.Author.Tests.{leb-false, not-false}
 use Rattle.sizes.specs.declared.sizes.Sizes.{Sizes}
 use Rattle.sizes.specs.Sizes.{maxClients, maxFiles, maxPlaces, maxCells, inForce, Permitted, place, cell}
 use Rattle.sizes.proofs.InForce.{in-force-permitted, file-fits}
@@ -13,8 +13,10 @@ use Rattle.protocol.specs.declared.client.Sides.{Sides}
 use Rattle.protocol.specs.declared.reply.Reply.the-variants.{Value}
 use Rattle.protocol.specs.declared.step.Step.{Step}
 use Rattle.protocol.specs.declared.step.Step.the-variants.{Open, Close, Read, Write, Flush, Answer, Crash, Report, End}
+use Rattle.protocol.specs.declared.step.Step.the-variants.{Restart}
 use Rattle.protocol.specs.Client.{noClient, sideOf}
 use Rattle.protocol.specs.Entry.{freshEntry}
+use Rattle.protocol.specs.Book.{History, latest}
 use Rattle.protocol.specs.Table.{Row, seen}
 use Rattle.protocol.proofs.Seen.{fresh-seen}
 use Rattle.protocol.proofs.View.{View, freshView}
@@ -27,7 +29,7 @@ use Rattle.service.specs.declared.outcome.Outcome.{Outcome}
 use Rattle.service.specs.Contents.{tableIn, clientAt, storesOf}
 use Rattle.service.specs.Step.{stepOf}
 use Rattle.service.specs.Fresh.{fresh}
-use Rattle.service.specs.Demand3.{refused, after, Memory, blank, fed, tableOf, NoOpenWaits, Recovery, none, since}
+use Rattle.service.specs.Demand3.{refused, after, Memory, blank, delays, fed, tableOf, NoOpenWaits, Recovery, none, since}
 use Rattle.service.specs.Demand3.{recoveryAfter, ReadIsLatest, EndRestores, Holds, Consistent}
 use Rattle.service.proofs.Tests.{split, conflict}
 use Rattle.service.proofs.Views.{Sized, within-none, viewOf, same-view}
@@ -36,6 +38,7 @@ use Rattle.service.proofs.Accepted.{refused-changes-nothing}
 use Rattle.service.proofs.Invariant.{Runs, Sound}
 use Rattle.service.proofs.WhileRunning
 use Rattle.service.proofs.WhileRecovering
+use Rattle.service.proofs.Restart.{restart-runs, restart-recovers}
 
 -- ---- the fresh service
 
@@ -88,7 +91,7 @@ refused-kept :
     (Q : Memory → Recovery → Type 0) (s : Service) (m : Memory) (r : Recovery) (x : Step)
     → refused s x ≡ true
     → Q m r
-    → Q (fed m x true) (recoveryAfter s r x true)
+    → Q (fed m x true (delays s)) (recoveryAfter s r x true)
 refused-kept Q s m r (Open mode i f) e q = q
 refused-kept Q s m r (Close mode i f) e q = q
 refused-kept Q s m r (Read i f b) e q = q
@@ -98,6 +101,7 @@ refused-kept Q s m r (Answer i f) e q = q
 refused-kept Q s m r Crash e q = conflict e (crash-accepted s)
 refused-kept Q s m r (Report i) e q = q
 refused-kept Q s m r End e q = q
+refused-kept Q s m r (Restart i) e q = q
 
 -- what Demand 3 asks of the service after an accepted end
 abbrev Restored : Recovery → Service → Type 0
@@ -106,8 +110,8 @@ Restored r s = (t : List Row) × (r ≡ since t) × (tableOf s ≡ t) × NoOpenW
 module _
     {z : Sizes}
     (most : Permitted z)
-    (Running : View → ℕ → Type 0)
-    (Recovering : View → ℕ → (ℕ → Bool) → Row → Type 0)
+    (Running : View → History → Type 0)
+    (Recovering : View → History → (ℕ → Bool) → Row → Type 0)
     (promises : Promises (z .clients) Running Recovering) where
   abbrev pub Holding : Service → Memory → Recovery → Type 0
   Holding = Sound z Running Recovering
@@ -122,7 +126,7 @@ module _
       (s : Service) (m : Memory) (r : Recovery) (x : Step)
       → Holding s m r
       → Passed (testsOf z s x)
-      → Holding (doneOf z s x .service) (fed m x false) (recoveryAfter s r x false)
+      → Holding (doneOf z s x .service) (fed m x false (delays s)) (recoveryAfter s r x false)
   accepted-kept s m none (Open mode i f) h p = WhileRunning.open-kept most promises h mode i f p
   accepted-kept s m none (Close mode i f) h p = WhileRunning.close-kept most promises h mode i f p
   accepted-kept s m none (Read i f b) h p = WhileRunning.read-kept most promises h i f b p .1
@@ -133,6 +137,7 @@ module _
   accepted-kept s m none (Report i) h (_, (recovers, _)) =
       conflict (not-false (tableIn s .recovering) recovers) (h .state)
   accepted-kept s m none End h (recovers, _) = conflict (not-false (tableIn s .recovering) recovers) (h .state)
+  accepted-kept s m none (Restart i) h (client, _) = restart-runs most (leb-false (z .clients) i client) promises h
   accepted-kept s m (since t) (Open mode i f) h (_, (_, (runs, _))) = conflict (h .state) runs
   accepted-kept s m (since t) (Close mode i f) h (_, (_, (runs, _))) = conflict (h .state) runs
   accepted-kept s m (since t) (Read i f b) h p = WhileRecovering.read-kept most promises h i f b p .1
@@ -142,11 +147,13 @@ module _
   accepted-kept s m (since t) Crash h p = WhileRecovering.crash-kept most promises h
   accepted-kept s m (since t) (Report i) h p = WhileRecovering.report-kept most promises h i p
   accepted-kept s m (since t) End h p = WhileRecovering.end-kept most promises h p .0
+  accepted-kept s m (since t) (Restart i) h (client, _) =
+      restart-recovers most (leb-false (z .clients) i client) promises h
 
   pub after-kept :
       (s : Service) (m : Memory) (r : Recovery) (x : Step)
       → Holding s m r
-      → Holding (after s x) (fed m x (refused s x)) (recoveryAfter s r x (refused s x))
+      → Holding (after s x) (fed m x (refused s x) (delays s)) (recoveryAfter s r x (refused s x))
   after-kept s m r x h =
       split (refused s x)
       (λ e. kept e (refused-changes-nothing s x e) (refused-kept (Holding s) s m r x e h))
@@ -157,23 +164,23 @@ module _
       kept : {b : Bool} {s′ : Service}
           → refused s x ≡ b
           → after s x ≡ s′
-          → Holding s′ (fed m x b) (recoveryAfter s r x b)
-          → Holding (after s x) (fed m x (refused s x)) (recoveryAfter s r x (refused s x))
+          → Holding s′ (fed m x b (delays s)) (recoveryAfter s r x b)
+          → Holding (after s x) (fed m x (refused s x) (delays s)) (recoveryAfter s r x (refused s x))
       kept {s′ = s′} e q k =
-          subst⁻¹ (λ s′. Holding s′ (fed m x (refused s x)) (recoveryAfter s r x (refused s x))) q
-          (subst⁻¹ (λ b. Holding s′ (fed m x b) (recoveryAfter s r x b)) e k)
+          subst⁻¹ (λ s′. Holding s′ (fed m x (refused s x) (delays s)) (recoveryAfter s r x (refused s x))) q
+          (subst⁻¹ (λ b. Holding s′ (fed m x b (delays s)) (recoveryAfter s r x b)) e k)
 
   value-latest :
       (s : Service) (m : Memory) (r : Recovery) (i f b : ℕ)
       → Holding s m r
       → Passed (testsOf z s (Read i f b))
-      → valueRead (clientAt s i f .opens .caching) i f b (storesOf s) ≡ m f b
+      → valueRead (clientAt s i f .opens .caching) i f b (storesOf s) ≡ latest (m f b)
   value-latest s m none i f b h p = WhileRunning.read-kept most promises h i f b p .0
   value-latest s m (since t) i f b h p = WhileRecovering.read-kept most promises h i f b p .0
 
   pub read-latest : (s : Service) (m : Memory) (r : Recovery) (x : Step) → Holding s m r → ReadIsLatest s m x
   read-latest s m r x h i f b e =
-      subst⁻¹ (λ x. refused s x ≡ false → stepOf s x .reply ≡ Value (m f b)) e
+      subst⁻¹ (λ x. refused s x ≡ false → stepOf s x .reply ≡ Value (latest (m f b))) e
       (λ a.
       let (p, done) = when-accepted s (Read i f b) (sized s m r h .sizes) a in
       ap (λ (o : Outcome). o .reply) done ∙ ap Value (value-latest s m r i f b h p))
@@ -200,20 +207,20 @@ module _
   holds s m r (x ∷ steps) h = (
     read-latest s m r x h,
     end-restores s m r x h,
-    holds (after s x) (fed m x (refused s x)) (recoveryAfter s r x (refused s x)) steps (after-kept s m r x h),
+    holds (after s x) (fed m x (refused s x) (delays s)) (recoveryAfter s r x (refused s x)) steps (after-kept s m r x h),
   )
 
 module _
     (z : Sizes)
-    (Running : View → ℕ → Type 0)
-    (Recovering : View → ℕ → (ℕ → Bool) → Row → Type 0)
+    (Running : View → History → Type 0)
+    (Recovering : View → History → (ℕ → Bool) → Row → Type 0)
     (promises : Promises (inForce z .clients) Running Recovering) where
   pub fresh-runs : Runs (inForce z) Running (fresh z) blank
   fresh-runs =
       record {
         sized = fresh-sized z;
         state = fresh-running z;
-        views = λ f b hf hb. subst⁻¹ (λ v. Running v 0) (fresh-view z f b hf) (promises .fresh);
+        views = λ f b hf hb. subst⁻¹ (λ v. Running v []) (fresh-view z f b hf) (promises .fresh);
       }
 
   pub consistent : Consistent (fresh z)

@@ -11,12 +11,13 @@ use lib.Seq.{length-take-le, getD-take}
 use borrow.Author.Tests.{eqb-true}
 use Rattle.sizes.specs.declared.sizes.Sizes.{Sizes}
 use Rattle.sizes.specs.Sizes.{Permitted}
+use Rattle.protocol.specs.Book.{History}
 use Rattle.protocol.specs.Table.{Row, rowOf, seen}
 use Rattle.protocol.proofs.View.{View}
 use Rattle.table.specs.TableStep.{noEntry}
 use Rattle.service.specs.declared.service.Service.{Service}
 use Rattle.service.specs.Contents.{tableIn, entryAt}
-use Rattle.service.specs.Demand3.{Memory, written, tableOf, Recovery, none, since}
+use Rattle.service.specs.Demand3.{Memory, atBlock, atFile, tableOf, Recovery, none, since}
 use Rattle.service.proofs.Tests.{split, eqb-same, both}
 use Rattle.service.proofs.Views.{Sized, viewOf, reportsOf}
 use Rattle.service.proofs.FileTurn.{FileStep}
@@ -50,25 +51,25 @@ module _ {z : Sizes} (most : Permitted z) {s : Service} (n : Sized z s) where
 
 -- ---- the invariant
 
--- P holds of each file, its view at each block, and the number that the reference memory has for it
-abbrev pub Everywhere : Sizes → (ℕ → View → ℕ → Type 0) → Service → Memory → Type 0
+-- P holds of each file, its view at each block, and what the reference memory has for it
+abbrev pub Everywhere : Sizes → (ℕ → View → History → Type 0) → Service → Memory → Type 0
 Everywhere z P s m = (f b : ℕ) → f < z .files → b < z .blocks → P f (viewOf z s f b) (m f b)
 
 -- the server runs
-pub record Runs (z : Sizes) (Running : View → ℕ → Type 0) (s : Service) (m : Memory) : Type 0 where
+pub record Runs (z : Sizes) (Running : View → History → Type 0) (s : Service) (m : Memory) : Type 0 where
   pub sized : Sized z s
   pub state : tableIn s .recovering ≡ false
   pub views : Everywhere z (λ f v k. Running v k) s m
 
 -- the protocol's promise of each file in a recovery, with these reports and the table t to give back
 abbrev pub InRecovery :
-    Sizes → (View → ℕ → (ℕ → Bool) → Row → Type 0) → (ℕ → Bool) → List Row → Service → Memory → Type 0
+    Sizes → (View → History → (ℕ → Bool) → Row → Type 0) → (ℕ → Bool) → List Row → Service → Memory → Type 0
 InRecovery z Recovering reported t = Everywhere z (λ f v k. Recovering v k reported (rowIn z t f))
 
 -- the server recovers the table t
 pub record Recovers
     (z : Sizes)
-    (Recovering : View → ℕ → (ℕ → Bool) → Row → Type 0)
+    (Recovering : View → History → (ℕ → Bool) → Row → Type 0)
     (s : Service)
     (m : Memory)
     (t : List Row) : Type 0 where
@@ -78,34 +79,45 @@ pub record Recovers
   pub views : InRecovery z Recovering (reportsOf z s) t s m
 
 abbrev pub Sound :
-    Sizes → (View → ℕ → Type 0) → (View → ℕ → (ℕ → Bool) → Row → Type 0) → Service → Memory → Recovery → Type 0
+    Sizes → (View → History → Type 0) → (View → History → (ℕ → Bool) → Row → Type 0) → Service → Memory → Recovery → Type 0
 Sound z Running Recovering s m none = Runs z Running s m
 Sound z Running Recovering s m (since t) = Recovers z Recovering s m t
 
 -- ---- after a step
 
--- an accepted write changes one number of the reference memory
-pub written-here : (m : Memory) (f b v : ℕ) → written m f b v f b ≡ v
-written-here m f b v = rw (eqb-same f, eqb-same b)
+-- where the reference memory changes, and where it does not
+pub block-here : (m : Memory) (f b : ℕ) (h : History → History) → atBlock m f b h f b ≡ h (m f b)
+block-here m f b h = rw (eqb-same f, eqb-same b)
 
-pub written-elsewhere :
-    (m : Memory) (f b v g c : ℕ) → (eqb g f && eqb c b) ≡ false → written m f b v g c ≡ m g c
-written-elsewhere m f b v g c e = rw e
+pub block-elsewhere :
+    (m : Memory) (f b : ℕ) (h : History → History) (g c : ℕ)
+    → (eqb g f && eqb c b) ≡ false
+    → atBlock m f b h g c ≡ m g c
+block-elsewhere m f b h g c e = rw e
 
-module _ (z : Sizes) (P : ℕ → View → ℕ → Type 0) {s s′ : Service} {m : Memory} where
+pub file-here : (m : Memory) (f : ℕ) (h : History → History) (b : ℕ) → atFile m f h f b ≡ h (m f b)
+file-here m f h b = rw (eqb-same f)
+
+pub file-elsewhere :
+    (m : Memory) (f : ℕ) (h : History → History) (g b : ℕ) → eqb g f ≡ false → atFile m f h g b ≡ m g b
+file-elsewhere m f h g b e = rw e
+
+module _ (z : Sizes) (P : ℕ → View → History → Type 0) {s s′ : Service} {m : Memory} where
   pub after-file :
-      {f : ℕ} {w : ℕ → View}
+      {f : ℕ} {w : ℕ → View} {m′ : Memory}
       → Everywhere z P s m
       → FileStep z s s′ f w
-      → ((b : ℕ) → b < z .blocks → P f (w b) (m f b))
-      → Everywhere z P s′ m
-  after-file {f} {w} h p k g b hg hb =
+      → ((b : ℕ) → b < z .blocks → P f (w b) (m′ f b))
+      → ((g b : ℕ) → eqb g f ≡ false → m′ g b ≡ m g b)
+      → Everywhere z P s′ m′
+  after-file {f} {w} {m′} h p k same g b hg hb =
       split (eqb g f)
-      (λ e. subst⁻¹ (λ g. P g (viewOf z s′ g b) (m g b)) (eqb-true g f e) here)
-      (λ e. subst⁻¹ (λ v. P g v (m g b)) (p .elsewhere g b hb e) (h g b hg hb))
+      (λ e. subst⁻¹ (λ g. P g (viewOf z s′ g b) (m′ g b)) (eqb-true g f e) here)
+      (λ e. subst⁻¹ (λ v. P g v (m′ g b)) (p .elsewhere g b hb e)
+      (subst⁻¹ (λ x. P g (viewOf z s g b) x) (same g b e) (h g b hg hb)))
     where
-      here : P f (viewOf z s′ f b) (m f b)
-      here = subst⁻¹ (λ v. P f v (m f b)) (p .here b hb) (k b hb)
+      here : P f (viewOf z s′ f b) (m′ f b)
+      here = subst⁻¹ (λ v. P f v (m′ f b)) (p .here b hb) (k b hb)
 
   pub after-block :
       {f b : ℕ} {w : View} {m′ : Memory}
@@ -129,7 +141,7 @@ module _ (z : Sizes) (P : ℕ → View → ℕ → Type 0) {s s′ : Service} {m
           (subst⁻¹ (λ x. P g (viewOf z s g c) x) (same g c e) (h g c hg hc))
 
 pub after-table :
-    {z : Sizes} {Recovering : View → ℕ → (ℕ → Bool) → Row → Type 0} {s s′ : Service} {m : Memory} {t : List Row}
+    {z : Sizes} {Recovering : View → History → (ℕ → Bool) → Row → Type 0} {s s′ : Service} {m : Memory} {t : List Row}
     {reported : ℕ → Bool} {w : View → View}
     → TableStep z s s′ reported w
     → tableIn s′ .recovering ≡ true

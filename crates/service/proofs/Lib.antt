@@ -23,10 +23,13 @@ pub mod CallOrder
 pub mod Invariant
 pub mod WhileRunning
 pub mod WhileRecovering
-pub mod Consistent
 pub mod Owing
+pub mod Restart
+pub mod Consistent
+pub mod RestartCases
 pub mod NothingBehind
 pub mod Demand3
+pub mod Plain
 pub mod Reached
 pub mod Parts
 pub mod Arms
@@ -34,5 +37,6 @@ pub mod Copying
 pub mod NineFlags
 pub mod Held
 pub mod Serving
+pub mod RestartServing
 pub mod AskedKinds
 pub mod Speaking

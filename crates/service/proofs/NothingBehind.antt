@@ -14,7 +14,9 @@ use Rattle.sizes.proofs.InForce.{in-force-permitted}
 use Rattle.protocol.specs.declared.client.ClientFile.{ClientFile}
 use Rattle.protocol.specs.declared.step.Step.{Step}
 use Rattle.protocol.specs.declared.step.Step.the-variants.{Open, Close, Read, Write, Flush, Answer, Crash, Report, End}
+use Rattle.protocol.specs.declared.step.Step.the-variants.{Restart}
 use Rattle.protocol.specs.Client.{noClient}
+use Rattle.protocol.specs.Book.{History}
 use Rattle.protocol.specs.Table.{Row}
 use Rattle.protocol.proofs.Invariant.{Running, Recovering}
 use Rattle.protocol.proofs.Kept.{promises}
@@ -25,7 +27,7 @@ use Rattle.service.specs.declared.service.Service.{Service}
 use Rattle.service.specs.declared.outcome.Outcome.{Outcome}
 use Rattle.service.specs.Contents.{entryAt, clientAt, storesOf}
 use Rattle.service.specs.Fresh.{fresh}
-use Rattle.service.specs.Demand3.{refused, after, Memory, blank, fed, Recovery, none, since, recoveryAfter}
+use Rattle.service.specs.Demand3.{refused, after, Memory, blank, delays, fed, Recovery, none, since, recoveryAfter}
 use Rattle.service.specs.NothingBehind.{Owes, NothingBehind, afterSteps, NothingLeft}
 use Rattle.service.proofs.Tests.{split, conflict}
 use Rattle.service.proofs.Views.{viewOf, client-is}
@@ -33,13 +35,14 @@ use Rattle.service.proofs.BlockSteps.{read-step, write-step}
 use Rattle.service.proofs.Accepted.{Passed, testsOf, doneOf, when-accepted, refused-changes-nothing}
 use Rattle.service.proofs.Consistent.{sized, after-kept, fresh-runs, fresh-view}
 use Rattle.service.proofs.Invariant.{Sound}
+use Rattle.service.proofs.Restart.{restart-runs-owed, restart-recovers-owed}
 use Rattle.service.proofs.Owing.{Owed, block-owed, write-backs, close-owed, flush-owed, open-owed, answer-owed}
 
 module _
     {z : Sizes}
     (most : Permitted z)
-    (Running : View → ℕ → Type 0)
-    (Recovering : View → ℕ → (ℕ → Bool) → Row → Type 0)
+    (Running : View → History → Type 0)
+    (Recovering : View → History → (ℕ → Bool) → Row → Type 0)
     (promises : Promises (z .clients) Running Recovering) where
   -- what the invariant says of a client that is last writer, or marked
   owing :
@@ -118,6 +121,10 @@ module _
   accepted-owed s m r Crash h p owed = owed
   accepted-owed s m r (Report i) h p owed = owed
   accepted-owed s m r End h p owed = owed
+  accepted-owed s m none (Restart i) h (client, _) owed =
+      restart-runs-owed most (leb-false (z .clients) i client) promises h owed
+  accepted-owed s m (since t) (Restart i) h (client, _) owed =
+      restart-recovers-owed most (leb-false (z .clients) i client) promises h owed
   accepted-owed s m (since t) (Open mode i f) h (_, (_, (runs, _))) owed = conflict (h .state) runs
   accepted-owed s m (since t) (Answer i f) h (_, (_, (runs, _))) owed = conflict (h .state) runs
 
@@ -141,7 +148,7 @@ module _
       → NothingBehind (afterSteps s steps)
   left-behind s m r [] h owed = nothing-behind s m r h owed
   left-behind s m r (x ∷ steps) h owed =
-      left-behind (after s x) (fed m x (refused s x)) (recoveryAfter s r x (refused s x)) steps
+      left-behind (after s x) (fed m x (refused s x) (delays s)) (recoveryAfter s r x (refused s x)) steps
       (after-kept most Running Recovering promises s m r x h) (after-owed s m r x h owed)
 
 -- nobody is marked in the fresh service

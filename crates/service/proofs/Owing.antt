@@ -14,6 +14,7 @@ use Rattle.protocol.specs.declared.entry.Entry.{Entry}
 use Rattle.protocol.specs.declared.reply.Reply.the-variants.{Granted}
 use Rattle.protocol.specs.declared.step.Step.the-variants.{Open, Answer}
 use Rattle.protocol.specs.Entry.{callTo, callsFor, callsOut, grantOf, answeredEntry}
+use Rattle.protocol.specs.Book.{History}
 use Rattle.protocol.specs.Table.{Row, seen}
 use Rattle.protocol.proofs.Seen.{call-seen, calls-for-seen}
 use Rattle.protocol.proofs.View.{View, at, BacksAt, Backs, writtenView, closedView, settledView}
@@ -28,11 +29,11 @@ use Rattle.service.proofs.Lists.{some-counted}
 use Rattle.service.proofs.Views.{Sized, viewOf, client-is, dirty-is, at-own}
 use Rattle.service.proofs.FileTurn.{FileStep}
 use Rattle.service.proofs.FileSteps.{put, granted-step, waiting-step, closed-step, settled-step}
-use Rattle.service.proofs.FileSteps.{callAnswered-step, lastAnswered-step}
+use Rattle.service.proofs.FileSteps.{out-seen, callAnswered-step, lastAnswered-step}
 use Rattle.service.proofs.BlockSteps.{BlockStep, send-step}
 use Rattle.service.proofs.Accepted.{Passed, testsOf, doneOf}
 use Rattle.service.proofs.Invariant.{Runs}
-use Rattle.service.proofs.WhileRunning.{shows-dirty, out-seen}
+use Rattle.service.proofs.WhileRunning.{shows-dirty}
 
 -- at a client and a file, and at all of them
 abbrev pub OwedAt : Sizes → Service → ℕ → ℕ → Type 0
@@ -120,8 +121,8 @@ write-backs v i x j m = (m, stays (v .client i .opens .caching))
 module _
     {z : Sizes}
     (most : Permitted z)
-    {Running : View → ℕ → Type 0}
-    {Recovering : View → ℕ → (ℕ → Bool) → Row → Type 0}
+    {Running : View → History → Type 0}
+    {Recovering : View → History → (ℕ → Bool) → Row → Type 0}
     (promises : Promises (z .clients) Running Recovering)
     {s : Service}
     {i f : ℕ}
@@ -198,8 +199,8 @@ module _
 module _
     {z : Sizes}
     (most : Permitted z)
-    {Running : View → ℕ → Type 0}
-    {Recovering : View → ℕ → (ℕ → Bool) → Row → Type 0}
+    {Running : View → History → Type 0}
+    {Recovering : View → History → (ℕ → Bool) → Row → Type 0}
     (promises : Promises (z .clients) Running Recovering)
     {s : Service}
     {m : Memory}

@@ -16,7 +16,7 @@ use Rattle.protocol.proofs.Kept.{promises}
 use Rattle.service.specs.declared.service.Service.{Service}
 use Rattle.service.specs.Contents.{entryAt}
 use Rattle.service.specs.Fresh.{fresh}
-use Rattle.service.specs.Demand3.{refused, after, Memory, blank, fed, Recovery, none, since, recoveryAfter}
+use Rattle.service.specs.Demand3.{refused, after, Memory, blank, delays, fed, Recovery, none, since, recoveryAfter}
 use Rattle.service.specs.Demand3.{ReadIsLatest, EndRestores}
 use Rattle.service.specs.NothingBehind.{NothingBehind}
 use Rattle.service.proofs.Views.{Sized}
@@ -41,7 +41,7 @@ module _ (z : Sizes) where
 
   module _ (s : Service) (m : Memory) (r : Recovery) (h : Reached s m r) where
     pub reached-after :
-        (x : Step) → Reached (after s x) (fed m x (refused s x)) (recoveryAfter s r x (refused s x))
+        (x : Step) → Reached (after s x) (fed m x (refused s x) (delays s)) (recoveryAfter s r x (refused s x))
     reached-after x =
         after-kept (in-force-permitted z) (Running (inForce z .clients)) (Recovering (inForce z .clients)) kept-promises
         s m r x h

@@ -9,6 +9,7 @@ use Rattle.protocol.specs.declared.reply.Reply.{Reply}
 use Rattle.decision.specs.declared.state.FileState.{FileState}
 use Rattle.protocol.specs.declared.step.Step.{Step}
 use Rattle.protocol.specs.declared.step.Step.the-variants.{Open, Close, Read, Write, Flush, Answer, Crash, Report, End}
+use Rattle.protocol.specs.declared.step.Step.the-variants.{Restart}
 use Rattle.sizes.specs.Sizes.{defaultSizes}
 use Rattle.records.specs.Version.{versionOf}
 use Rattle.decision.specs.State.{stateOf}
@@ -56,6 +57,9 @@ RP i = Report i
 
 abbrev pub EN : Step
 EN = End
+
+abbrev pub BT : ℕ → Step
+BT i = Restart i
 
 -- G latest previous permission
 abbrev pub grant : ℕ → ℕ → Grant

@@ -24,7 +24,7 @@ use Rattle.protocol.specs.declared.step.Step.{Step}
 use Rattle.protocol.specs.declared.step.Step.the-variants.{Crash}
 use Rattle.protocol.specs.Client.{sideOf}
 use Rattle.protocol.specs.Entry.{crashedEntry}
-use Rattle.protocol.specs.Reply.{letterOf, isRefused, noCalls}
+use Rattle.protocol.specs.Reply.{letterOf, isRefused, noCalls, noGrants}
 use Rattle.protocol.specs.Step.{classOf}
 use Rattle.blocks.specs.Stores.{Stores, lent}
 use Rattle.access.specs.BlockStep.{blockStep}
@@ -50,7 +50,7 @@ use Rattle.service.specs.declared.service.Service.{Service}
 use Rattle.service.specs.declared.outcome.Outcome.{Outcome}
 use Rattle.service.specs.Contents.{tableIn, fileAt, withFile, clientAt, reportedAt}
 use Rattle.service.specs.Step.{stepOf, fileOutcome}
-use Rattle.service.specs.Lent.{lentFlags, recoveringHeld, reportedHeld, serviceHeld, isSide, mayChange, isOnTable, Keeps}
+use Rattle.service.specs.Lent.{lentFlags, recoveringHeld, reportedHeld, serviceHeld, isSide, mayChange, mayReport, Keeps}
 use Rattle.service.specs.Served.{Serves, SweptBy}
 use Rattle.service.proofs.Arms.Result.{file-result, block-result, table-result}
 use Rattle.service.proofs.NineFlags.{same-flags}
@@ -60,7 +60,9 @@ outcome-as :
     → s ≡ s′
     → r ≡ r′
     → k ≡ k′
-    → _≡_ {A = Outcome} (record { service = s; reply = r; calls = k }) (record { service = s′; reply = r′; calls = k′ })
+    → _≡_ {A = Outcome}
+    (record { service = s; reply = r; calls = k; grants = noGrants })
+    (record { service = s′; reply = r′; calls = k′; grants = noGrants })
 outcome-as s s′ r r′ k k′ a b c = rw (a, b, c)
 
 -- a file put into its row is put into the service
@@ -229,7 +231,7 @@ module _
                   λ g k there below stays.
                   let (low, high) = is-side k (ap (λ (class : Class). mayChange class g k) (sym class) ∙ stays) in
                   done .rows .sides g k low high;
-              reports = λ e. conflict refl (ap isOnTable (sym class) ∙ e);
+              reports = λ e. conflict refl (ap mayReport (sym class) ∙ e);
             };
       }
 

@@ -9,29 +9,31 @@ use lib.ListN.{length}
 use borrow.Author.Tests.{lt-ltb, le-ltb}
 use Rattle.sizes.specs.declared.sizes.Sizes.{Sizes}
 use Rattle.sizes.specs.Sizes.{inForce}
-use Rattle.sizes.proofs.Choosing.{split, when, unless}
+use Rattle.sizes.proofs.Choosing.{split, conflict, when, unless}
 use Rattle.protocol.specs.declared.reply.Reply.{Reply}
 use Rattle.protocol.specs.declared.reply.Reply.the-variants.{Refused}
-use Rattle.protocol.specs.Reply.{letterOf, noCalls}
+use Rattle.protocol.specs.declared.reply.Granting.{Granting}
+use Rattle.protocol.specs.Reply.{letterOf, noCalls, noGrants}
 use Rattle.protocol.specs.declared.step.Numbers.{Numbers}
 use Rattle.protocol.specs.declared.step.Step.{Step}
 use Rattle.protocol.specs.Step.{kinds, numbersOf, stepAsked}
 use Rattle.protocol.proofs.Numbers.{asked-back, kind-low}
 use Rattle.blocks.specs.Stores.{Stores}
-use Rattle.words.specs.Said.{calls?, replySaid, callsSaid, SaysIn}
+use Rattle.words.specs.Said.{calls?, replySaid, callsSaid, grantsSaid, SaysIn}
 use Rattle.service.specs.declared.service.Service.{Service}
 use Rattle.service.specs.declared.outcome.Outcome.{Outcome}
 use Rattle.service.specs.Step.{stepOf}
 use Rattle.service.specs.Lent.{serviceHeld, outcomeAsked, Keeps, Stepped}
-use Rattle.service.specs.Served.{Serves}
+use Rattle.service.specs.Served.{Serves, ServesAll}
+use Rattle.protocol.specs.declared.step.Step.the-variants.{Restart}
 
 -- the calls are read back: those that went out, or none
 calls-back :
-    (words₀ words : List ℕ) (said : ℕ) (reply : Reply) (calls : List ℕ)
-    → SaysIn words₀ said words reply calls
+    (words₀ words : List ℕ) (said : ℕ) (reply : Reply) (calls : List ℕ) (grants : List Granting)
+    → SaysIn words₀ said words reply calls grants
     → (calls? (letterOf reply) ≡ false → calls ≡ noCalls)
     → callsSaid said words ≡ calls
-calls-back words₀ words said reply calls s quiet =
+calls-back words₀ words said reply calls grants s quiet =
     let same : calls? (said % 256) ≡ calls? (letterOf reply) = ap calls? (s .says .letter) in
     split (calls? (letterOf reply))
     (λ e. when _ _ (same ∙ e) ∙ s .says .called e)
@@ -51,7 +53,7 @@ module _ (given : Sizes) (kind i f b v : ℕ) (t₀ : List ℕ) (flags₀ : List
       → length t ≡ length t₀
       → length flags ≡ length flags₀
       → serviceHeld given t flags a ≡ o .service
-      → SaysIn words₀ said words (o .reply) (o .calls)
+      → SaysIn words₀ said words (o .reply) (o .calls) (o .grants)
       → (calls? (letterOf (o .reply)) ≡ false → o .calls ≡ noCalls)
       → Keeps (stepAsked kind i f b v) (o .reply) t₀ flags₀ t flags
       → Stepped given kind i f b v t₀ flags₀ a₀ words₀ t flags a words said
@@ -62,19 +64,19 @@ module _ (given : Sizes) (kind i f b v : ℕ) (t₀ : List ℕ) (flags₀ : List
         wordsLong = says .long;
         short = says .short;
         service = service ∙ sym (ap (λ (o : Outcome). o .service) is);
-        says = subst⁻¹ (λ (o : Outcome). SaysIn words₀ said words (o .reply) (o .calls)) is says;
-        calls = calls-back words₀ words said (o .reply) (o .calls) says quiet ∙ sym (ap (λ (o : Outcome). o .calls) is);
+        says = subst⁻¹ (λ (o : Outcome). SaysIn words₀ said words (o .reply) (o .calls) (o .grants)) is says;
+        calls = calls-back words₀ words said (o .reply) (o .calls) (o .grants) says quiet ∙ sym (ap (λ (o : Outcome). o .calls) is);
         keeps = subst⁻¹ (λ (o : Outcome). Keeps (stepAsked kind i f b v) (o .reply) t₀ flags₀ t flags) is keeps;
       }
 
   -- a kind that is none
   pub stepped-none :
       (words : List ℕ) (said : ℕ)
-      → 10 < kind
-      → SaysIn words₀ said words (Refused 1) noCalls
+      → 11 < kind
+      → SaysIn words₀ said words (Refused 1) noCalls noGrants
       → Stepped given kind i f b v t₀ flags₀ a₀ words₀ t₀ flags₀ a₀ words said
   stepped-none words said past says =
-      said-of (record { service = came; reply = Refused 1; calls = noCalls }) t₀ flags₀ a₀ words said
+      said-of (record { service = came; reply = Refused 1; calls = noCalls; grants = noGrants }) t₀ flags₀ a₀ words said
       (unless _ _ (le-ltb _ _ past))
       refl refl refl says
       (λ e. refl)
@@ -85,10 +87,10 @@ module _ (given : Sizes) (kind i f b v : ℕ) (t₀ : List ℕ) (flags₀ : List
       → kind ≤ 10
       → sizes ≡ inForce given
       → Serves sizes (stepAsked kind i f b v) t₀ flags₀ a₀ t flags a reply calls
-      → SaysIn words₀ said words reply calls
+      → SaysIn words₀ said words reply calls noGrants
       → Stepped given kind i f b v t₀ flags₀ a₀ words₀ t flags a words said
   stepped-step sizes t flags a words said reply calls known force serves says =
-      said-of (record { service = serviceHeld given t flags a; reply = reply; calls = calls }) t flags a words said
+      said-of (record { service = serviceHeld given t flags a; reply = reply; calls = calls; grants = noGrants }) t flags a words said
       (when _ _ (lt-ltb kind kinds (omega arith)) ∙ sym (serves .taken given force))
       (serves .long)
       (serves .flagsLong)
@@ -96,6 +98,31 @@ module _ (given : Sizes) (kind i f b v : ℕ) (t₀ : List ℕ) (flags₀ : List
       says
       (serves .quiet)
       (serves .keeps)
+
+-- ---- a step on all files
+
+pub stepped-all :
+    (given : Sizes) (i f b v : ℕ) (t₀ : List ℕ) (flags₀ : List Bool) (a₀ : Stores) (words₀ : List ℕ) (sizes : Sizes)
+    (t : List ℕ) (flags : List Bool) (a : Stores) (words : List ℕ) (said : ℕ)
+    (kind : ℕ)
+    → kind ≡ 11
+    → sizes ≡ inForce given
+    → ServesAll sizes (Restart i) t₀ flags₀ a₀ words₀ t flags a words said
+    → Stepped given kind i f b v t₀ flags₀ a₀ words₀ t flags a words said
+stepped-all given i f b v t₀ flags₀ a₀ words₀ sizes t flags a words said kind is force serves =
+    subst⁻¹ (λ k. Stepped given k i f b v t₀ flags₀ a₀ words₀ t flags a words said) is
+    (said-of given 11 i f b v t₀ flags₀ a₀ words₀ (stepOf (serviceHeld given t₀ flags₀ a₀) (Restart i)) t flags a words said
+    refl
+    (serves .long)
+    (serves .flagsLong)
+    (serves .service given force)
+    (serves .says given force)
+    (λ e. serves .silent given force)
+    (record {
+      refused = serves .refused given force;
+      words = λ g k there below stays. conflict refl stays;
+      reports = λ e. conflict refl e;
+    }))
 
 -- ---- a step that is given as a value
 
@@ -116,7 +143,12 @@ pub stepped-outcome :
     → n ≡ numbersOf x
     → Stepped given (n .kind) (n .client) (n .file) (n .block) (n .value) t₀ flags₀ a₀ words₀ t flags a words said
     → _≡_ {A = Outcome}
-    (record { service = serviceHeld given t flags a; reply = replySaid said words; calls = callsSaid said words })
+    (record {
+      service = serviceHeld given t flags a;
+      reply = replySaid said words;
+      calls = callsSaid said words;
+      grants = grantsSaid said words;
+    })
     (stepOf (serviceHeld given t₀ flags₀ a₀) x)
 stepped-outcome given x n t₀ flags₀ a₀ words₀ t flags a words said is s =
-    rw (s .service, s .says .says .back, s .calls) (asked-outcome (serviceHeld given t₀ flags₀ a₀) x n is)
+    rw (s .service, s .says .says .back, s .calls, s .says .says .granted) (asked-outcome (serviceHeld given t₀ flags₀ a₀) x n is)

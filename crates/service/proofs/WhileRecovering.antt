@@ -14,6 +14,7 @@ use Rattle.protocol.specs.declared.client.ClientFile.{ClientFile}
 use Rattle.protocol.specs.declared.step.Step.the-variants.{Read, Write, Crash, Report, End}
 use Rattle.protocol.specs.Client.{readNeedsServer, writeNeedsServer}
 use Rattle.protocol.specs.Entry.{waits}
+use Rattle.protocol.specs.Book.{History, latest, wrote}
 use Rattle.protocol.specs.Table.{Row, rowOf, seen}
 use Rattle.protocol.proofs.View.{View, writtenView}
 use Rattle.protocol.proofs.Promises.{Promises}
@@ -21,7 +22,7 @@ use Rattle.blocks.specs.Stores.{valueRead, readStores}
 use Rattle.table.specs.TableStep.{noEntry}
 use Rattle.service.specs.declared.service.Service.{Service}
 use Rattle.service.specs.Contents.{tableIn, entryAt, blockAt, reportedAt, clientAt, heldAt, storesOf, withStores}
-use Rattle.service.specs.Demand3.{Memory, written, tableOf, NoOpenWaits}
+use Rattle.service.specs.Demand3.{Memory, atBlock, delays, tableOf, NoOpenWaits}
 use Rattle.service.proofs.Tests.{conflict}
 use Rattle.service.proofs.Lists.{count-none}
 use Rattle.service.proofs.Views.{inside, viewOf, reportsOf, client-is, held-is, value-is}
@@ -30,7 +31,7 @@ use Rattle.service.proofs.TableSteps.{crash-step, report-step, end-step
 use Rattle.service.proofs.Accepted.{Passed, testsOf, doneOf}
 use Rattle.service.proofs.Invariant.{rowIn, table-length, row-is, Runs, InRecovery, Recovers, after-block}
 use Rattle.service.proofs.Invariant.{after-table}
-use Rattle.service.proofs.Invariant.{written-here, written-elsewhere}
+use Rattle.service.proofs.Invariant.{block-here, block-elsewhere}
 
 -- a step that is not cut off in recovery does not need the server
 own-step :
@@ -72,8 +73,8 @@ unfetched s caching i f b e =
 module _
     {z : Sizes}
     (most : Permitted z)
-    {Running : View → ℕ → Type 0}
-    {Recovering : View → ℕ → (ℕ → Bool) → Row → Type 0}
+    {Running : View → History → Type 0}
+    {Recovering : View → History → (ℕ → Bool) → Row → Type 0}
     (promises : Promises (z .clients) Running Recovering)
     {s : Service}
     {m : Memory}
@@ -82,7 +83,7 @@ module _
   pub read-kept :
       (i f b : ℕ)
       → Passed (testsOf z s (Read i f b))
-      → (valueRead (clientAt s i f .opens .caching) i f b (storesOf s) ≡ m f b)
+      → (valueRead (clientAt s i f .opens .caching) i f b (storesOf s) ≡ latest (m f b))
       × Recovers z Recovering (doneOf z s (Read i f b) .service) m t
   read-kept i f b (client, (file, (block, (cut, _)))) =
       let hi : i < z .clients = leb-false (z .clients) i client in
@@ -102,7 +103,7 @@ module _
   pub write-kept :
       (i f b v : ℕ)
       → Passed (testsOf z s (Write i f b v))
-      → Recovers z Recovering (doneOf z s (Write i f b v) .service) (written m f b v) t
+      → Recovers z Recovering (doneOf z s (Write i f b v) .service) (atBlock m f b (wrote i v (delays s i f))) t
   write-kept i f b v (client, (file, (block, (cut, _)))) =
       let hi : i < z .clients = leb-false (z .clients) i client in
       let hf : f < z .files = leb-false (z .files) f file in
@@ -112,14 +113,18 @@ module _
       let own′ = subst (λ c. writeNeedsServer c ≡ false) (client-is z s f b hi) own in
       let p = write-step most (r .sized) hi hf hb v in
       let s′ : Service = doneOf z s (Write i f b v) .service in
-      let m′ : Memory = written m f b v in
+      let noted : History → History = wrote i v (delays s i f) in
+      let m′ : Memory = atBlock m f b noted in
+      let same : noted (m f b) ≡ wrote i v (viewOf z s f b .client i .opens .caching) (m f b) =
+      ap (λ (c : ClientFile). wrote i v (c .opens .caching) (m f b)) (client-is z s f b hi) in
       let before = r .views f b hf hb in
       let kept = promises .writesOwn (viewOf z s f b) (m f b) i v (reportsOf z s) (rowIn z t f) before hi own′ in
       let here : Recovering (writtenView (viewOf z s f b) i v) (m′ f b) (reportsOf z s) (rowIn z t f) =
-      rw (written-here m f b v) kept in
+      subst⁻¹ (λ k. Recovering (writtenView (viewOf z s f b) i v) k (reportsOf z s) (rowIn z t f))
+      (block-here m f b noted ∙ same) kept in
       let views : InRecovery z Recovering (reportsOf z s) t s′ m′ =
       after-block z (λ g w k. Recovering w k (reportsOf z s) (rowIn z t g)) (r .views) p here
-      (written-elsewhere m f b v) in
+      (block-elsewhere m f b noted) in
       record {
         sized = p .sized;
         state = p .recovering ∙ r .state;

@@ -14,37 +14,28 @@ use Rattle.protocol.specs.declared.entry.Entry.{Entry}
 use Rattle.protocol.specs.declared.reply.Reply.the-variants.{Granted}
 use Rattle.protocol.specs.declared.step.Step.the-variants.{Open, Close, Read, Write, Flush, Answer, Crash}
 use Rattle.protocol.specs.Entry.{callTo, callsFor, callsOut, grantOf, answeredEntry}
+use Rattle.protocol.specs.Book.{History, latest, wrote, came}
 use Rattle.protocol.specs.Table.{Row, seen}
-use Rattle.protocol.proofs.Seen.{call-seen, calls-out-seen, calls-for-seen, answered-seen}
-use Rattle.protocol.proofs.View.{View, writtenView, crashedView}
+use Rattle.protocol.proofs.Seen.{call-seen, calls-for-seen}
+use Rattle.protocol.proofs.View.{View, writtenView, sentView, crashedView}
 use Rattle.protocol.proofs.Promises.{Promises}
 use Rattle.blocks.specs.Stores.{anyDirty, flushedStores, valueRead}
 use Rattle.file.specs.FileStep.{FileAfter}
 use Rattle.service.specs.declared.service.Service.{Service}
 use Rattle.service.specs.Contents.{entryAt, clientAt, dirtyAt, storesOf, withStores}
-use Rattle.service.specs.Demand3.{Memory, written, tableOf}
+use Rattle.service.specs.Demand3.{Memory, atBlock, atFile, delays, tableOf}
 use Rattle.service.proofs.Tests.{either}
 use Rattle.service.proofs.Lists.{count-some}
 use Rattle.service.proofs.Views.{viewOf, client-is, dirty-is, value-is}
 use Rattle.service.proofs.FileTurn.{FileStep}
 use Rattle.service.proofs.FileSteps.{put, granted-step, waiting-step, closed-step, settled-step}
-use Rattle.service.proofs.FileSteps.{callAnswered-step, lastAnswered-step}
+use Rattle.service.proofs.FileSteps.{out-seen, callAnswered-step, lastAnswered-step}
 use Rattle.service.proofs.BlockSteps.{BlockStep, read-step, write-step, send-step}
 use Rattle.service.proofs.TableSteps.{crash-step}
 use Rattle.service.proofs.Accepted.{Passed, testsOf, doneOf}
 use Rattle.service.proofs.Invariant.{rowIn, table-length, row-is, Runs, Recovers, after-file, after-block}
 use Rattle.service.proofs.Invariant.{after-table}
-use Rattle.service.proofs.Invariant.{written-here, written-elsewhere}
-
--- the calls that are out once client i has answered its own: those of the entry are those of the seen part
-pub out-seen :
-    (n : ℕ) (e : Entry) (i : ℕ)
-    → i < n
-    → callsOut n (answeredEntry (seen n e) i (callTo n (seen n e) i)) ≡ callsOut n (answeredEntry e i (callTo n e i))
-out-seen n e i below =
-    ap (λ k. callsOut n (answeredEntry (seen n e) i k)) (call-seen n e i below)
-    ∙ ap (callsOut n) (sym (answered-seen n e i below (callTo n e i)))
-    ∙ calls-out-seen n (answeredEntry e i (callTo n e i))
+use Rattle.service.proofs.Invariant.{block-here, block-elsewhere, file-here, file-elsewhere}
 
 -- a dirty block that a view shows is one of the file's dirty blocks
 pub shows-dirty :
@@ -59,23 +50,31 @@ shows-dirty z s {i} f b hi hb d =
 module _
     {z : Sizes}
     (most : Permitted z)
-    {Running : View → ℕ → Type 0}
-    {Recovering : View → ℕ → (ℕ → Bool) → Row → Type 0}
+    {Running : View → History → Type 0}
+    {Recovering : View → History → (ℕ → Bool) → Row → Type 0}
     (promises : Promises (z .clients) Running Recovering)
     {s : Service}
     {m : Memory}
     (r : Runs z Running s m) where
+  file-changed :
+      {s′ : Service} {f : ℕ} {w : ℕ → View} {m′ : Memory}
+      → FileStep z s s′ f w
+      → ((b : ℕ) → b < z .blocks → Running (w b) (m′ f b))
+      → ((g b : ℕ) → eqb g f ≡ false → m′ g b ≡ m g b)
+      → Runs z Running s′ m′
+  file-changed p k same =
+      record {
+        sized = p .sized;
+        state = p .recovering ∙ r .state;
+        views = after-file z (λ f v x. Running v x) (r .views) p k same;
+      }
+
   file-kept :
       {s′ : Service} {f : ℕ} {w : ℕ → View}
       → FileStep z s s′ f w
       → ((b : ℕ) → b < z .blocks → Running (w b) (m f b))
       → Runs z Running s′ m
-  file-kept p k =
-      record {
-        sized = p .sized;
-        state = p .recovering ∙ r .state;
-        views = after-file z (λ f v x. Running v x) (r .views) p k;
-      }
+  file-kept p k = file-changed p k (λ _ _ _. refl)
 
   pub open-kept :
       (mode : Mode) (i f : ℕ)
@@ -113,7 +112,9 @@ module _
       (shows-dirty z s f b hi hb))
 
   pub answer-kept :
-      (i f : ℕ) → Passed (testsOf z s (Answer i f)) → Runs z Running (doneOf z s (Answer i f) .service) m
+      (i f : ℕ)
+      → Passed (testsOf z s (Answer i f))
+      → Runs z Running (doneOf z s (Answer i f) .service) (atFile m f (came i))
   answer-kept i f (client, (file, (_, (called, _)))) =
       let n = z .clients in
       let e : Entry = entryAt s f in
@@ -121,14 +122,19 @@ module _
       let hf : f < z .files = leb-false (z .files) f file in
       let called′ : eqb (callTo n (seen n e) i) 0 ≡ false = ap (λ k. eqb k 0) (call-seen n e i hi) ∙ called in
       let out : _ = ap (λ k. eqb k 0) (out-seen n e i hi) in
-      either (λ (o : FileAfter). Runs z Running (put s f o) m) (eqb (callsOut n (answeredEntry e i (callTo n e i))) 0)
+      let here : (w : View) (b : ℕ) → Running w (came i (m f b)) → Running w (atFile m f (came i) f b) =
+      λ w b k. subst⁻¹ (Running w) (file-here m f (came i) b) k in
+      either (λ (o : FileAfter). Runs z Running (put s f o) (atFile m f (came i)))
+      (eqb (callsOut n (answeredEntry e i (callTo n e i))) 0)
       (λ none.
       let granted : (b : ℕ) → b < z .blocks → _ =
       λ b hb. promises .answersLast (viewOf z s f b) (m f b) i (r .views f b hf hb) hi called′ (out ∙ none) in
-      file-kept (lastAnswered-step most (r .sized) hi hf (granted 0 (most .someBlock) .0)) (λ b hb. granted b hb .1))
+      file-changed (lastAnswered-step most (r .sized) hi hf (granted 0 (most .someBlock) .0))
+      (λ b hb. here _ b (granted b hb .1)) (file-elsewhere m f (came i)))
       (λ some.
-      file-kept (callAnswered-step most (r .sized) hi hf)
-      (λ b hb. promises .answers (viewOf z s f b) (m f b) i (r .views f b hf hb) hi called′ (out ∙ some)))
+      file-changed (callAnswered-step most (r .sized) hi hf)
+      (λ b hb. here _ b (promises .answers (viewOf z s f b) (m f b) i (r .views f b hf hb) hi called′ (out ∙ some)))
+      (file-elsewhere m f (came i)))
 
   -- ---- read, write and flush
 
@@ -149,7 +155,7 @@ module _
   pub read-kept :
       (i f b : ℕ)
       → Passed (testsOf z s (Read i f b))
-      → (valueRead (clientAt s i f .opens .caching) i f b (storesOf s) ≡ m f b)
+      → (valueRead (clientAt s i f .opens .caching) i f b (storesOf s) ≡ latest (m f b))
       × Runs z Running (doneOf z s (Read i f b) .service) m
   read-kept i f b (client, (file, (block, (_, (opens, _))))) =
       let hi : i < z .clients = leb-false (z .clients) i client in
@@ -164,29 +170,34 @@ module _
   pub write-kept :
       (i f b v : ℕ)
       → Passed (testsOf z s (Write i f b v))
-      → Runs z Running (doneOf z s (Write i f b v) .service) (written m f b v)
+      → Runs z Running (doneOf z s (Write i f b v) .service) (atBlock m f b (wrote i v (delays s i f)))
   write-kept i f b v (client, (file, (block, (_, (opens, _))))) =
       let hi : i < z .clients = leb-false (z .clients) i client in
       let hf : f < z .files = leb-false (z .files) f file in
       let hb : b < z .blocks = leb-false (z .blocks) b block in
       let opens′ = subst (λ (c : ClientFile). eqb (c .opens .writers) 0 ≡ false) (client-is z s f b hi) opens in
-      let here : Running (writtenView (viewOf z s f b) i v) (written m f b v f b) =
-      rw (written-here m f b v) (promises .writes (viewOf z s f b) (m f b) i v (r .views f b hf hb) hi opens′) in
-      block-kept (write-step most (r .sized) hi hf hb v) here (written-elsewhere m f b v)
+      let noted : History → History = wrote i v (delays s i f) in
+      let same : noted (m f b) ≡ wrote i v (viewOf z s f b .client i .opens .caching) (m f b) =
+      ap (λ (c : ClientFile). wrote i v (c .opens .caching) (m f b)) (client-is z s f b hi) in
+      let here : Running (writtenView (viewOf z s f b) i v) (atBlock m f b noted f b) =
+      subst⁻¹ (Running (writtenView (viewOf z s f b) i v)) (block-here m f b noted ∙ same)
+      (promises .writes (viewOf z s f b) (m f b) i v (r .views f b hf hb) hi opens′) in
+      block-kept (write-step most (r .sized) hi hf hb v) here (block-elsewhere m f b noted)
 
   -- a flush first sends its block
   send-kept :
       (i f b : ℕ)
       → Passed (testsOf z s (Flush i f b))
-      → Runs z Running (withStores s (flushedStores i f b (storesOf s))) m
+      → Runs z Running (withStores s (flushedStores i f b (storesOf s))) (atBlock m f b (came i))
   send-kept i f b (client, (file, (block, (_, (clean, _))))) =
       let hi : i < z .clients = leb-false (z .clients) i client in
       let hf : f < z .files = leb-false (z .files) f file in
       let hb : b < z .blocks = leb-false (z .blocks) b block in
       block-kept (send-step most (r .sized) hi hf hb)
+      (subst⁻¹ (Running (sentView (viewOf z s f b) i)) (block-here m f b (came i))
       (promises .sends (viewOf z s f b) (m f b) i (r .views f b hf hb) hi
-      (sym (dirty-is z s f b hi) ∙ not-false (dirtyAt s i f b) clean))
-      (λ g c e. refl)
+      (sym (dirty-is z s f b hi) ∙ not-false (dirtyAt s i f b) clean)))
+      (block-elsewhere m f b (came i))
 
   -- ---- crash
 
@@ -207,14 +218,14 @@ module _
 pub flush-kept :
     {z : Sizes}
     → Permitted z
-    → {Running : View → ℕ → Type 0}
-    → {Recovering : View → ℕ → (ℕ → Bool) → Row → Type 0}
+    → {Running : View → History → Type 0}
+    → {Recovering : View → History → (ℕ → Bool) → Row → Type 0}
     → Promises (z .clients) Running Recovering
     → {s : Service} {m : Memory}
     → Runs z Running s m
     → (i f b : ℕ)
     → Passed (testsOf z s (Flush i f b))
-    → Runs z Running (doneOf z s (Flush i f b) .service) m
+    → Runs z Running (doneOf z s (Flush i f b) .service) (atBlock m f b (came i))
 flush-kept {z} most promises {s} {m} r i f b passed =
     let hi : i < z .clients = leb-false (z .clients) i (passed .0) in
     let hf : f < z .files = leb-false (z .files) f (passed .1 .0) in
@@ -222,4 +233,4 @@ flush-kept {z} most promises {s} {m} r i f b passed =
     let sent = send-kept most promises r i f b passed in
     let left = anyDirty (z .blocks) i f (storesOf s′) in
     file-kept most promises sent (settled-step most (sent .sized) hi hf left)
-    (λ c hc. promises .settles (viewOf z s′ f c) (m f c) i left (sent .views f c hf hc) hi (shows-dirty z s′ f c hi hc))
+    (λ c hc. promises .settles (viewOf z s′ f c) (atBlock m f b (came i) f c) i left (sent .views f c hf hc) hi (shows-dirty z s′ f c hi hc))

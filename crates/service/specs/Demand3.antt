@@ -1,5 +1,6 @@
--- Demand 3, over whole lists of steps: every accepted read gives the latest accepted write, and every accepted end of
--- recovery gives back the table that was held just before the crash that began the recovery.
+-- Demand 3, over whole lists of steps: every accepted read gives the latest accepted write that is not lost, and every
+-- accepted end of recovery gives back the table that was held just before the crash that began the recovery, without the
+-- clients that have restarted since.
 use Prim.Native.Nat.{ℕ, _<_}
 use mathlib.Core.Path.{_≡_}
 use mathlib.Core.Bool.{Bool, false, cond, _&&_}
@@ -9,12 +10,14 @@ use lib.ListN.{take}
 use Rattle.protocol.specs.declared.reply.Reply.the-variants.{Value}
 use Rattle.protocol.specs.declared.step.Step.{Step}
 use Rattle.protocol.specs.declared.step.Step.the-variants.{Open, Close, Read, Write, Flush, Answer, Crash, Report, End}
+use Rattle.protocol.specs.declared.step.Step.the-variants.{Restart}
 use Rattle.sizes.specs.declared.sizes.Sizes.{Sizes}
 use Rattle.protocol.specs.Reply.{isRefused}
 use Rattle.protocol.specs.Entry.{waits}
-use Rattle.protocol.specs.Table.{Row, rowOf, seen}
+use Rattle.protocol.specs.Book.{History, latest, wrote, came, lost}
+use Rattle.protocol.specs.Table.{Row, rowOf, seen, without}
 use Rattle.service.specs.declared.service.Service.{Service}
-use Rattle.service.specs.Contents.{sizesOf, tableIn, entryAt}
+use Rattle.service.specs.Contents.{sizesOf, tableIn, entryAt, clientAt}
 use Rattle.service.specs.Step.{stepOf}
 use Rattle.service.specs.Fresh.{fresh}
 
@@ -25,28 +28,39 @@ refused s x = isRefused (stepOf s x .reply)
 abbrev pub after : Service → Step → Service
 after s x = stepOf s x .service
 
--- The reference memory (document 01: the plain book): "one number for each file and block, 0 at first".
+-- The reference memory (document 01: the plain book): for each file and block the accepted writes that are not lost.
 abbrev pub Memory : Type 0
-Memory = ℕ → ℕ → ℕ
+Memory = ℕ → ℕ → History
 
 abbrev pub blank : Memory
-blank f b = 0
+blank f b = []
 
-abbrev pub written : Memory → ℕ → ℕ → ℕ → Memory
-written m f b v f′ b′ = cond (eqb f′ f && eqb b′ b) v (m f′ b′)
+-- the memory with another history of block b of file f, or of every block of file f
+abbrev pub atBlock : Memory → ℕ → ℕ → (History → History) → Memory
+atBlock m f b change f′ b′ = cond (eqb f′ f && eqb b′ b) (change (m f′ b′)) (m f′ b′)
 
--- "An accepted write sets the number of its file and block to its value, whichever station writes. Every other step,
--- and every refused one, leaves the book as it is."
-abbrev pub fed : Memory → Step → Bool → Memory
-fed m (Open mode i f) refusal = m
-fed m (Close mode i f) refusal = m
-fed m (Read i f b) refusal = m
-fed m (Write i f b v) refusal = cond refusal m (written m f b v)
-fed m (Flush i f b) refusal = m
-fed m (Answer i f) refusal = m
-fed m Crash refusal = m
-fed m (Report i) refusal = m
-fed m End refusal = m
+abbrev pub atFile : Memory → ℕ → (History → History) → Memory
+atFile m f change f′ b′ = cond (eqb f′ f) (change (m f′ b′)) (m f′ b′)
+
+-- whether a write of client i to file f is delayed: the client may cache, so that the write stays in its copy
+abbrev pub delays : Service → ℕ → ℕ → Bool
+delays s i f = clientAt s i f .opens .caching
+
+-- An accepted write stands first in the history of its block, whichever client writes; it is at risk where it is
+-- delayed. An accepted flush makes the client's writes to the block safe, an accepted answer those to the file. At a
+-- restart "Its writes to a block since it was last clean there are lost" (document 02, Wish 8): those at risk. "Every other
+-- step, and every refused one, leaves the book as it is."
+abbrev pub fed : Memory → Step → Bool → (ℕ → ℕ → Bool) → Memory
+fed m (Open mode i f) refusal delayed = m
+fed m (Close mode i f) refusal delayed = m
+fed m (Read i f b) refusal delayed = m
+fed m (Write i f b v) refusal delayed = cond refusal m (atBlock m f b (wrote i v (delayed i f)))
+fed m (Flush i f b) refusal delayed = cond refusal m (atBlock m f b (came i))
+fed m (Answer i f) refusal delayed = cond refusal m (atFile m f (came i))
+fed m Crash refusal delayed = m
+fed m (Report i) refusal delayed = m
+fed m End refusal delayed = m
+fed m (Restart i) refusal delayed = cond refusal m (λ f b. lost i (m f b))
 
 -- the state table of the service: a row for each file, with a record for each client
 abbrev pub tableOf : Service → List Row
@@ -65,6 +79,11 @@ abbrev pub begun : Service → Recovery → Recovery
 begun s none = since (tableOf s)
 begun s (since t) = since t
 
+-- "The recovered table is the one at the crash without that station" (the same)
+abbrev pub withoutClient : ℕ → Recovery → Recovery
+withoutClient i none = none
+withoutClient i (since t) = since (map (without i) t)
+
 abbrev pub recoveryAfter : Service → Recovery → Step → Bool → Recovery
 recoveryAfter s r (Open mode i f) refusal = r
 recoveryAfter s r (Close mode i f) refusal = r
@@ -75,11 +94,13 @@ recoveryAfter s r (Answer i f) refusal = r
 recoveryAfter s r Crash refusal = begun s r
 recoveryAfter s r (Report i) refusal = r
 recoveryAfter s r End refusal = cond refusal r none
+recoveryAfter s r (Restart i) refusal = cond refusal r (withoutClient i r)
 
--- "Every accepted read gives the number that the book has for its file and block just before that read."
+-- "Every accepted read gives the number that the book has for its file and block just before that read"; "a reader then
+-- gets the latest write not lost".
 abbrev pub ReadIsLatest : Service → Memory → Step → Type 0
 ReadIsLatest s m x =
-    (i f b : ℕ) → x ≡ Read i f b → refused s x ≡ false → stepOf s x .reply ≡ Value (m f b)
+    (i f b : ℕ) → x ≡ Read i f b → refused s x ≡ false → stepOf s x .reply ≡ Value (latest (m f b))
 
 -- "After that end the table equals the one just before the crash that began the recovery, and no open waits."
 abbrev pub EndRestores : Service → Recovery → Step → Type 0
@@ -92,7 +113,7 @@ Holds s m r [] = Unit {0}
 Holds s m r (x ∷ xs) =
     ReadIsLatest s m x
     × EndRestores s r x
-    × Holds (after s x) (fed m x (refused s x)) (recoveryAfter s r x (refused s x)) xs
+    × Holds (after s x) (fed m x (refused s x) (delays s)) (recoveryAfter s r x (refused s x)) xs
 
 -- For every list of steps, from the service s on: no reference memory written yet, no recovery under way.
 pub record Consistent (s : Service) : Type 0 where

@@ -10,9 +10,9 @@ use Rattle.sizes.specs.Sizes.{maxClients, maxFiles}
 use Rattle.protocol.specs.declared.reply.Reply.{Reply}
 use Rattle.protocol.specs.declared.reply.Reply.the-variants.{Refused}
 use Rattle.protocol.specs.Step.{Class}
-use Rattle.protocol.specs.Step.{OnFile, OnBlock, OnTable}
+use Rattle.protocol.specs.Step.{OnFile, OnBlock, OnTable, OnAll}
 use Rattle.protocol.specs.declared.step.Step.{Step}
-use Rattle.protocol.specs.Reply.{isRefused, noCalls}
+use Rattle.protocol.specs.Reply.{isRefused, noCalls, noGrants}
 use Rattle.protocol.specs.Step.{classOf, kinds, stepAsked}
 use Rattle.blocks.specs.Stores.{Stores}
 use Rattle.table.specs.declared.table.Table.{Table}
@@ -55,7 +55,7 @@ serviceHeld z t flags a =
 abbrev pub outcomeAsked : Service → ℕ → ℕ → ℕ → ℕ → ℕ → Outcome
 outcomeAsked s kind i f b v =
     cond (ltb kind kinds) (stepOf s (stepAsked kind i f b v))
-    (record { service = s; reply = Refused 1; calls = noCalls })
+    (record { service = s; reply = Refused 1; calls = noCalls; grants = noGrants })
 
 -- ---- what a step leaves
 
@@ -64,23 +64,26 @@ abbrev pub isSide : ℕ → Bool
 isSide k = leb 10 k && ltb k 18
 
 -- the words that a step may change: one on a file those of its row, one on a block none, one on the table those of the
--- entries
+-- entries, one on all files any
 abbrev pub mayChange : Class → ℕ → ℕ → Bool
 mayChange (OnFile f) g k = eqb g (f % maxFiles)
 mayChange (OnBlock i f) g k = false
 mayChange OnTable g k = not (isSide k)
+mayChange OnAll g k = true
 
-abbrev pub isOnTable : Class → Bool
-isOnTable (OnFile f) = false
-isOnTable (OnBlock i f) = false
-isOnTable OnTable = true
+-- whether it may change who has reported, and whether the server recovers
+abbrev pub mayReport : Class → Bool
+mayReport (OnFile f) = false
+mayReport (OnBlock i f) = false
+mayReport OnTable = true
+mayReport OnAll = true
 
 -- "A refusal gives only its number; server, stations and every lent buffer stay as they came." What a step does not
 -- touch stays too, word for word.
 pub record Keeps (x : Step) (reply : Reply) (t₀ : List ℕ) (flags₀ : List Bool) (t : List ℕ) (flags : List Bool) : Type 0 where
   pub refused : isRefused reply ≡ true → (t ≡ t₀) × (flags ≡ flags₀)
   pub words : (g k : ℕ) → g < maxFiles → k < rowWords → mayChange (classOf x) g k ≡ false → wordAt t g k ≡ wordAt t₀ g k
-  pub reports : isOnTable (classOf x) ≡ false → flags ≡ flags₀
+  pub reports : mayReport (classOf x) ≡ false → flags ≡ flags₀
 
 -- The step that the five numbers are is taken: the arrays hold the service that it makes of the one that they held, and
 -- its reply and its calls are said.
@@ -96,6 +99,7 @@ pub record Stepped
       SaysIn words₀ said words
       (outcomeAsked (serviceHeld given t₀ flags₀ a₀) kind i f b v .reply)
       (outcomeAsked (serviceHeld given t₀ flags₀ a₀) kind i f b v .calls)
+      (outcomeAsked (serviceHeld given t₀ flags₀ a₀) kind i f b v .grants)
   pub calls : callsSaid said words ≡ outcomeAsked (serviceHeld given t₀ flags₀ a₀) kind i f b v .calls
   pub keeps :
       Keeps (stepAsked kind i f b v) (outcomeAsked (serviceHeld given t₀ flags₀ a₀) kind i f b v .reply) t₀ flags₀ t flags

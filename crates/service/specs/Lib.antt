@@ -1,8 +1,10 @@
 -- The service, in reading order.
 pub mod Contents
+pub mod Restart
 pub mod Step
 pub mod Lent
 pub mod Served
 pub mod Fresh
 pub mod Demand3
+pub mod Plain
 pub mod NothingBehind

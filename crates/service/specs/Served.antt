@@ -1,8 +1,8 @@
 -- What a step leaves, as the code finds it: by the sizes in force, with its reply as a value. Derived: the contract of
 -- `take_step` does not mention it.
-use Prim.Native.Nat.{ℕ, _%_}
+use Prim.Native.Nat.{ℕ, _*_, _%_, _≤_}
 use mathlib.Core.Path.{_≡_}
-use mathlib.Core.Bool.{Bool, false, cond}
+use mathlib.Core.Bool.{Bool, true, false, cond}
 use mathlib.Core.List.{List}
 use lib.Dec.{eqb}
 use lib.ListN.{length}
@@ -12,12 +12,13 @@ use Rattle.sizes.specs.declared.sizes.Sizes.{Sizes}
 use Rattle.sizes.specs.Sizes.{inForce}
 use Rattle.protocol.specs.declared.reply.Reply.{Reply}
 use Rattle.protocol.specs.declared.step.Step.{Step}
-use Rattle.protocol.specs.Reply.{letterOf, noCalls}
+use Rattle.protocol.specs.Reply.{letterOf, isRefused, noCalls, noGrants}
 use Rattle.blocks.specs.Stores.{Stores}
 use Rattle.table.specs.declared.recovery.RecoveryOutcome.{RecoveryOutcome}
 use Rattle.table.specs.Swept.{Swept}
-use Rattle.words.specs.Said.{calls?}
+use Rattle.words.specs.Said.{calls?, SaysIn, SaidSoFar}
 use Rattle.service.specs.declared.outcome.Outcome.{Outcome}
+use Rattle.service.specs.Restart.{restartedBelow, grantsBelow}
 use Rattle.service.specs.Step.{stepOf}
 use Rattle.service.specs.Lent.{recoveringHeld, reportedHeld, serviceHeld, Keeps}
 
@@ -36,7 +37,7 @@ pub record Serves
       (given : Sizes)
       → sizes ≡ inForce given
       → _≡_ {A = Outcome}
-      (record { service = serviceHeld given t flags a; reply = reply; calls = calls })
+      (record { service = serviceHeld given t flags a; reply = reply; calls = calls; grants = noGrants })
       (stepOf (serviceHeld given t₀ flags₀ a₀) x)
   pub quiet : calls? (letterOf reply) ≡ false → calls ≡ noCalls
   pub keeps : Keeps x reply t₀ flags₀ t flags
@@ -50,3 +51,43 @@ pub record SweptBy
   pub reports : reportedHeld flags ≡ done .recovery .reported
   pub flagsLong : length flags ≡ length flags₀
   pub same : reply ≡ done .reply
+
+-- the restart of client i on the files below k: the service that the arrays hold, and the words in which the grants are
+-- said so far, `at` of them
+pub record Restarts
+    (sizes : Sizes) (i k : ℕ) (t₀ : List ℕ) (a₀ : Stores) (words₀ t : List ℕ) (a : Stores) (words : List ℕ) (at : ℕ) : Type 0 where
+  pub long : length t ≡ length t₀
+  pub few : at ≤ 4 * k
+  pub service :
+      (given : Sizes) (flags : List Bool)
+      → serviceHeld given t flags a ≡ restartedBelow sizes i k (serviceHeld given t₀ flags a₀)
+  pub said :
+      (given : Sizes) (flags : List Bool)
+      → SaidSoFar words₀ (grantsBelow sizes i k (serviceHeld given t₀ flags a₀)) words
+  pub count :
+      (given : Sizes) (flags : List Bool) → at ≡ 4 * length (grantsBelow sizes i k (serviceHeld given t₀ flags a₀))
+
+-- the same as `Serves`, of a step that may grant the opens of others: it is said too
+pub record ServesAll
+    (sizes : Sizes) (x : Step) (t₀ : List ℕ) (flags₀ : List Bool) (a₀ : Stores) (words₀ t : List ℕ) (flags : List Bool)
+    (a : Stores) (words : List ℕ) (said : ℕ) : Type 0 where
+  pub long : length t ≡ length t₀
+  pub flagsLong : length flags ≡ length flags₀
+  pub service :
+      (given : Sizes)
+      → sizes ≡ inForce given
+      → serviceHeld given t flags a ≡ stepOf (serviceHeld given t₀ flags₀ a₀) x .service
+  pub says :
+      (given : Sizes)
+      → sizes ≡ inForce given
+      → SaysIn words₀ said words
+      (stepOf (serviceHeld given t₀ flags₀ a₀) x .reply)
+      (stepOf (serviceHeld given t₀ flags₀ a₀) x .calls)
+      (stepOf (serviceHeld given t₀ flags₀ a₀) x .grants)
+  pub silent :
+      (given : Sizes) → sizes ≡ inForce given → stepOf (serviceHeld given t₀ flags₀ a₀) x .calls ≡ noCalls
+  pub refused :
+      (given : Sizes)
+      → sizes ≡ inForce given
+      → isRefused (stepOf (serviceHeld given t₀ flags₀ a₀) x .reply) ≡ true
+      → (t ≡ t₀) × (flags ≡ flags₀)

@@ -4,6 +4,7 @@ mod crashing;
 mod flags;
 mod holding;
 mod outcome;
+mod restarting;
 mod service;
 mod step;
 mod taking;

@@ -3,6 +3,7 @@ ghost use mathlib.Core.Path.{_≡_};
 ghost use Rattle.service.specs.Demand3.{Consistent};
 ghost use Rattle.service.specs.Fresh.{fresh};
 ghost use Rattle.service.specs.NothingBehind.{LeavesNothing};
+ghost use Rattle.service.specs.Plain.{PlainlyConsistent};
 use protocol::ClientFile;
 use protocol::Entry;
 use protocol::Sides;
@@ -33,11 +34,12 @@ pub struct Service {
 }
 
 impl Service {
-    // The fresh service of these sizes. From it every list of steps is consistent, which is Demand 3, and leaves
-    // nothing behind.
+    // The fresh service of these sizes. From it every list of steps is consistent, which is Demand 3, plainly so where no
+    // client restarts, and leaves nothing behind.
     pub fn new(sizes: Sizes) -> Self
         ensures { λ r. ⌜ r ≡ fresh sizes ⌝ }
         ensures { λ r. ⌜ Consistent r ⌝ }
+        ensures { λ r. ⌜ PlainlyConsistent r ⌝ }
         ensures { λ r. ⌜ LeavesNothing r ⌝ }
     {
         let none = ClientFile::none();

@@ -14,6 +14,7 @@ use sizes::MAX_PLACES;
 use words::SAID;
 use words::WORDS;
 use words::calls_with;
+use words::grants_of;
 use words::reply_of;
 
 impl Service {
@@ -58,6 +59,7 @@ impl Service {
             service: held_service(sizes, &table, &flags, &blocks, &copies, &held, &dirty),
             reply: reply_of(said, &words),
             calls: calls_with(said, &words),
+            grants: grants_of(said, &words),
         }
     }
 }

@@ -4,7 +4,7 @@ ghost use Prim.Native.Nat.{ℕ, _<_};
 ghost use lib.ListN.{length};
 ghost use Rattle.sizes.specs.Sizes.{Permitted};
 ghost use Rattle.protocol.specs.Reply.{noCalls};
-ghost use Rattle.protocol.specs.Step.{kinds, stepAsked};
+ghost use Rattle.protocol.specs.Step.{stepAsked};
 ghost use Rattle.blocks.specs.Stores.{lent};
 ghost use Rattle.table.specs.Recovery.{Fits, recoveryStep};
 ghost use Rattle.words.specs.Rows.{tableWords};
@@ -14,6 +14,7 @@ ghost use Rattle.service.specs.Served.{modeAsked, SweptBy, Serves};
 use crate::flags::FLAGS;
 use crate::flags::put_recovery;
 use crate::flags::recovery_of;
+use crate::restarting::restart_client;
 use access::read_block;
 use access::write_block;
 use file::Response;
@@ -65,7 +66,18 @@ pub fn take_step(
         (now (words .exit)) r ⌝ }
 {
     if 10 < kind {
-        return say(Reply::Refused(NO_STEP), [0; MAX_CLIENTS], words);
+        return take_other(
+            given,
+            kind,
+            client,
+            table,
+            flags,
+            blocks,
+            copies,
+            held,
+            dirty,
+            words,
+        );
     }
     let sizes = given.in_force();
     let response = respond(
@@ -87,7 +99,48 @@ pub fn take_step(
     say(reply, calls, words)
 }
 
-// The same, by the sizes in force, its reply as a value. An arm for each kind of step: nothing else chooses among them.
+// The same for a kind that is past those that `respond` knows: a restart, or no step.
+fn take_other(
+    given: Sizes,
+    kind: u64,
+    client: usize,
+    table: &mut [u64; WORDS],
+    flags: &mut [bool; FLAGS],
+    blocks: &mut [u64; MAX_PLACES],
+    copies: &mut [u64; MAX_CELLS],
+    held: &mut [bool; MAX_CELLS],
+    dirty: &mut [bool; MAX_CELLS],
+    words: &mut [u64; SAID],
+) -> u64
+    requires { ⌜ 10 < kind ⌝ }
+    requires { ⌜ length (now table) ≡ tableWords ⌝ }
+    requires { ⌜ length (now flags) ≡ lentFlags ⌝ }
+    requires { ⌜ length (now words) ≡ saidRoom ⌝ }
+    ensures { λ r. ⌜ ((f b v : ℕ) → Stepped given kind client f b v (now (table .entry)) (now (flags .entry))
+        (lent (now (blocks .entry)) (now (copies .entry)) (now (held .entry)) (now (dirty .entry)))
+        (now (words .entry)) (now (table .exit)) (now (flags .exit))
+        (lent (now (blocks .exit)) (now (copies .exit)) (now (held .exit)) (now (dirty .exit)))
+        (now (words .exit)) r) ⌝ }
+{
+    if kind != 11 {
+        return say(Reply::Refused(NO_STEP), [0; MAX_CLIENTS], words);
+    }
+    let sizes = given.in_force();
+    restart_client(
+        sizes,
+        client,
+        table,
+        flags,
+        blocks,
+        copies,
+        held,
+        dirty,
+        words,
+    )
+}
+
+// The steps on a file, on a block and on the table, by the sizes in force, the reply as a value. An arm for each kind:
+// nothing else chooses among them.
 fn respond(
     sizes: Sizes,
     kind: u64,
@@ -103,7 +156,7 @@ fn respond(
     dirty: &mut [bool; MAX_CELLS],
 ) -> Response
     requires { ⌜ Permitted sizes ⌝ }
-    requires { ⌜ kind < kinds ⌝ }
+    requires { ⌜ kind < 11 ⌝ }
     requires { ⌜ length (now table) ≡ tableWords ⌝ }
     requires { ⌜ length (now flags) ≡ lentFlags ⌝ }
     ensures { λ r. ⌜ Serves sizes (stepAsked kind client file block value) (now (table .entry)) (now (flags .entry))
@@ -193,7 +246,7 @@ fn respond(
 // A step on the table, by the state of the recovery.
 fn recover(recovery: Recovery, sizes: Sizes, kind: u64, client: usize) -> RecoveryOutcome
     requires { ⌜ Permitted sizes ⌝ }
-    ensures { λ r. ⌜ ((f b v : ℕ) → 7 < kind → r ≡ recoveryStep sizes recovery (stepAsked kind client f b v)) ⌝ }
+    ensures { λ r. ⌜ ((f b v : ℕ) → 7 < kind → kind < 11 → r ≡ recoveryStep sizes recovery (stepAsked kind client f b v)) ⌝ }
     ensures { λ r. ⌜ Fits (r .sweep) ⌝ }
 {
     match kind {

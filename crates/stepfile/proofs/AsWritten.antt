@@ -195,7 +195,10 @@ all-of-word = (
                     of-more _ [] _ (λ a. of-none _ (a ∷ []) _ refl refl),
                     (
                       of-none _ [] _ refl refl,
-                      tt,
+                      (
+                        of-more _ [] _ (λ a. of-none _ (a ∷ []) _ refl refl),
+                        tt,
+                      ),
                     ),
                   ),
                 ),

@@ -100,6 +100,6 @@ module _ (settable : Bool) where
   reply-blind =
       record {
         says = λ s n l m l-long m-long.
-            ap (λ (o : Outcome). lineText n (o .reply) (o .calls)) (outcome-alike s n l m l-long m-long);
+            ap (λ (o : Outcome). lineText n (o .reply) (o .calls) (o .grants)) (outcome-alike s n l m l-long m-long);
         goes = λ s n l m l-long m-long. ap (λ (o : Outcome). o .service) (outcome-alike s n l m l-long m-long);
       }

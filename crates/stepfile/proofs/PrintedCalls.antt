@@ -15,7 +15,7 @@ use Rattle.stepfile.specs.Line.{callsText, fieldsText}
 pub prints-calls :
     (s : Service) (x : Step)
     → stepOf s x .reply ≡ Waiting
-    → fieldsText (stepOf s x .reply) (stepOf s x .calls)
+    → fieldsText (stepOf s x .reply) (stepOf s x .calls) (stepOf s x .grants)
     ≡ callsText (orderedCalls (sizesOf s .clients) (stepOf s x .calls))
 prints-calls s x waits =
-    ap (λ (r : Reply). fieldsText r (stepOf s x .calls)) waits ∙ ap callsText (printed-calls s x)
+    ap (λ (r : Reply). fieldsText r (stepOf s x .calls) (stepOf s x .grants)) waits ∙ ap callsText (printed-calls s x)

@@ -9,6 +9,7 @@ use Rattle.decision.specs.Permission.{permissionAtGrant}
 use Rattle.access.specs.BlockStep.{blockStep}
 use Rattle.file.specs.FileStep.{fileStep}
 use Rattle.table.specs.TableStep.{tableStep}
+use Rattle.protocol.specs.Reply.{grantsValues}
 use Rattle.service.specs.Step.{stepOf}
 use Rattle.service.specs.Fresh.{fresh}
 use Rattle.stepfile.specs.Text.{bytes, decimal, digitsOf, valuesText}
@@ -42,5 +43,5 @@ pub record WholeCase : Type 0 where
       ≡ bytes "1 N 1\n2 N 2\n3 G 1 0 1\nfiles 1\n2 2 1 -\n"
 
 pub wholeCase : WholeCase
-unfolding fresh stepOf fileStep blockStep tableStep stateOf orderedCalls permissionAtGrant count stored digitsOf decimal digitsOn numeral argument shapeOf shaped step parseLine settingOf valuesText callsText lineText filesText summaryText lines transcript after replyLine serviceAfter played
+unfolding fresh stepOf fileStep blockStep tableStep grantsValues stateOf orderedCalls permissionAtGrant count stored digitsOf decimal digitsOn numeral argument shapeOf shaped step parseLine settingOf valuesText callsText lineText filesText summaryText lines transcript after replyLine serviceAfter played
 wholeCase = record { empty = refl; case = refl; calls = refl; chosen = refl; outOfRange = refl; resumed = refl }

@@ -7,6 +7,7 @@ use lib.Dec.{eqb, leb, ltb}
 use Rattle.records.specs.declared.record.Mode.the-variants.{Read as ForRead, Write as ForWrite}
 use Rattle.protocol.specs.declared.step.Step.{Step}
 use Rattle.protocol.specs.declared.step.Step.the-variants.{Open, Close, Read, Write, Flush, Answer, Crash, Report, End}
+use Rattle.protocol.specs.declared.step.Step.the-variants.{Restart}
 use Rattle.stepfile.specs.declared.parsed.Parsed.{Parsed}
 use Rattle.stepfile.specs.declared.parsed.Parsed.the-variants.{Is, NoStep}
 use Rattle.stepfile.specs.Text.{bytes}
@@ -61,7 +62,8 @@ abbrev pub four : (ℕ → ℕ → ℕ → ℕ → Step) → Shape
 four f = taking (λ a. three (f a))
 
 -- "OR, OW, CR, CW (open, close; read, write) and AN (reply) with station, file; RD and FL with station, file, block;
--- WR with station, file, block, value; XX crash; RP station; EN end."
+-- WR with station, file, block, value; XX crash; RP station; EN end." "A restarted station says so (BT station)"
+-- (document 02, Wish 8).
 abbrev pub words : List (List ℕ × Shape)
 words =
     (bytes "OR", two (Open ForRead))
@@ -75,6 +77,7 @@ words =
     ∷ (bytes "XX", whole Crash)
     ∷ (bytes "RP", one Report)
     ∷ (bytes "EN", whole End)
+    ∷ (bytes "BT", one Restart)
     ∷ []
 
 abbrev pub same : List ℕ → List ℕ → Bool

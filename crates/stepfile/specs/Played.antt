@@ -8,7 +8,7 @@ use Rattle.protocol.specs.declared.reply.Reply.the-variants.{Refused, Done}
 use Rattle.service.specs.declared.service.Service.{Service}
 use Rattle.service.specs.declared.outcome.Outcome.{Outcome}
 use Rattle.sizes.specs.Sizes.{defaultSizes}
-use Rattle.protocol.specs.Reply.{noCalls}
+use Rattle.protocol.specs.Reply.{noCalls, noGrants}
 use Rattle.service.specs.Contents.{sizesOf, tableIn}
 use Rattle.service.specs.Step.{stepOf}
 use Rattle.service.specs.Fresh.{fresh}
@@ -24,12 +24,12 @@ use Rattle.stepfile.specs.Transcript.{lines, transcript, after}
 
 -- "A refusal gives only its number"
 abbrev pub refusedWith : Service → ℕ → Outcome
-refusedWith s k = record { service = s; reply = Refused k; calls = noCalls }
+refusedWith s k = record { service = s; reply = Refused k; calls = noCalls; grants = noGrants }
 
 -- "A SET line is answered K; refused, it leaves 8, 32 and 4": the service is a fresh one of these sizes, or stays.
 -- "19 when a setting lies outside its range, directly after 1."
 abbrev pub setOutcome : Service → Setting → Outcome
-setOutcome s (Are z) = record { service = fresh z; reply = Done; calls = noCalls }
+setOutcome s (Are z) = record { service = fresh z; reply = Done; calls = noCalls; grants = noGrants }
 setOutcome s OutOfRange = refusedWith s 19
 setOutcome s Missing = refusedWith s 1
 
@@ -42,7 +42,8 @@ outcomeOf settable s n l NoStep = cond (settable && eqb n 1) (setOutcome s (sett
 
 -- what is said of line l, numbered n, and the service after it
 unfoldable pub replyLine : Bool → Service → ℕ → List ℕ → List ℕ
-replyLine settable s n l = let o = outcomeOf settable s n l (parseLine l) in lineText n (o .reply) (o .calls)
+replyLine settable s n l = let o = outcomeOf settable s n l (parseLine l) in
+    lineText n (o .reply) (o .calls) (o .grants)
 
 unfoldable pub serviceAfter : Bool → Service → ℕ → List ℕ → Service
 serviceAfter settable s n l = outcomeOf settable s n l (parseLine l) .service

@@ -4,6 +4,7 @@ use mathlib.Core.List.{List, [], _∷_, _++_}
 use Rattle.records.specs.declared.record.Mode.the-variants.{Read as ForRead, Write as ForWrite}
 use Rattle.protocol.specs.declared.step.Step.{Step}
 use Rattle.protocol.specs.declared.step.Step.the-variants.{Open, Close, Read, Write, Flush, Answer, Crash, Report, End}
+use Rattle.protocol.specs.declared.step.Step.the-variants.{Restart}
 use Rattle.stepfile.specs.Text.{bytes, valuesText}
 
 abbrev pub wordOf : Step → List ℕ
@@ -18,6 +19,7 @@ wordOf (Write i f b v) = bytes "WR"
 wordOf Crash = bytes "XX"
 wordOf (Report i) = bytes "RP"
 wordOf End = bytes "EN"
+wordOf (Restart i) = bytes "BT"
 
 abbrev pub numbersOf : Step → List ℕ
 numbersOf (Open m i f) = i ∷ f ∷ []
@@ -29,6 +31,7 @@ numbersOf (Write i f b v) = i ∷ f ∷ b ∷ v ∷ []
 numbersOf Crash = []
 numbersOf (Report i) = i ∷ []
 numbersOf End = []
+numbersOf (Restart i) = i ∷ []
 
 abbrev pub stepText : Step → List ℕ
 stepText s = wordOf s ++ valuesText (numbersOf s)

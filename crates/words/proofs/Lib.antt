@@ -7,3 +7,4 @@ pub mod Filling
 pub mod Loading
 pub mod OwnRow
 pub mod SaidWords
+pub mod SaidGrants

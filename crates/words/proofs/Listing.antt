@@ -5,6 +5,8 @@ use mathlib.Core.List.{List, [], _∷_}
 use mathlib.Core.Logic.{_≢_}
 use native.Mathlib.Omega.{arith}
 use lib.ListN.{length, getD, set}
+use Rattle.decision.specs.Lists.{stored}
+use Rattle.decision.proofs.Storing.{stored-agree, stored-whole}
 use Rattle.words.specs.Rows.{listed}
 
 module _ {ℓ} {A : Type ℓ} where
@@ -42,3 +44,9 @@ module _ {ℓ} {A : Type ℓ} where
       ap₂ _∷_ (same 0 (omega arith) (λ e. omega arith))
       (listed-set n (λ k. g (suc k)) (λ k. h (suc k)) i v (omega arith) at
       (λ k l off. same (suc k) (omega arith) (λ e. off (omega arith))))
+
+-- what a loop leaves that stores element after element
+pub stored-listed {ℓ} : {A : Type ℓ} (n : ℕ) (d : A) (g : ℕ → A) (l : List A) → length l ≡ n → stored n (λ i. i) g l ≡ listed n g
+stored-listed n d g l long =
+    stored-agree n (λ i. i) g (λ i. getD (listed n g) i d) l (λ i h. sym (getD-listed n g d i h))
+    ∙ stored-whole n d (listed n g) l (length-listed n g) long

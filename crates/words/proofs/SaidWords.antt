@@ -2,7 +2,7 @@
 use Prim.Native.Nat.{ℕ, suc, _+_, _/_, _%_, _≤_, _<_}
 use mathlib.Core.Path.{_≡_, refl, sym, ap, _∙_, subst, subst⁻¹}
 use mathlib.Core.Bool.{Bool, true, false, cond}
-use mathlib.Core.List.{List, [], _∷_, _++_, append-assoc}
+use mathlib.Core.List.{List, [], _∷_, _++_, append-assoc, append-nil}
 use native.Mathlib.Nat.{mod-eq-of-lt}
 use native.Mathlib.Numerals.{add-one}
 use native.Mathlib.Omega.{arith}
@@ -12,11 +12,12 @@ use lib.Seq.{take-suc-set, drop-set-lt, drop-drop, getD-set-same, getD-set-other
 use Rattle.records.specs.Version.{versionOf, numberOf}
 use Rattle.sizes.proofs.Choosing.{conflict}
 use Rattle.protocol.specs.declared.reply.Grant.{Grant}
+use Rattle.protocol.specs.declared.reply.Granting.{Granting}
 use Rattle.protocol.specs.declared.reply.Reply.{Reply}
 use Rattle.protocol.specs.declared.reply.Reply.the-variants.{Waiting, AnsweredGrant}
-use Rattle.protocol.specs.Reply.{letterOf, valuesOf, grantValues}
+use Rattle.protocol.specs.Reply.{letterOf, valuesOf, grantValues, noGrants, grantsValues}
 use Rattle.words.specs.Words.{callsHeld}
-use Rattle.words.specs.Said.{saidRoom, calls?, grantSaid, replySaid, Says, SaysIn, Begun}
+use Rattle.words.specs.Said.{saidRoom, calls?, grantSaid, grantsSaid, replySaid, Says, SaysIn, Begun}
 
 pub begun-none : (ws : List ℕ) → Begun ws 0 [] ws
 begun-none ws = record { first = refl; long = refl; past = refl }
@@ -69,7 +70,12 @@ begun-two ws a b h =
 pub second-as : (a b c : ℕ) (vs : List ℕ) → b ≡ c → a ∷ b ∷ vs ≡ a ∷ c ∷ vs
 second-as a b c vs e = ap (λ x. a ∷ x ∷ vs) e
 
--- a reply that has its values in the first words
+-- where nothing is granted to others, there is no word of it
+pub ungranted : grantsValues noGrants ≡ []
+unfolding grantsValues
+ungranted = refl
+
+-- a reply that has its values in the first words, and grants nothing to others
 pub says-values :
     (said n : ℕ) (ws₀ vs ws : List ℕ) (reply : Reply) (calls : List ℕ)
     → said / 256 ≡ n
@@ -79,15 +85,21 @@ pub says-values :
     → vs ≡ valuesOf reply
     → Begun ws₀ n vs ws
     → replySaid said ws ≡ reply
-    → SaysIn ws₀ said ws reply calls
-says-values said n ws₀ vs ws reply calls count letter plain short same b back =
+    → grantsSaid said ws ≡ noGrants
+    → SaysIn ws₀ said ws reply calls noGrants
+says-values said n ws₀ vs ws reply calls count letter plain short same b back none =
     record {
       says =
           record {
             letter = letter;
-            values = λ q. ap (λ k. take k ws) count ∙ b .first ∙ same;
+            values = λ q.
+                ap (λ k. take k ws) count
+                ∙ b .first
+                ∙ same
+                ∙ sym (ap (λ (l : List ℕ). valuesOf reply ++ l) ungranted ∙ append-nil (valuesOf reply));
             called = λ q. conflict q plain;
             back = back;
+            granted = none;
           };
       short = omega (arith, count);
       long = b .long;
@@ -95,7 +107,7 @@ says-values said n ws₀ vs ws reply calls count letter plain short same b back 
     }
 
 -- the calls, as one word
-pub says-calls : (ws : List ℕ) (w : ℕ) (calls : List ℕ) → length ws ≡ saidRoom → callsHeld w ≡ calls → SaysIn ws 343 (set ws 0 w) Waiting calls
+pub says-calls : (ws : List ℕ) (w : ℕ) (calls : List ℕ) → length ws ≡ saidRoom → callsHeld w ≡ calls → SaysIn ws 343 (set ws 0 w) Waiting calls noGrants
 says-calls ws w calls long is =
     let there : 0 < length ws = omega (arith, long) in
     let b = begun-next ws [] ws 0 w there (begun-none ws) in
@@ -106,6 +118,7 @@ says-calls ws w calls long is =
             values = λ q. conflict refl q;
             called = λ q. ap callsHeld (getD-set-same ws 0 w 0 there) ∙ is;
             back = refl;
+            granted = refl;
           };
       short = omega arith;
       long = b .long;
@@ -113,11 +126,11 @@ says-calls ws w calls long is =
     }
 
 pub says-as :
-    (ws₀ : List ℕ) (said : ℕ) (ws : List ℕ) (reply known : Reply) (calls : List ℕ)
+    (ws₀ : List ℕ) (said : ℕ) (ws : List ℕ) (reply known : Reply) (calls : List ℕ) (grants : List Granting)
     → reply ≡ known
-    → SaysIn ws₀ said ws known calls
-    → SaysIn ws₀ said ws reply calls
-says-as ws₀ said ws reply known calls e s = subst⁻¹ (λ (r : Reply). SaysIn ws₀ said ws r calls) e s
+    → SaysIn ws₀ said ws known calls grants
+    → SaysIn ws₀ said ws reply calls grants
+says-as ws₀ said ws reply known calls grants e s = subst⁻¹ (λ (r : Reply). SaysIn ws₀ said ws r calls grants) e s
 
 -- ---- read back
 

@@ -2,16 +2,20 @@
 ghost use mathlib.Core.Path.{_≡_};
 ghost use mathlib.Core.Bool.{cond};
 ghost use mathlib.Core.List.{List, [], _∷_, _++_};
-ghost use Prim.Native.Nat.{ℕ, _+_, _%_, _≤_};
+ghost use Prim.Native.Nat.{ℕ, _+_, _*_, _%_, _≤_, _<_};
+ghost use lib.Dec.{ltb};
 ghost use lib.ListN.{length};
-ghost use Rattle.protocol.specs.Reply.{grantValues};
+ghost use Rattle.sizes.specs.Sizes.{maxFiles};
+ghost use Rattle.protocol.specs.Reply.{grantValues, noGranting, noGrants};
 ghost use Rattle.records.specs.Version.{versionOf};
 ghost use Rattle.words.specs.Said.{saidRoom, Begun, SaysIn, grantSaid, answerSaid, replySaid, callsSaid};
+ghost use Rattle.words.specs.Said.{grantingSaid, grantsSaid};
 use crate::words::calls_of;
 use crate::words::calls_word;
 use crate::words::wide;
 use crate::words::wide_version;
 use protocol::Grant;
+use protocol::Granting;
 use protocol::Reply;
 use records::Version;
 use sizes::MAX_CLIENTS;
@@ -35,6 +39,21 @@ fn say_grant(grant: Grant, at: usize, words: &mut [u64; SAID])
     words[at + 2] = permission(grant.caching);
 }
 
+// The open of another client that is granted: the client and the numbers of the grant, as the next four words. Those
+// that were said before can still be read back.
+pub fn say_granting(client: u8, grant: Grant, at: usize, words: &mut [u64; SAID])
+    requires { ⌜ length (now words) ≡ saidRoom ⌝ }
+    requires { ⌜ at + 4 ≤ saidRoom ⌝ }
+    ensures { λ r. ⌜ ((words₀ vs : List ℕ) → Begun words₀ at vs (now (words .entry))
+        → Begun words₀ (at + 4) (vs ++ (client ∷ grantValues grant)) (now (words .exit))) ⌝ }
+    ensures { λ r. ⌜ grantingSaid (now (words .exit)) at ≡ record { client = client; grant = grant } ⌝ }
+    ensures { λ r. ⌜ ((j : ℕ) → j + 4 ≤ at
+        → grantingSaid (now (words .exit)) j ≡ grantingSaid (now (words .entry)) j) ⌝ }
+{
+    words[at] = wide(client);
+    say_grant(grant, at + 1, words);
+}
+
 // The first two words.
 fn say_two(first: u64, second: u64, words: &mut [u64; SAID])
     requires { ⌜ length (now words) ≡ saidRoom ⌝ }
@@ -53,7 +72,7 @@ fn permission(caching: bool) -> u64
 // A reply, and the calls that go out with it.
 pub fn say(reply: Reply, calls: [u8; MAX_CLIENTS], words: &mut [u64; SAID]) -> u64
     requires { ⌜ length (now words) ≡ saidRoom ⌝ }
-    ensures { λ r. ⌜ SaysIn (now (words .entry)) r (now (words .exit)) reply calls ⌝ }
+    ensures { λ r. ⌜ SaysIn (now (words .entry)) r (now (words .exit)) reply calls noGrants ⌝ }
 {
     match reply {
         Reply::Granted(grant) => {
@@ -141,4 +160,39 @@ pub fn calls_with(said: u64, words: &[u64; SAID]) -> [u8; MAX_CLIENTS]
         return calls_of(words[0]);
     }
     [0; MAX_CLIENTS]
+}
+
+// The k-th of the opens of others that were granted, where so many words were said.
+fn granting_at(count: u64, k: usize, words: &[u64; SAID]) -> Granting
+    requires { ⌜ length (now words) ≡ saidRoom ⌝ }
+    requires { ⌜ k < maxFiles ⌝ }
+    ensures { λ r. ⌜ r ≡ cond (ltb (4 * k) count) (grantingSaid (now (words .entry)) (4 * k)) noGranting ⌝ }
+{
+    let at = 4 * k;
+    if (at as u64) < count {
+        return Granting {
+            client: (words[at] % 256) as u8,
+            grant: grant_said(words, at + 1),
+        };
+    }
+    Granting::none()
+}
+
+// The opens of others that were granted.
+pub fn grants_of(said: u64, words: &[u64; SAID]) -> [Granting; MAX_FILES]
+    requires { ⌜ length (now words) ≡ saidRoom ⌝ }
+    ensures { λ r. ⌜ r ≡ grantsSaid said (now (words .entry)) ⌝ }
+{
+    let none = Granting::none();
+    if said % 256 != 75 {
+        return [none; MAX_FILES];
+    }
+    let mut grants = [none; MAX_FILES];
+    let mut k: usize = 0;
+    while k < MAX_FILES {
+        let granting = granting_at(said / 256, k, words);
+        grants[k] = granting;
+        k += 1;
+    }
+    grants
 }

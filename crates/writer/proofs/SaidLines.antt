@@ -9,6 +9,7 @@ use lib.Seq.{take-suc}
 use Rattle.sizes.proofs.Choosing.{when, unless, split}
 use Rattle.sizes.specs.Sizes.{maxClients}
 use Rattle.decision.specs.Callback.{orderedCalls}
+use Rattle.protocol.specs.declared.reply.Granting.{Granting}
 use Rattle.protocol.specs.declared.reply.Reply.{Reply}
 use Rattle.protocol.specs.Reply.{letterOf, valuesOf}
 use Rattle.stepfile.specs.Text.{decimal, argumentText, valuesText}
@@ -36,8 +37,10 @@ values-next ws i h =
     ∙ ap (λ k. valuesText (take k ws)) (sym (add-one i))
 
 -- what is said is the reply
-module _ (said : ℕ) (words : List ℕ) (reply : Reply) (calls : List ℕ) (says : Says said words reply calls) where
-  fields-said : fieldsSaid said words ≡ fieldsText reply calls
+module _
+    (said : ℕ) (words : List ℕ) (reply : Reply) (calls : List ℕ) (grants : List Granting)
+    (says : Says said words reply calls grants) where
+  fields-said : fieldsSaid said words ≡ fieldsText reply calls grants
   fields-said =
       let same : calls? (letterSaid said) ≡ calls? (letterOf reply) = ap calls? (says .letter) in
       split (calls? (letterOf reply))
@@ -45,12 +48,14 @@ module _ (said : ℕ) (words : List ℕ) (reply : Reply) (calls : List ℕ) (say
       when _ _ (same ∙ e) ∙ ap (λ l. callsText (orderedCalls maxClients l)) (says .called e) ∙ sym (when _ _ e))
       (λ e. unless _ _ (same ∙ e) ∙ ap valuesText (says .values e) ∙ sym (unless _ _ e))
 
-  pub said-reply : (n : ℕ) → saidText n said words ≡ replyText n reply calls
+  pub said-reply : (n : ℕ) → saidText n said words ≡ replyText n reply calls grants
   said-reply n =
       ap (λ l. decimal n ++ ((32 ∷ l ∷ []) ++ fieldsSaid said words)) (says .letter)
       ∙ ap (λ t. decimal n ++ ((32 ∷ letterOf reply ∷ []) ++ t)) fields-said
 
 -- a reply and its LF
-pub line-text : (n : ℕ) (reply : Reply) (calls : List ℕ) → replyText n reply calls ++ (10 ∷ []) ≡ lineText n reply calls
+pub line-text :
+    (n : ℕ) (reply : Reply) (calls : List ℕ) (grants : List Granting)
+    → replyText n reply calls grants ++ (10 ∷ []) ≡ lineText n reply calls grants
 unfolding lineText
-line-text n reply calls = refl
+line-text n reply calls grants = refl

@@ -3,6 +3,7 @@ ghost use Prim.Native.Nat.{ℕ, _+_, _*_, _/_, _≤_};
 ghost use mathlib.Core.Path.{_≡_};
 ghost use mathlib.Core.List.{List};
 ghost use lib.ListN.{length, take};
+ghost use Rattle.protocol.specs.declared.reply.Granting.{Granting};
 ghost use Rattle.protocol.specs.declared.reply.Reply.{Reply};
 ghost use Rattle.stepfile.specs.Line.{lineText, replyText};
 ghost use Rattle.stepfile.specs.Text.{valuesText};
@@ -23,8 +24,9 @@ use words::calls_of;
 pub fn write_said(out: &mut [u8], at: usize, number: u64, said: u64, words: &[u64; SAID]) -> usize
     requires { ⌜ said / 256 ≤ saidRoom ⌝ }
     requires { ⌜ length (now words) ≡ saidRoom ⌝ }
-    ensures { λ r. ⌜ ((reply : Reply) (calls : List ℕ) → Says said (now (words .entry)) reply calls
-        → WroteIfRoom lineRoom (now (out .entry)) at (lineText number reply calls) (now (out .exit)) r) ⌝ }
+    ensures { λ r. ⌜ ((reply : Reply) (calls : List ℕ) (grants : List Granting)
+        → Says said (now (words .entry)) reply calls grants
+        → WroteIfRoom lineRoom (now (out .entry)) at (lineText number reply calls grants) (now (out .exit)) r) ⌝ }
     ensures { λ r. ⌜ r ≤ at + lineRoom ⌝ }
 {
     if out.len() < LINE_ROOM {
@@ -42,8 +44,9 @@ pub fn put_said(out: &mut [u8], at: usize, number: u64, said: u64, words: &[u64;
     requires { ⌜ said / 256 ≤ saidRoom ⌝ }
     requires { ⌜ length (now words) ≡ saidRoom ⌝ }
     requires { ⌜ at + (wordsRoom + 22) ≤ length (now out) ⌝ }
-    ensures { λ r. ⌜ ((reply : Reply) (calls : List ℕ) → Says said (now (words .entry)) reply calls
-        → Wrote (now (out .entry)) at (replyText number reply calls) (now (out .exit)) r) ⌝ }
+    ensures { λ r. ⌜ ((reply : Reply) (calls : List ℕ) (grants : List Granting)
+        → Says said (now (words .entry)) reply calls grants
+        → Wrote (now (out .entry)) at (replyText number reply calls grants) (now (out .exit)) r) ⌝ }
     ensures { λ r. ⌜ r ≤ at + (wordsRoom + 22) ⌝ }
 {
     let letter = put_decimal(out, at, number);

@@ -134,6 +134,13 @@ impl ClientFile {
         self.last_writer_flag = false;
     }
 
+    /// The client's part of a restart: counts, permission, mark and copy go.
+    pub fn restart(&mut self, sizes: Sizes) {
+        self.record = Record::default();
+        self.last_writer_flag = false;
+        self.drop_copy(sizes);
+    }
+
     fn drop_copy(&mut self, sizes: Sizes) {
         self.copies.drop_blocks(sizes);
         self.cached_version = 0;

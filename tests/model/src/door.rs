@@ -88,6 +88,11 @@ impl Service {
         unless(!self.server.reports_missing(self.sizes()).is_empty(), Refusal::ReportsMissing)
     }
 
+    /// "BT tests 2 only" (document 02, Wish 8).
+    pub fn may_restart(&self, client: u64) -> Admission {
+        self.client_exists(client)
+    }
+
     /// The refusal that this step would get now, if any.
     pub fn refusal(&self, step: &Step) -> Option<Refusal> {
         match *step {
@@ -100,6 +105,7 @@ impl Service {
             Step::Crash => Ok(()),
             Step::Report { client } => self.may_report(client),
             Step::End => self.may_end(),
+            Step::Restart { client } => self.may_restart(client),
         }
         .err()
     }

@@ -144,6 +144,39 @@ impl Entry {
         }
     }
 
+    /// What the server forgets of a client that has restarted: its record, that it is the last writer, and "any waiting
+    /// open of its own .., with the calls of that open" (document 02, Wish 8).
+    pub fn forget(&mut self, sizes: Sizes, client: usize) {
+        self.records[client] = Record::default();
+        if self.last_writer == ClientField::of(client) {
+            self.last_writer = ClientField::NONE;
+        }
+        if self.waiting.opener == ClientField::of(client) {
+            self.end_wait(sizes);
+        }
+    }
+
+    /// "Then a call on it counts as replied to with no blocks." Tells whether there was one.
+    pub fn count_as_answered(&mut self, sizes: Sizes, client: usize) -> bool {
+        let kind = self.callback(sizes, client);
+        if let Some(kind) = kind {
+            self.callback_answered(client, kind);
+        }
+        kind.is_some()
+    }
+
+    /// The open that waits, if no callback is out any more.
+    #[inline(always)]
+    pub fn open_due(&self, sizes: Sizes) -> Option<WaitingOpen> {
+        self.waiting.read(sizes).filter(|waiting| waiting.callbacks.is_empty())
+    }
+
+    /// The server's part of a restart on one file. Gives the open of another that is granted by it.
+    pub fn restart(&mut self, sizes: Sizes, client: usize) -> Option<WaitingOpen> {
+        self.forget(sizes, client);
+        if self.count_as_answered(sizes, client) { self.open_due(sizes) } else { None }
+    }
+
     /// Versions and blocks survive; the rest does not.
     pub fn crash(&mut self, sizes: Sizes) {
         self.records[..sizes.clients].fill(Record::default());

@@ -37,7 +37,7 @@ pub use door::Admission;
 pub use entry::{Entry, WaitingOpen};
 pub use fields::{ClientField, VersionField, WaitField};
 pub use image::{COUNT_BYTES, ENTRY_BYTES, LONGEST_IMAGE};
-pub use outcome::{Grant, Outcome, Refusal};
+pub use outcome::{Grant, GrantedOpen, Outcome, Refusal};
 pub use player::{play, play_on, replay, replay_from};
 pub use reader::{LONGEST_STEP, read_line, read_settings};
 pub use record::Record;

@@ -2,7 +2,7 @@
 
 use crate::Callbacks;
 
-#[derive(Clone, Copy, PartialEq, Eq, Debug)]
+#[derive(Clone, PartialEq, Eq, Debug)]
 pub enum Outcome {
     /// An open granted in its own step: `G`.
     Granted(Grant),
@@ -17,8 +17,21 @@ pub enum Outcome {
         sent: usize,
         granted: Option<(usize, Grant)>,
     },
+    /// A restart, with the opens of others that it granted, by ascending file: `K`.
+    Restarted {
+        granted: Vec<GrantedOpen>,
+    },
     /// Any other accepted step, and a line SET: `K`.
     Done,
+}
+
+/// A waiting open that a restart has granted.
+#[derive(Clone, Copy, PartialEq, Eq, Debug)]
+pub struct GrantedOpen {
+    pub opener: usize,
+    /// Not told with the reply.
+    pub file: usize,
+    pub grant: Grant,
 }
 
 /// What a grant tells the opener.

@@ -3,12 +3,16 @@
 use std::io::{Result, Write};
 
 use crate::text::{LineNumber, Text};
-use crate::{Callbacks, Entry, Grant, Outcome, Service, Sizes, State};
+use crate::{Callbacks, Entry, Grant, GrantedOpen, Outcome, Service, Sizes, State};
 
 const BUFFER: usize = 64 * 1024;
 
-/// Room for any line. The longest, of fewer than 500 bytes, explains an open that waits for seven clients.
+/// Room for any line but a restart's. The longest, of fewer than 500 bytes, explains an open that waits for seven
+/// clients.
 const LINE_ROOM: usize = 512;
+
+/// Room for a restart's line, explained: 64 grants with their sentences and 512 writes that are lost.
+const RESTART_ROOM: usize = 36 * 1024;
 
 pub struct Printer<W> {
     to: W,
@@ -31,7 +35,7 @@ impl<W: Write> Printer<W> {
     /// The same, with more behind the outcome.
     #[inline(always)]
     pub fn explained(&mut self, outcome: &Outcome, explain: impl FnOnce(&mut Text)) -> Result<()> {
-        self.make_room()?;
+        self.make_room(room_for(outcome))?;
         self.line_number.advance();
         let mut text = Text::new(&mut self.buffer, self.filled);
         text.line_number(&self.line_number);
@@ -44,7 +48,7 @@ impl<W: Write> Printer<W> {
 
     /// An output line that has no input line.
     pub fn line(&mut self, write: impl FnOnce(&mut Text)) -> Result<()> {
-        self.make_room()?;
+        self.make_room(LINE_ROOM)?;
         let mut text = Text::new(&mut self.buffer, self.filled);
         write(&mut text);
         text.byte(b'\n');
@@ -80,9 +84,14 @@ impl<W: Write> Printer<W> {
     }
 
     #[inline]
-    fn make_room(&mut self) -> Result<()> {
-        if BUFFER - self.filled < LINE_ROOM { self.flush() } else { Ok(()) }
+    fn make_room(&mut self, room: usize) -> Result<()> {
+        if BUFFER - self.filled < room { self.flush() } else { Ok(()) }
     }
+}
+
+#[inline(always)]
+fn room_for(outcome: &Outcome) -> usize {
+    if matches!(outcome, Outcome::Restarted { .. }) { RESTART_ROOM } else { LINE_ROOM }
 }
 
 impl Text<'_> {
@@ -109,13 +118,23 @@ impl Text<'_> {
                 self.bytes(b" A ");
                 self.number(*sent as u64);
                 if let Some((opener, grant)) = granted {
-                    self.byte(b' ');
-                    self.number(*opener as u64);
-                    self.grant(grant);
+                    self.grant_to(*opener, grant);
+                }
+            }
+            Outcome::Restarted { granted } => {
+                self.bytes(b" K");
+                for GrantedOpen { opener, grant, .. } in granted {
+                    self.grant_to(*opener, grant);
                 }
             }
             Outcome::Done => self.bytes(b" K"),
         }
+    }
+
+    fn grant_to(&mut self, opener: usize, grant: &Grant) {
+        self.byte(b' ');
+        self.number(opener as u64);
+        self.grant(grant);
     }
 
     fn grant(&mut self, grant: &Grant) {

@@ -34,6 +34,7 @@ pub fn take_line<T: Taker>(bytes: &[u8], taker: T) -> (T::Answer, usize) {
         b"XX" => line.step(taker, |_| Some(Step::Crash)),
         b"RP" => line.step(taker, |l| Some(Step::Report { client: l.number()? })),
         b"EN" => line.step(taker, |_| Some(Step::End)),
+        b"BT" => line.step(taker, |l| Some(Step::Restart { client: l.number()? })),
         _ => no_step(bytes, taker),
     }
 }

@@ -43,6 +43,9 @@ pub trait Rules {
     fn may_end(service: &Service) -> Admission {
         service.may_end()
     }
+    fn may_restart(service: &Service, client: u64) -> Admission {
+        service.may_restart(client)
+    }
 
     fn callbacks_due(sizes: Sizes, entry: &Entry, opener: usize, mode: Mode) -> Callbacks {
         entry.callbacks_due(sizes, opener, mode)
@@ -108,6 +111,18 @@ pub trait Rules {
     }
     fn end(sizes: Sizes, server: &mut Server) {
         server.end(sizes);
+    }
+
+    /// Gives the open of another that the restart grants on this file.
+    fn restart_at_server(sizes: Sizes, server: &mut Server, file: usize, client: usize) -> Option<WaitingOpen> {
+        server.entries[file].restart(sizes, client)
+    }
+    /// The server's blocks are those of the file.
+    fn restart_at_client(sizes: Sizes, file: &mut ClientFile, _server: &mut [u64; BLOCKS]) {
+        file.restart(sizes);
+    }
+    fn restart_reports(server: &mut Server, client: usize) {
+        server.count_as_reported(client);
     }
 }
 

@@ -26,6 +26,13 @@ impl Server {
         self.forget_reports(sizes);
     }
 
+    /// "During recovery the restart stands as an empty report" (document 02, Wish 8).
+    pub fn count_as_reported(&mut self, client: usize) {
+        if self.recovering {
+            self.reported = self.reported.with(client);
+        }
+    }
+
     fn forget_reports(&mut self, sizes: Sizes) {
         self.reported = self.reported.minus(sizes.client_set());
     }

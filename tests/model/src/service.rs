@@ -1,7 +1,8 @@
 //! The server's end and the clients' ends together: one step at a time, changed in place.
 
 use crate::{
-    CLIENTS, Callbacks, Client, Grant, Kind, Mode, Outcome, Refusal, Rules, Server, Settings, Sizes, Step, WaitingOpen,
+    CLIENTS, Callbacks, Client, Grant, GrantedOpen, Kind, Mode, Outcome, Refusal, Rules, Server, Settings, Sizes, Step,
+    WaitingOpen,
 };
 
 #[derive(Clone, PartialEq, Eq, Debug)]
@@ -58,6 +59,7 @@ impl Service {
             Step::Crash => self.crash::<R>(),
             Step::Report { client } => self.report::<R>(client),
             Step::End => self.end::<R>(),
+            Step::Restart { client } => self.restart::<R>(client),
         }
         .unwrap_or_else(Outcome::Refused)
     }
@@ -102,8 +104,7 @@ impl Service {
         let entry = &mut self.server.entries[file];
         R::answer_at_client(sizes, &mut self.clients[client].files[file], kind, &mut entry.blocks);
         R::answer_at_server(entry, client, kind);
-        let due = entry.waiting.read(sizes).filter(|waiting| waiting.callbacks.is_empty());
-        let granted = due.map(|open| (open.opener, self.grant::<R>(open.opener, file, open.mode)));
+        let granted = entry.open_due(sizes).map(|open| (open.opener, self.grant::<R>(open.opener, file, open.mode)));
         Ok(Outcome::Replied { sent, granted })
     }
 
@@ -153,5 +154,23 @@ impl Service {
         R::may_end(self)?;
         R::end(self.sizes(), &mut self.server);
         Ok(Outcome::Done)
+    }
+
+    /// File by file, ascending. The one that is granted an open is never the one that restarts: its own open has gone.
+    fn restart<R: Rules>(&mut self, client: u64) -> Answer {
+        R::may_restart(self, client)?;
+        let client = client as usize;
+        let sizes = self.sizes();
+        let mut granted = Vec::new();
+        for file in 0..sizes.files {
+            let due = R::restart_at_server(sizes, &mut self.server, file, client);
+            if let Some(WaitingOpen { opener, mode, .. }) = due {
+                granted.push(GrantedOpen { opener, file, grant: self.grant::<R>(opener, file, mode) });
+            }
+            let blocks = &mut self.server.entries[file].blocks;
+            R::restart_at_client(sizes, &mut self.clients[client].files[file], blocks);
+        }
+        R::restart_reports(&mut self.server, client);
+        Ok(Outcome::Restarted { granted })
     }
 }

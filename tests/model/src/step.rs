@@ -21,6 +21,7 @@ pub enum Step {
     Crash,
     Report { client: u64 },
     End,
+    Restart { client: u64 },
 }
 
 impl Step {
@@ -33,7 +34,7 @@ impl Step {
             | Step::Read { client, file, .. }
             | Step::Write { client, file, .. }
             | Step::Flush { client, file, .. } => Some((client, file)),
-            Step::Crash | Step::Report { .. } | Step::End => None,
+            Step::Crash | Step::Report { .. } | Step::End | Step::Restart { .. } => None,
         }
     }
 

@@ -39,7 +39,7 @@ fn every_explained_file_is_met() {
 fn every_example_is_met() {
     let examples = inputs("examples");
     examples.iter().for_each(|path| check(path, "explained"));
-    assert_eq!(examples.len(), 3);
+    assert_eq!(examples.len(), 4);
 }
 
 /// What is said of a service that no steps lead to.

@@ -59,17 +59,33 @@ fn malformed_files_keep_the_invariant() {
     assert!(hold(FileKind::Malformed, 0..8, 1000).refused(Refusal::NotAStep) > 1000);
 }
 
+/// Every sort of restart is met.
+#[test]
+fn files_with_restarts_keep_the_invariant() {
+    let tally = hold(FileKind::Restart, 0..64, 2000);
+    assert!(tally.restarts().restarts() > 4000 && tally.restarts().least() > 30, "{}", tally.restarts());
+    assert!(tally.waits() > 1000 && tally.recoveries() > 500);
+}
+
+#[test]
+fn the_other_files_have_no_restart() {
+    for kind in [FileKind::Hot, FileKind::Wide, FileKind::Session] {
+        assert_eq!(hold(kind, 0..8, 1000).restarts().restarts(), 0);
+    }
+}
+
 #[test]
 fn sessions_keep_the_invariant() {
     hold(FileKind::Session, 0..4, 30_000);
 }
 
-/// Some six million lines; run it with `--release` and `--ignored`.
+/// Some eight million lines; run it with `--release` and `--ignored`.
 #[test]
 #[ignore = "takes a minute"]
 fn long_runs_keep_the_invariant() {
     hold(FileKind::Hot, 1000..3000, 2000);
     hold(FileKind::Wide, 1000..1500, 2000);
+    hold(FileKind::Restart, 1000..2000, 2000);
     hold(FileKind::Session, 1000..1010, 100_000);
 }
 
@@ -109,7 +125,7 @@ const LEFT_DIRTY: [Step; 3] = [
     Step::Close { mode: Mode::Write, client: 0, file: 0 },
 ];
 
-const SPOILT: [Spoilt; 22] = [
+const SPOILT: [Spoilt; 23] = [
     ("A1", &[], |service| service.server.entries[0].records[0] = RECORD),
     ("A2", &[], |service| service.server.entries[0].last_writer = ClientField(0)),
     ("B1", &[Step::Crash], |service| service.server.entries[0].waiting = waiting(0, 1)),
@@ -151,7 +167,8 @@ const SPOILT: [Spoilt; 22] = [
         file.copies.held[3] = true;
         file.copies.values[3] = 7;
     }),
-    ("D4", &[], |service| service.server.entries[0].blocks[3] = 7),
+    ("D5", &[], |service| service.server.entries[0].blocks[3] = 7),
+    ("D6", &LEFT_DIRTY, |service| service.clients[0].files[0].copies.dirty[3] = false),
     ("M1", &LEFT_DIRTY, |service| service.clients[0].files[0].copies.dirty[3] = false),
     ("WS", &[], |service| service.server.entries[0].waiting = waiting(0, 0)),
     ("W6", &[], |service| {

@@ -19,6 +19,7 @@ fn plainly_read(line: &[u8]) -> Option<Step> {
         ("XX", &[]) => Step::Crash,
         ("RP", &[client]) => Step::Report { client },
         ("EN", &[]) => Step::End,
+        ("BT", &[client]) => Step::Restart { client },
         _ => return None,
     })
 }
@@ -47,8 +48,9 @@ fn assert_read_alike(line: &[u8]) {
 #[test]
 fn generated_lines_are_read_alike() {
     let mut steps = 0;
-    for seed in 0..20 {
-        for line in step_file(FileKind::Malformed, seed, 2000).split(|&byte| byte == b'\n') {
+    let malformed = (0..20).map(|seed| (FileKind::Malformed, seed));
+    for (kind, seed) in malformed.chain((0..10).map(|seed| (FileKind::Restart, 4 * seed + 3))) {
+        for line in step_file(kind, seed, 2000).split(|&byte| byte == b'\n') {
             assert_read_alike(line);
             steps += usize::from(plainly_read(line).is_some());
         }
@@ -59,7 +61,7 @@ fn generated_lines_are_read_alike() {
 /// Every line of up to three bytes from those that matter.
 #[test]
 fn short_lines_are_read_alike() {
-    let bytes = b"XENRPODW 019\t\r\0";
+    let bytes = b"XENRPODWBT 019\t\r\0";
     assert_read_alike(b"");
     for &first in bytes {
         assert_read_alike(&[first]);

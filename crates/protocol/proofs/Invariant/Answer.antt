@@ -17,15 +17,18 @@ use Rattle.sizes.specs.Sizes.{nobody}
 use Rattle.records.specs.Version.{noVersion, numberOf}
 use Rattle.records.specs.Record.{uncached, isWrite}
 use Rattle.decision.specs.Callback.{writesBack, invalidates}
+use Rattle.protocol.specs.Book.{History, came}
 use Rattle.protocol.specs.Client.{answeredClient}
 use Rattle.protocol.specs.Entry.{recordAt, waits, kindOf, callTo, answeredEntry}
 use Rattle.protocol.proofs.View.{View, at, callAnsweredView, Backs}
 use Rattle.protocol.proofs.Invariant.{mayCache, hasOpen, hasWriters, isLatest, Own, Apart, Copied, Sound, Agrees, Waiting, everybody, Running}
-use Rattle.protocol.proofs.Invariant.Flags.{conflict, is-false, split, cases, and-right, and-both, other-sym, change, at-other}
+use Rattle.protocol.proofs.Invariant.Flags.{conflict, is-false, split, cases, and-right, and-both, other-sym, change}
 use Rattle.protocol.proofs.Invariant.Lists.{getD-at}
 use Rattle.protocol.proofs.Invariant.Change.{clients-at, known-at}
 use Rattle.protocol.proofs.Invariant.Last.{last-none-at, last-same-at}
 use Rattle.protocol.proofs.Invariant.Block.{dirty-is}
+use Rattle.protocol.proofs.Invariant.Book.{latest-came, booked-came}
+use Rattle.sizes.proofs.Choosing.{when, unless}
 
 -- The client that answers, and the same afterwards.
 module _ (kind : ℕ) (c : ClientFile) where
@@ -138,19 +141,17 @@ module _
     (due : client i .marked ≡ true → writesBack kind ≡ true)
   where
     sound-answered :
-        {version : Version} {block : ℕ} {copy : ℕ → ℕ} {held dirty : ℕ → Bool} {k : ℕ}
-        → Sound n version client block copy held dirty k
-        → (dirty i ≡ true → writesBack kind ≡ true)
+        {version : Version} {copy : ℕ → ℕ} {held dirty : ℕ → Bool} {k : ℕ}
+        → Sound n version client copy held dirty k
         → Sound
         n
         version
         (at i (answered kind (client i)) client)
-        (cond (writesBack kind && dirty i) (copy i) block)
         (at i (cond (invalidates kind) 0 (copy i)) copy)
         (at i (cond (invalidates kind) false (held i)) held)
         (at i false dirty)
         k
-    sound-answered {version} {block} {copy} {held} {dirty} {k} h saved =
+    sound-answered {version} {copy} {held} {dirty} {k} h =
         let clients = h .clients in
         let c = client i in
         let drops = invalidates kind in
@@ -165,10 +166,6 @@ module _
               (cond b (cond drops 0 (copy i)) (copy s))
               (cond b (cond drops false (held i)) (held s)) (cond b false (dirty s)) k) i
               (copied-answered kind c version (clients .versionNotZero) (h .copied i)) (λ s _. h .copied s);
-          cleanIsRight = λ clean. cases (λ b. cond b (copy i) block ≡ k) (writesBack kind && dirty i)
-              (λ e. dirty-is h i (and-right (writesBack kind) _ e))
-              (λ e. h .cleanIsRight (change (λ s _. dirty s ≡ true → ⊥) i (λ d. conflict (and-both (saved d) d) e)
-              (λ s away d. clean s (at-other i s false dirty away ∙ d))));
         }
 
     table-answered :
@@ -226,7 +223,7 @@ module _
         }
 
 -- the callbacks that are out after client i has answered
-calls-answered :
+pub calls-answered :
     (n : ℕ) (e : Entry) (i kind : ℕ)
     → i < length (e .calls)
     → callTo n (answeredEntry e i kind) ≡ at i 0 (callTo n e)
@@ -243,7 +240,7 @@ called-waits n e i called =
 
 -- and it is another client than the one that waits
 called-away :
-    (n : ℕ) (v : View) (k i : ℕ)
+    (n : ℕ) (v : View) (k : History) (i : ℕ)
     → Running n v k
     → eqb (callTo n (v .entry) i) 0 ≡ false
     → eqb i (v .entry .waiter) ≡ false
@@ -253,12 +250,12 @@ called-away n v k i h called =
     ne-eqb i (e .waiter) (λ q. eqb-false (callTo n e i) 0 called (ap (callTo n e) q ∙ ws .uncalled))
 
 pub answer-kept :
-    (n : ℕ) (v : View) (k i : ℕ)
+    (n : ℕ) (v : View) (k : History) (i : ℕ)
     → n ≤ nobody
     → Running n v k
     → i < n
     → eqb (callTo n (v .entry) i) 0 ≡ false
-    → Running n (callAnsweredView n v i) k
+    → Running n (callAnsweredView n v i) (came i k)
 answer-kept n v k i bound h below called =
     let e = v .entry in
     let kind = callTo n e i in
@@ -269,7 +266,10 @@ answer-kept n v k i bound h below called =
     = λ d. ⊎-elim due (λ x. ap writesBack (ws .writing i away (x .1) (x .0))) (h .sound .copied i .dirtyIsOwned d) in
     let fits : i < length (e .calls) = subst (λ m. i < m) (sym (h .calls)) below in
     record {
-      sound = sound-answered i kind below due (h .sound) saved;
+      sound = rw (latest-came i k) (sound-answered i kind below due (h .sound));
+      booked = booked-came (h .booked) i
+          (λ d. when (v .copy i) (v .block) (and-both (saved d) d) ∙ dirty-is (h .sound) i d)
+          (λ clean. unless (v .copy i) (v .block) (is-false (writesBack kind && v .dirty i) (λ e. conflict (and-right (writesBack kind) _ e) clean)));
       table = table-answered i kind below due e bound (h .table) (λ w s. ws .alone s i w);
       calls = length-set (e .calls) i 0 ∙ h .calls;
       waiting = λ _. rw (calls-answered n e i kind fits)
@@ -278,7 +278,7 @@ answer-kept n v k i bound h below called =
 
 -- who has answered is not marked, and nobody else changes
 pub answer-backs :
-    (n : ℕ) (v : View) (k i : ℕ)
+    (n : ℕ) (v : View) (k : History) (i : ℕ)
     → Running n v k
     → eqb (callTo n (v .entry) i) 0 ≡ false
     → Backs v (callAnsweredView n v i)

@@ -16,6 +16,7 @@ use Rattle.protocol.specs.declared.client.ClientFile.{ClientFile}
 use Rattle.protocol.specs.declared.entry.Entry.{Entry}
 use Rattle.sizes.specs.Sizes.{nobody}
 use Rattle.records.specs.Record.{isOpen, lowered, closed, endsWriting}
+use Rattle.protocol.specs.Book.{History, latest}
 use Rattle.protocol.specs.Client.{closedClient}
 use Rattle.protocol.specs.Entry.{recordAt, waits, closedEntry}
 use Rattle.protocol.proofs.View.{View, at, closedView}
@@ -193,7 +194,7 @@ table-closed {client = client} clients e mode dirty i bound below h =
     }
 
 pub close-kept :
-    (n : ℕ) (v : View) (k i : ℕ) (mode : Mode) (dirty : Bool)
+    (n : ℕ) (v : View) (k : History) (i : ℕ) (mode : Mode) (dirty : Bool)
     → n ≤ nobody
     → Running n v k
     → i < n
@@ -213,10 +214,10 @@ close-kept n v k i mode dirty bound h below quiet stays =
             (λ t e. closed-from mode dirty c (v .client t) (clients .apart t i (other-sym i t e)))
             (clients .apart);
         copied = change (λ s b. Copied version (cond b (closedClient mode dirty c) (v .client s)) (v .copy s) (v .held s)
-            (v .dirty s) k) i
+            (v .dirty s) (latest k)) i
             (copied-closed mode dirty c stays (h .sound .copied i)) (λ s _. h .sound .copied s);
-        cleanIsRight = h .sound .cleanIsRight;
       };
+      booked = h .booked;
       table = table-closed clients (v .entry) mode dirty i bound below (h .table);
       calls = h .calls;
       waiting = λ is. absurd (conflict is quiet);

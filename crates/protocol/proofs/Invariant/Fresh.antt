@@ -3,6 +3,7 @@ use Prim.Native.Nat.{ℕ, _≤_}
 use mathlib.Core.Path.{refl}
 use mathlib.Core.Bool.{false, false≢true}
 use mathlib.Core.Logic.{⊎-elim}
+use mathlib.Core.List.{[]}
 use native.Mathlib.Omega.{arith}
 use lib.ListN.{length-replicate}
 use borrow.Author.Tests.{le-ltb}
@@ -14,9 +15,10 @@ use Rattle.protocol.proofs.View.{freshView}
 use Rattle.protocol.proofs.Invariant.{Sound, Running}
 use Rattle.protocol.proofs.Invariant.Flags.{conflict}
 use Rattle.protocol.proofs.Invariant.Last.{last-none}
+use Rattle.protocol.proofs.Invariant.Book.{fresh-booked}
 use Rattle.decision.proofs.Beyond.{getD-alike}
 
-fresh-sound : (n : ℕ) → Sound n firstVersion (λ s. noClient) 0 (λ s. 0) (λ s. false) (λ s. false) 0
+fresh-sound : (n : ℕ) → Sound n firstVersion (λ s. noClient) (λ s. 0) (λ s. false) (λ s. false) 0
 fresh-sound n =
     record {
       clients = record {
@@ -39,13 +41,13 @@ fresh-sound n =
         };
       };
       copied = λ s. record { dirtyIsHeld = λ d. d; dirtyIsOwned = λ d. absurd (false≢true d); heldIsRight = λ y. absurd (false≢true y) };
-      cleanIsRight = λ _. refl;
     }
 
-pub fresh-kept : (n : ℕ) → n ≤ nobody → Running n (freshView n) 0
+pub fresh-kept : (n : ℕ) → n ≤ nobody → Running n (freshView n) []
 fresh-kept n bound =
     record {
       sound = fresh-sound n;
+      booked = fresh-booked;
       table = record {
         size = length-replicate n notOpen;
         known = λ s _. getD-alike n notOpen s;

@@ -1,7 +1,7 @@
 -- What a grant does to each clause of the invariant, where no callback is out (WS with no calls). It leads to the one
 -- grant lemma, `Granting`. Assumes nothing.
 use Prim.Native.Nat.{ℕ, _+_, _<_, _≤_}
-use mathlib.Core.Path.{_≡_, refl, sym, _∙_, ap, subst}
+use mathlib.Core.Path.{_≡_, refl, sym, _∙_, ap}
 use mathlib.Core.Bool.{Bool, true, false, cond, _||_, false≢true}
 use mathlib.Core.Logic.{_⊎_, inl, inr, ⊎-elim}
 use native.Mathlib.Nat.{le-trans}
@@ -21,11 +21,12 @@ use Rattle.records.specs.Record.{isWrite, raised, opened}
 use Rattle.decision.specs.Callback.{writesBack, invalidates}
 use Rattle.protocol.specs.Entry.{grantedEntry}
 use Rattle.protocol.specs.Client.{grantedClient, keepsBlocks}
+use Rattle.sizes.proofs.Choosing.{when}
 use Rattle.protocol.proofs.View.{at}
 use Rattle.protocol.proofs.Invariant.{mayCache, hasOpen, hasWriters, isLatest, Own, Apart, Copied, Clients}
 use Rattle.protocol.proofs.Invariant.{Sound, Agrees, Waiting, everybody}
 use Rattle.protocol.proofs.Invariant.Flags.{conflict, is-false, split, cases, and-left, and-right, and-both}
-use Rattle.protocol.proofs.Invariant.Flags.{or-left, or-right, or-cases, other-sym, change, at-same, at-other}
+use Rattle.protocol.proofs.Invariant.Flags.{or-left, or-right, or-cases, other-sym, change}
 use Rattle.protocol.proofs.Invariant.Change.{clients-at, known-at}
 use Rattle.protocol.proofs.Invariant.Last.{last-none-at, last-same-at}
 use Rattle.protocol.proofs.Invariant.Block.{dirty-latest}
@@ -212,8 +213,8 @@ module _
 
     -- and a dirty block is kept: its client has permission, and its copy is of the latest version
     pub dirty-kept :
-        {block : ℕ} {copy : ℕ → ℕ} {held dirty : ℕ → Bool} {k : ℕ}
-        → Sound n version client block copy held dirty k
+        {copy : ℕ → ℕ} {held dirty : ℕ → Bool} {k : ℕ}
+        → Sound n version client copy held dirty k
         → dirty i ≡ true
         → keepsBlocks mode g (client i) ≡ true
     dirty-kept s d =
@@ -221,14 +222,14 @@ module _
         (next .keeps (client i .label) (dirty-latest s i d))
 
     pub sound-granted :
-        {block : ℕ} {copy : ℕ → ℕ} {held dirty : ℕ → Bool} {k : ℕ}
-        → Sound n version client block copy held dirty k
+        {copy : ℕ → ℕ} {held dirty : ℕ → Bool} {k : ℕ}
+        → Sound n version client copy held dirty k
         → i < n
         → let keep = keepsBlocks mode g (client i) in
-        Sound n (g .latest) (at i granted client) block (at i (cond keep (copy i) 0) copy)
+        Sound n (g .latest) (at i granted client) (at i (cond keep (copy i) 0) copy)
         (at i (cond keep (held i) false) held)
         (at i (cond keep (dirty i) false) dirty) k
-    sound-granted {block} {copy} {held} {dirty} {k} s below =
+    sound-granted {copy} {held} {dirty} {k} s below =
         let keep = keepsBlocks mode g (client i) in
         record {
           clients = clients-at h (g .latest) i granted below (next .versionNotZero) own-granted own-others granted-to granted-from
@@ -237,10 +238,19 @@ module _
               (cond b (cond keep (copy i) 0) (copy j))
               (cond b (cond keep (held i) false) (held j)) (cond b (cond keep (dirty i) false) (dirty j)) k) i
               (copied-granted (s .copied i)) (λ j _. copied-others j (s .copied j));
-          cleanIsRight = λ clean. s .cleanIsRight (change (λ j _. dirty j ≡ true → ⊥) i
-              (λ d. clean i (at-same i _ dirty ∙ subst (λ b. cond b (dirty i) false ≡ true) (sym (dirty-kept s d)) d))
-              (λ j e d. clean j (at-other i j _ dirty e ∙ d)));
         }
+
+    -- so the same clients have the block dirty
+    pub dirty-alike :
+        {copy : ℕ → ℕ} {held dirty : ℕ → Bool} {k : ℕ}
+        → Sound n version client copy held dirty k
+        → (s : ℕ)
+        → at i (cond (keepsBlocks mode g (client i)) (dirty i) false) dirty s ≡ dirty s
+    dirty-alike {dirty = dirty} s =
+        change (λ j b. cond b (cond (keepsBlocks mode g (client i)) (dirty i) false) (dirty j) ≡ dirty j) i
+        (split (dirty i) (λ d. when (dirty i) false (dirty-kept s d))
+        (λ d. cases (λ b. cond b (dirty i) false ≡ dirty i) (keepsBlocks mode g (client i)) (λ _. refl) (λ _. sym d)))
+        (λ _ _. refl)
 
     pub table-granted :
         (e : Entry)

@@ -11,6 +11,7 @@ use Rattle.sizes.specs.Sizes.{nobody}
 use Rattle.records.specs.Version.{isLastVersion}
 use Rattle.records.specs.Record.{isWrite}
 use Rattle.decision.specs.Permission.{permissionAtGrant}
+use Rattle.protocol.specs.Book.{History}
 use Rattle.protocol.specs.Entry.{recordAt, grantOf}
 use Rattle.protocol.specs.Client.{grantedClient, keepsBlocks}
 use Rattle.decision.proofs.Storing.{length-stored}
@@ -19,12 +20,14 @@ use Rattle.protocol.proofs.Invariant.{Running}
 use Rattle.protocol.proofs.Invariant.Flags.{conflict, change}
 use Rattle.protocol.proofs.Invariant.Permission.{Permitted, permitted}
 use Rattle.protocol.proofs.Invariant.Latest.{Latest, latest}
-use Rattle.protocol.proofs.Invariant.Grant.{Ready, was-marked, dirty-kept, sound-granted, table-granted}
+use Rattle.protocol.proofs.Invariant.Grant.{Ready, was-marked, dirty-kept, dirty-alike, sound-granted, table-granted}
+use Rattle.protocol.proofs.Invariant.Book.{booked-alike}
 
 module _
     (n : ℕ)
     (v : View)
-    (k i : ℕ)
+    (k : History)
+    (i : ℕ)
     (mode : Mode)
     (h : Running n v k)
     (left : (isWrite mode && isLastVersion (v .entry .version)) ≡ false)
@@ -47,6 +50,7 @@ module _
         let clients = h .sound .clients in
         record {
           sound = rw (next .stored) (sound-granted clients i mode g next may free (h .sound) below);
+          booked = booked-alike (h .booked) (dirty-alike clients i mode g next may free (h .sound));
           table = table-granted clients i mode g next may free (v .entry) below bound (h .table);
           calls = length-stored n (λ j. j) (λ j. 0) (v .entry .calls) ∙ h .calls;
           waiting = λ is. absurd (conflict is (le-ltb nobody n bound));

@@ -18,6 +18,7 @@ use Rattle.decision.specs.Lists.{count}
 use Rattle.records.specs.Version.{isLastVersion}
 use Rattle.records.specs.Record.{isWrite}
 use Rattle.decision.specs.Callback.{callbackDue}
+use Rattle.protocol.specs.Book.{History, came}
 use Rattle.protocol.specs.Entry.{recordAt, waits, kindOf, callTo, callsOut, callsFor, callsDue}
 use Rattle.decision.proofs.Counting.{count-agree}
 use Rattle.decision.proofs.Storing.{length-stored}
@@ -75,7 +76,8 @@ waiting-kinds {calls = calls} h =
 module _
     (n : ℕ)
     (v : View)
-    (k i : ℕ)
+    (k : History)
+    (i : ℕ)
     (mode : Mode)
     (h : Running n v k)
     (below : i < n)
@@ -104,6 +106,7 @@ module _
     wait-kept =
         record {
           sound = h .sound;
+          booked = h .booked;
           table = h .table;
           calls = due-size;
           waiting = λ is. subst (Waiting (v .entry .version) (v .client) i mode)
@@ -125,11 +128,34 @@ module _
       pub open-backs : Backs v (grantedView n v i mode)
       open-backs = grant-backs n v k i mode h left free
 
--- The last answer grants the open that waits.
+-- The waiting open is granted where no callback is out.
 module _
     (n : ℕ)
     (v : View)
-    (k i : ℕ)
+    (k : History)
+    (h : Running n v k)
+    (is : waits n (v .entry) ≡ true)
+    (quiet : eqb (callsOut n (v .entry)) 0 ≡ true)
+  where
+    ws : Waiting (v .entry .version) (v .client) (v .entry .waiter) (v .entry .mode) (callTo n (v .entry))
+    ws = h .waiting is
+
+    free-now : Ready (v .client) (v .entry .waiter) (v .entry .mode)
+    free-now = ready ws (silent n (callTo n (v .entry)) quiet (uncalled n (v .entry) (h .calls)))
+
+    pub waiter-kept : n ≤ nobody → Running n (waiterGrantedView n v) k
+    waiter-kept bound =
+        grant-kept n v k (v .entry .waiter) (v .entry .mode) h (ws .versionLeft) free-now bound (ltb-true (v .entry .waiter) n is)
+
+    pub waiter-backs : Backs v (waiterGrantedView n v)
+    waiter-backs = grant-backs n v k (v .entry .waiter) (v .entry .mode) h (ws .versionLeft) free-now
+
+-- The last answer does so.
+module _
+    (n : ℕ)
+    (v : View)
+    (k : History)
+    (i : ℕ)
     (bound : n ≤ nobody)
     (h : Running n v k)
     (below : i < n)
@@ -139,23 +165,17 @@ module _
     abbrev later : View
     later = callAnsweredView n v i
 
-    waiter : v .entry .waiter < n
-    waiter = ltb-true (v .entry .waiter) n (called-waits n (v .entry) i called)
+    waits-on : waits n (v .entry) ≡ true
+    waits-on = called-waits n (v .entry) i called
 
-    answered : Running n later k
+    answered : Running n later (came i k)
     answered = answer-kept n v k i bound h below called
 
-    ws : Waiting (v .entry .version) (later .client) (v .entry .waiter) (v .entry .mode) (callTo n (later .entry))
-    ws = answered .waiting (called-waits n (v .entry) i called)
-
-    free-now : Ready (later .client) (v .entry .waiter) (v .entry .mode)
-    free-now = ready ws (silent n (callTo n (later .entry)) quiet (uncalled n (later .entry) (answered .calls)))
-
-    pub answer-last-kept : (v .entry .waiter < n) × Running n (waiterGrantedView n later) k
+    pub answer-last-kept : (v .entry .waiter < n) × Running n (waiterGrantedView n later) (came i k)
     answer-last-kept =
-        (waiter, grant-kept n later k (v .entry .waiter) (v .entry .mode) answered (ws .versionLeft) free-now bound waiter)
+        (ltb-true (v .entry .waiter) n waits-on, waiter-kept n later (came i k) answered waits-on quiet bound)
 
     pub answer-last-backs : Backs v (waiterGrantedView n later)
     answer-last-backs =
         backs-then v later (waiterGrantedView n later) (answer-backs n v k i h called)
-        (grant-backs n later k (v .entry .waiter) (v .entry .mode) answered (ws .versionLeft) free-now)
+        (waiter-backs n later (came i k) answered waits-on quiet)

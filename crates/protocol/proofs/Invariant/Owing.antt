@@ -8,6 +8,7 @@ use mathlib.Core.List.{List}
 use Rattle.records.specs.declared.record.ClientRecord.{ClientRecord}
 use Rattle.records.specs.declared.version.Version.{Version}
 use Rattle.protocol.specs.declared.client.ClientFile.{ClientFile}
+use Rattle.protocol.specs.Book.{History}
 use Rattle.protocol.specs.Table.{Row}
 use Rattle.protocol.proofs.View.{View}
 use Rattle.protocol.proofs.Invariant.{hasWriters, Clients, Agrees, Running, Recovering}
@@ -29,11 +30,11 @@ owes {n} {client = client} {last = last} i clients table below x =
     let marked = ⊎-elim holder (λ m. m) x in
     (marked, clients .own i .markedExcludes marked)
 
-pub running-owes : (n : ℕ) (v : View) (k i : ℕ) → Running n v k → i < n → Owes (v .client) (v .entry .last) i
+pub running-owes : (n : ℕ) (v : View) (k : History) (i : ℕ) → Running n v k → i < n → Owes (v .client) (v .entry .last) i
 running-owes n v k i h below = owes i (h .sound .clients) (h .table) below
 
 pub recovering-owes :
-    (n : ℕ) (v : View) (k i : ℕ) (reported : ℕ → Bool) (row : Row)
+    (n : ℕ) (v : View) (k : History) (i : ℕ) (reported : ℕ → Bool) (row : Row)
     → Recovering n v k reported row
     → i < n
     → Owes (v .client) (v .entry .last) i

@@ -16,6 +16,7 @@ use Rattle.protocol.specs.declared.entry.Entry.{Entry}
 use Rattle.sizes.specs.Sizes.{nobody}
 use Rattle.records.specs.Record.{notOpen}
 use Rattle.protocol.specs.Entry.{recordAt, waits, crashedEntry, reportedEntry}
+use Rattle.protocol.specs.Book.{History}
 use Rattle.protocol.specs.Table.{Row, rowOf}
 use Rattle.decision.proofs.Storing.{length-stored}
 use Rattle.protocol.proofs.View.{View, at, crashedView, reportedView}
@@ -38,13 +39,14 @@ crashed-table n e client bound size =
     }
 
 pub crash-kept :
-    (n : ℕ) (v : View) (k : ℕ)
+    (n : ℕ) (v : View) (k : History)
     → n ≤ nobody
     → Running n v k
     → Recovering n (crashedView n v) k (λ i. false) (rowOf (v .entry))
 crash-kept n v k bound h =
     record {
       sound = h .sound;
+      booked = h .booked;
       table = crashed-table n (v .entry) (v .client) bound (h .table .size);
       calls = length-stored n (λ j. j) (λ j. 0) (v .entry .calls) ∙ h .calls;
       noneWaits = le-ltb nobody n bound;
@@ -53,13 +55,14 @@ crash-kept n v k bound h =
     }
 
 pub crash-again-kept :
-    (n : ℕ) (v : View) (k : ℕ) (reported : ℕ → Bool) (row : Row)
+    (n : ℕ) (v : View) (k : History) (reported : ℕ → Bool) (row : Row)
     → n ≤ nobody
     → Recovering n v k reported row
     → Recovering n (crashedView n v) k (λ i. false) row
 crash-again-kept n v k reported row bound h =
     record {
       sound = h .sound;
+      booked = h .booked;
       table = crashed-table n (v .entry) (v .client) bound (h .table .size);
       calls = length-stored n (λ j. j) (λ j. 0) (v .entry .calls) ∙ h .calls;
       noneWaits = le-ltb nobody n bound;
@@ -122,13 +125,14 @@ module _
         }
 
 pub report-kept :
-    (n : ℕ) (v : View) (k i : ℕ) (reported : ℕ → Bool) (row : Row)
+    (n : ℕ) (v : View) (k : History) (i : ℕ) (reported : ℕ → Bool) (row : Row)
     → Recovering n v k reported row
     → i < n
     → Recovering n (reportedView v i) k (at i true reported) row
 report-kept n v k i reported row h below =
     record {
       sound = h .sound;
+      booked = h .booked;
       table = heard-by (h .sound .clients) (v .entry) (h .table) i below;
       calls = h .calls;
       noneWaits = h .noneWaits;
@@ -160,7 +164,7 @@ module _
         (λ e′. p .unnamed (ltb-false last n e) ∙ sym (q .unnamed (ltb-false now n e′))))
 
 pub end-kept :
-    (n : ℕ) (v : View) (k : ℕ) (reported : ℕ → Bool) (row : Row)
+    (n : ℕ) (v : View) (k : History) (reported : ℕ → Bool) (row : Row)
     → Recovering n v k reported row
     → ((i : ℕ) → i < n → reported i ≡ true)
     → Running n v k × (rowOf (v .entry) ≡ row) × (waits n (v .entry) ≡ false)
@@ -169,7 +173,7 @@ end-kept n v k reported row h all =
     let records = same-records table (h .before) in
     let last = same-last table (h .before) in
     let version = h .version in (
-      record { sound = h .sound; table = table; calls = h .calls; waiting = λ w. absurd (conflict w (h .noneWaits)) },
+      record { sound = h .sound; booked = h .booked; table = table; calls = h .calls; waiting = λ w. absurd (conflict w (h .noneWaits)) },
       (λ i. record { records = records i; version = sym version i; last = last i }),
       h .noneWaits,
     )

@@ -11,6 +11,7 @@ use Rattle.records.specs.declared.record.ClientRecord.{ClientRecord}
 use Rattle.records.specs.declared.version.Version.{Version}
 use Rattle.protocol.specs.declared.client.ClientFile.{ClientFile}
 use Rattle.sizes.specs.Sizes.{nobody}
+use Rattle.protocol.specs.Book.{History, latest}
 use Rattle.protocol.specs.Client.{flushedClient}
 use Rattle.protocol.proofs.View.{View, at, settledView}
 use Rattle.protocol.proofs.Invariant.{Own, Apart, Copied, LastWriter, Waiting, everybody, Running}
@@ -120,7 +121,7 @@ module _ (client : ℕ → ClientFile) (i : ℕ) (left : Bool) where
       }
 
 pub settle-kept :
-    (n : ℕ) (v : View) (k i : ℕ) (left : Bool)
+    (n : ℕ) (v : View) (k : History) (i : ℕ) (left : Bool)
     → n ≤ nobody
     → Running n v k
     → i < n
@@ -139,10 +140,10 @@ settle-kept n v k i left bound h below stays =
             (λ t e. settled-from left c (v .client t) (clients .apart t i (other-sym i t e)))
             (clients .apart);
         copied = change (λ s b. Copied version (cond b (flushedClient left c) (v .client s)) (v .copy s) (v .held s)
-            (v .dirty s) k) i
+            (v .dirty s) (latest k)) i
             (copied-settled left c stays (h .sound .copied i)) (λ s _. h .sound .copied s);
-        cleanIsRight = h .sound .cleanIsRight;
       };
+      booked = h .booked;
       table = record {
         size = h .table .size;
         known = λ s t. h .table .known s t ∙ sym (same-opens (v .client) i left s);

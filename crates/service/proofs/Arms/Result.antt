@@ -14,7 +14,7 @@ use Rattle.protocol.specs.Step.{classOf}
 use Rattle.blocks.specs.Stores.{Stores, lent}
 use Rattle.access.specs.BlockStep.{blockStep}
 use Rattle.access.specs.BlockStep.{Leaves as LeavesBlock}
-use Rattle.protocol.specs.Reply.{noCalls}
+use Rattle.protocol.specs.Reply.{noCalls, noGrants}
 use Rattle.file.specs.FileStep.{fileStep}
 use Rattle.table.specs.declared.recovery.RecoveryOutcome.{RecoveryOutcome}
 use Rattle.table.specs.TableStep.{tableStep}
@@ -48,9 +48,9 @@ module _ (s : Service) (x : Step) (z : Sizes) (inForce : z ≡ sizesOf s) where
       (storesOf s)
       x)
       reply b c h d
-      → record { service = withStores s (lent b c h d); reply = reply; calls = noCalls } ≡ stepOf s x
+      → record { service = withStores s (lent b c h d); reply = reply; calls = noCalls; grants = noGrants } ≡ stepOf s x
   block-result i f reply b c h d class l =
-      ap₂ (λ (r : Reply) (a : Stores). record { service = withStores s a; reply = r; calls = noCalls })
+      ap₂ (λ (r : Reply) (a : Stores). record { service = withStores s a; reply = r; calls = noCalls; grants = noGrants })
       (l .replyAfter)
       (l .storesAfter)
       ∙ ap

@@ -1,6 +1,7 @@
 //! Lines after which a step file is worth cutting short. Only the summary shows the state table, so a file is played
 //! once more up to a line where the table is halfway: an open partly answered, a client that has closed one of several
-//! write opens, a callback whose reason a flush has taken away, a recovery half reported or just ended.
+//! write opens, a callback whose reason a flush has taken away, a recovery half reported or just ended, a client just
+//! restarted.
 
 use super::Witness;
 use crate::{Mode, Outcome, Service, State, Step};
@@ -13,12 +14,22 @@ pub struct Cuts {
     reason_gone: Option<usize>,
     half_reported: Option<usize>,
     recovered: Option<usize>,
+    restarted: Option<usize>,
+    restarted_in_recovery: Option<usize>,
 }
 
 impl Cuts {
     /// The beginnings of this input up to the last line of each sort.
     pub fn of<'a>(&self, input: &'a [u8]) -> Vec<&'a [u8]> {
-        let lines = [self.partly_answered, self.partly_closed, self.reason_gone, self.half_reported, self.recovered];
+        let lines = [
+            self.partly_answered,
+            self.partly_closed,
+            self.reason_gone,
+            self.half_reported,
+            self.recovered,
+            self.restarted,
+            self.restarted_in_recovery,
+        ];
         lines.into_iter().flatten().map(|line| first_lines(input, line)).collect()
     }
 }
@@ -70,6 +81,10 @@ impl Witness for Cuts {
         }
         if *outcome == Outcome::Done && *step == Step::End {
             self.recovered = line;
+        }
+        if matches!(outcome, Outcome::Restarted { .. }) {
+            let moment = if service.server.recovering { &mut self.restarted_in_recovery } else { &mut self.restarted };
+            *moment = line;
         }
     }
 

@@ -1,4 +1,5 @@
-//! Demand 3 over a whole run: reads by the reference memory, and the table that a recovery brings back.
+//! Demand 3 over a whole run: reads by the reference memory, and the table that a recovery brings back, without the
+//! clients that restarted since the crash.
 
 use super::{ReferenceMemory, StateTable, Witness};
 use crate::{Outcome, Service, Step};
@@ -14,6 +15,8 @@ pub enum Breach {
 pub struct Demand3 {
     memory: ReferenceMemory,
     before_recovery: Option<StateTable>,
+    /// Whether the next step is a write that stays in its client's copy.
+    delayed: bool,
     line: usize,
     breach: Option<Breach>,
 }
@@ -23,7 +26,7 @@ impl Demand3 {
         &self.memory
     }
 
-    /// In a recovery: the table just before the crash that began it.
+    /// In a recovery: the table just before the crash that began it, without the clients that restarted since.
     pub fn before_recovery(&self) -> Option<&StateTable> {
         self.before_recovery.as_ref()
     }
@@ -53,18 +56,31 @@ impl Demand3 {
     }
 }
 
+/// Of a write: whether the client may cache, by its own record.
+fn is_delayed(service: &Service, step: &Step) -> bool {
+    let place = step.existing_place(service.sizes());
+    let may_cache = |(client, file): (usize, usize)| service.clients[client].files[file].record.may_cache;
+    matches!(step, Step::Write { .. }) && place.is_some_and(may_cache)
+}
+
 impl Witness for Demand3 {
     /// The table is noted by the steps alone: a recovery begins with a crash and ends with an accepted end.
     fn before(&mut self, service: &Service, step: &Step) {
         if *step == Step::Crash && self.before_recovery.is_none() {
             self.before_recovery = Some(StateTable::of(service));
         }
+        self.delayed = is_delayed(service, step);
     }
 
     fn after(&mut self, service: &Service, step: &Step, outcome: &Outcome) {
         let breach = self.judge(service, step, outcome);
         self.breach = self.breach.take().or(breach);
-        self.memory.feed(step, matches!(outcome, Outcome::Refused(_)));
+        self.memory.feed(step, matches!(outcome, Outcome::Refused(_)), self.delayed);
+        if let (Step::Restart { client }, Outcome::Restarted { .. }, Some(table)) =
+            (*step, outcome, &mut self.before_recovery)
+        {
+            table.forget(client as usize);
+        }
         if *step == Step::End && *outcome == Outcome::Done {
             self.before_recovery = None;
         }

@@ -2,7 +2,7 @@
 
 use std::ops::Range;
 
-use super::{Demand3, TableEntry, Witness};
+use super::{BlockWrites, Demand3, TableEntry, Witness};
 use crate::{BLOCKS, CLIENTS, ClientFile, Entry, Kind, Mode, Outcome, Server, Service, Sizes, Step, WaitingOpen};
 
 /// A clause that does not hold after the step of this line.
@@ -13,14 +13,15 @@ pub struct BrokenClause {
     pub line: usize,
 }
 
-/// One file: both ends of it, the reference memory's blocks, and in a recovery the table's entry before it. The words
-/// are the clauses' own: a client is marked when it has the last-writer flag, its label is the cached version.
+/// One file: both ends of it, the reference memory's writes, and in a recovery the table's entry before it, without the
+/// clients that restarted since. The words are the clauses' own: a client is marked when it has the last-writer flag, its
+/// label is the cached version.
 pub struct FileView<'a> {
     sizes: Sizes,
     server: &'a Server,
     entry: &'a Entry,
     clients: [&'a ClientFile; CLIENTS],
-    memory: &'a [u64; BLOCKS],
+    memory: &'a [BlockWrites; BLOCKS],
     before_recovery: Option<&'a TableEntry>,
 }
 
@@ -28,7 +29,7 @@ type Clause = fn(&FileView) -> bool;
 
 /// A: while running. B: while recovering. S, L, D: always, on the clients' own records. M: always, of marks and of the
 /// last writer. W: while an open waits.
-pub const CLAUSES: [(&str, Clause); 22] = [
+pub const CLAUSES: [(&str, Clause); 23] = [
     ("A1", |file| file.recovering() || file.each(|s| file.record_agrees(s))),
     ("A2", |file| file.recovering() || file.each(|s| file.last_writer(s) == file.marked(s))),
     ("B1", |file| file.running() || file.waiting().is_none()),
@@ -58,11 +59,14 @@ pub const CLAUSES: [(&str, Clause); 22] = [
     ("L4", |file| file.pairs(|s, t| implies(file.marked(s), !file.current(t)))),
     ("D1", |file| file.copies(|s, b| implies(file.dirty(s, b), file.held(s, b)))),
     ("D2", |file| file.copies(|s, b| implies(file.dirty(s, b), file.marked(s) || (file.writes(s) && file.caches(s))))),
-    ("D3", |file| file.copies(|s, b| implies(file.held(s, b) && file.current(s), file.value(s, b) == file.memory[b]))),
-    ("D4", |file| {
-        let clean = |b| file.each(|s| !file.dirty(s, b));
-        (0..file.sizes.blocks).all(|b| implies(clean(b), file.entry.blocks[b] == file.memory[b]))
+    ("D3", |file| {
+        file.copies(|s, b| implies(file.held(s, b) && file.current(s), file.value(s, b) == file.memory[b].latest()))
     }),
+    ("D5", |file| {
+        let is_latest_safe = |b: usize| file.entry.blocks[b] == file.memory[b].latest_safe();
+        (0..file.sizes.blocks).all(|b| file.memory[b].has_one_at_risk() && is_latest_safe(b))
+    }),
+    ("D6", |file| file.copies(|s, b| file.dirty(s, b) == (file.memory[b].at_risk() == Some(s)))),
     ("M1", |file| file.each(|s| implies(file.marked(s) || file.last_writer(s), file.any_dirty(s) && !file.writes(s)))),
     ("WS", |file| file.waiting().is_none_or(|open| file.callbacks_suffice(&open))),
     ("W6", |file| file.waiting().is_none_or(|open| implies(open.mode == Mode::Write, file.version() < u32::MAX))),

@@ -8,6 +8,7 @@ mod difference;
 mod invariant;
 mod memory;
 mod provenance;
+mod restarts;
 mod table;
 mod tally;
 
@@ -18,8 +19,9 @@ pub use cuts::Cuts;
 pub use demand3::{Breach, Demand3};
 pub use difference::{Difference, shown};
 pub use invariant::{BrokenClause, CLAUSES, Invariant, broken_clauses};
-pub use memory::ReferenceMemory;
+pub use memory::{BlockWrites, KeptWrite, ReferenceMemory};
 pub use provenance::{Provenance, Unfounded};
+pub use restarts::Restarts;
 pub use table::{StateTable, TableEntry};
 pub use tally::Tally;
 

@@ -1,8 +1,8 @@
-//! Provenance by the text alone. From the input lines and an explainer's own replies a plain book is kept of the latest
-//! accepted write to each block, and the sentence of every accepted read is held to it. The book also has the line of
-//! each copy, and whether the copy is dirty.
+//! Provenance by the text alone. From the input lines and an explainer's own replies a plain book is kept of the accepted
+//! writes to each block, safe, at risk or lost, and the sentences of every accepted read and of every restart are held to
+//! it. The book also has the line of each copy, whether the copy is dirty, and how often each station has each file open.
 
-use std::collections::HashMap;
+use std::collections::{BTreeMap, HashMap};
 use std::fmt;
 
 use super::shown;
@@ -16,6 +16,10 @@ pub struct Provenance {
     from_a_copy: u64,
     from_a_dirty_copy: u64,
     unwritten: u64,
+    /// Reads of blocks whose latest write was lost.
+    after_a_loss: u64,
+    restarts: u64,
+    writes_lost: u64,
 }
 
 /// A line that says what the text before it does not bear out.
@@ -30,6 +34,14 @@ pub struct Unfounded {
 impl Provenance {
     pub fn reads(&self) -> u64 {
         self.from_the_server + self.from_a_copy
+    }
+
+    pub fn reads_after_a_loss(&self) -> u64 {
+        self.after_a_loss
+    }
+
+    pub fn writes_lost(&self) -> u64 {
+        self.writes_lost
     }
 
     /// Checks the explained lines of a whole file, of a run that begins with an image or not.
@@ -50,14 +62,19 @@ impl Provenance {
 
 impl fmt::Display for Provenance {
     fn fmt(&self, out: &mut fmt::Formatter) -> fmt::Result {
-        let Provenance { lines, from_the_server, from_a_copy, from_a_dirty_copy, unwritten } = self;
+        let Provenance { lines, from_the_server, from_a_copy, from_a_dirty_copy, unwritten, .. } = self;
+        let Provenance { after_a_loss, restarts, writes_lost, .. } = self;
         writeln!(out, "lines {lines}")?;
         writeln!(out, "accepted reads {}", self.reads())?;
         writeln!(
             out,
             "from the server {from_the_server}, from a copy {from_a_copy}, {from_a_dirty_copy} of them dirty"
         )?;
-        write!(out, "of blocks that no line wrote {unwritten}")
+        writeln!(
+            out,
+            "of blocks that no line wrote {unwritten}, of blocks whose latest write was lost {after_a_loss}"
+        )?;
+        write!(out, "restarts {restarts}, blocks whose writes they lost {writes_lost}")
     }
 }
 
@@ -66,10 +83,50 @@ type Number<'a> = &'a [u8];
 /// Station, file and block.
 type Place<'a> = [Number<'a>; 3];
 
+#[derive(Clone, Copy)]
 struct Write<'a> {
     line: u64,
     station: Number<'a>,
     value: Number<'a>,
+}
+
+/// The accepted writes to a block: the latest at the server, and the later ones in a copy.
+#[derive(Default)]
+struct Writes<'a> {
+    at_the_server: Option<Write<'a>>,
+    in_a_copy: Vec<Write<'a>>,
+    /// The latest of all, if a restart has lost it.
+    lost: Option<Write<'a>>,
+}
+
+impl<'a> Writes<'a> {
+    fn add(&mut self, write: Write<'a>, in_a_copy: bool) {
+        self.lost = None;
+        if in_a_copy {
+            self.in_a_copy.push(write);
+        } else {
+            *self = Writes { at_the_server: Some(write), ..Writes::default() };
+        }
+    }
+
+    /// The station's writes have come to the server.
+    fn sent(&mut self, by: Number) {
+        let (sent, left): (Vec<_>, _) = self.in_a_copy.iter().partition(|write| write.station == by);
+        self.in_a_copy = left;
+        self.at_the_server = sent.last().copied().or(self.at_the_server);
+    }
+
+    /// The station's writes in its copy are lost. Gives the line of the latest.
+    fn lose(&mut self, by: Number) -> Option<u64> {
+        let (lost, left): (Vec<_>, _) = self.in_a_copy.iter().partition(|write| write.station == by);
+        self.in_a_copy = left;
+        self.lost = lost.last().copied().or(self.lost);
+        lost.last().map(|write| write.line)
+    }
+
+    fn latest(&self) -> Option<&Write<'a>> {
+        self.in_a_copy.last().or(self.at_the_server.as_ref())
+    }
 }
 
 /// The latest line at which a copy came to its station, and whether it was written there.
@@ -81,7 +138,9 @@ struct Copied {
 struct TextBook<'a> {
     line: u64,
     /// By file and block.
-    writes: HashMap<[Number<'a>; 2], Write<'a>>,
+    writes: HashMap<[Number<'a>; 2], Writes<'a>>,
+    /// How often a file is open, by station and file.
+    opens: HashMap<[Number<'a>; 2], u64>,
     copies: HashMap<Place<'a>, Copied>,
     flushes: HashMap<Place<'a>, u64>,
     /// Callback replies, by station and file.
@@ -101,6 +160,7 @@ impl<'a> TextBook<'a> {
         TextBook {
             line: 0,
             writes: HashMap::new(),
+            opens: HashMap::new(),
             copies: HashMap::new(),
             flushes: HashMap::new(),
             answers: HashMap::new(),
@@ -114,6 +174,7 @@ impl<'a> TextBook<'a> {
         let rest = said.strip_prefix(number.as_bytes()).and_then(|rest| rest.strip_prefix(b" "));
         let (reply, sentence) = rest.and_then(split_at_four_spaces).ok_or(format!("{number}, a reply, a sentence"))?;
         let (letter, fields) = reply.split_first().ok_or("a reply")?;
+        let replied = fields_of(fields.strip_prefix(b" ").unwrap_or(fields));
         match (&fields_of(step)[..], letter) {
             (&[b"RD", station, file, block], b'V') => {
                 let value = fields.strip_prefix(b" ").ok_or("a value")?;
@@ -121,19 +182,64 @@ impl<'a> TextBook<'a> {
             }
             (_, b'V') => return Err("no value: the line is no read".into()),
             (&[b"WR", station, file, block, value], b'K') => {
-                self.writes.insert([file, block], Write { line: self.line, station, value });
-                if sentence.ends_with(b" in its copy") {
+                let in_a_copy = sentence.ends_with(b" in its copy");
+                let write = Write { line: self.line, station, value };
+                self.writes.entry([file, block]).or_default().add(write, in_a_copy);
+                if in_a_copy {
                     self.copies.insert([station, file, block], Copied { line: self.line, written: true });
                 }
             }
             (&[b"FL", station, file, block], b'K') => {
                 self.flushes.insert([station, file, block], self.line);
+                self.writes.entry([file, block]).or_default().sent(station);
             }
             (&[b"AN", station, file], b'A') => {
                 self.answers.insert([station, file], self.line);
+                let of_file = self.writes.iter_mut().filter(|([of, _], _)| *of == file);
+                of_file.for_each(|(_, writes)| writes.sent(station));
+                if let [_, opener, ..] = replied[..] {
+                    *self.opens.entry([opener, file]).or_default() += 1;
+                }
             }
+            (&[b"OR" | b"OW", station, file], b'G') => *self.opens.entry([station, file]).or_default() += 1,
+            (&[b"CR" | b"CW", station, file], b'K') => {
+                let opens = self.opens.entry([station, file]).or_default();
+                *opens = opens.saturating_sub(1);
+            }
+            (&[b"BT", station], b'K') => self.judge_restart(station, &replied, sentence, counts)?,
             _ => {}
         }
+        Ok(())
+    }
+
+    /// The files that were open and the writes that are lost must be told; then a grant for each four numbers.
+    fn judge_restart(
+        &mut self,
+        station: Number<'a>,
+        granted: &[Number<'a>],
+        sentence: &'a [u8],
+        counts: &mut Provenance,
+    ) -> Result<(), String> {
+        let opened = self.opens.iter().filter(|([by, _], opens)| *by == station && **opens > 0);
+        let mut opened: Vec<u64> = opened.map(|([_, file], _)| number(file)).collect();
+        opened.sort_unstable();
+        self.opens.retain(|[by, _], _| *by != station);
+        let mut lost = BTreeMap::new();
+        for ([file, block], writes) in &mut self.writes {
+            if let Some(line) = writes.lose(station) {
+                lost.insert([number(file), number(block)], line);
+            }
+        }
+        counts.restarts += 1;
+        counts.writes_lost += lost.len() as u64;
+        let due = told_of_restart(station, &opened, &lost);
+        let grants = sentence.strip_prefix(due.as_bytes()).ok_or(&due[..])?;
+        let openers = granted.chunks_exact(4).map(|granted| granted[0]).collect::<Vec<_>>();
+        let told = opens_told(grants);
+        if told.iter().map(|[opener, _]| *opener).ne(openers.iter().copied()) {
+            return Err(format!("{due}; and the grants of the reply"));
+        }
+        told.into_iter().for_each(|open| *self.opens.entry(open).or_default() += 1);
         Ok(())
     }
 
@@ -146,6 +252,8 @@ impl<'a> TextBook<'a> {
     ) -> Result<(), String> {
         let [station, file, block] = place.map(|number| str::from_utf8(number).unwrap_or("?"));
         let (due, origin) = self.origin(place);
+        let writes = self.writes.get(&[place[1], place[2]]);
+        let (written, is_after_a_loss) = (writes.is_some(), writes.is_some_and(|writes| writes.lost.is_some()));
         let copied = self.copies.get(&place);
         let dirty = copied.is_some_and(|copied| copied.written && !self.cleaned_since(place, copied.line));
         let begin = format!("station {station}, file {file} block {block}: from ");
@@ -156,7 +264,8 @@ impl<'a> TextBook<'a> {
         if value != due || !told_as_the_servers && source != Some(copy.as_bytes()) {
             return Err(format!("V {}    {begin}the server, or {copy}{origin}", String::from_utf8_lossy(due)));
         }
-        counts.unwritten += u64::from(!self.writes.contains_key(&[place[1], place[2]]));
+        counts.unwritten += u64::from(!written);
+        counts.after_a_loss += u64::from(is_after_a_loss);
         if told_as_the_servers {
             counts.from_the_server += 1;
             // Without permission nothing is held: no copy is told before it is fetched or written.
@@ -170,17 +279,23 @@ impl<'a> TextBook<'a> {
 
     /// The value that a read of the block must give, and the end of its sentence.
     fn origin(&self, [_, file, block]: Place<'a>) -> (&[u8], String) {
-        if let Some(Write { line, station, value }) = self.writes.get(&[file, block]) {
-            let station = str::from_utf8(station).unwrap_or("?");
-            return (value, format!("; written by station {station} at line {line}"));
-        }
-        match &self.image {
-            None => (b"0", "; never written".into()),
-            Some(blocks) => {
-                let value = blocks.get(&[file.to_vec(), block.to_vec()]);
-                (value.map_or(b"0", |value| value), "; as the image has it".into())
+        let writes = self.writes.get(&[file, block]);
+        let lost = writes.and_then(|writes| writes.lost);
+        let and_lost = lost.map_or(String::new(), |Write { line, station, .. }| {
+            format!("; the write of station {} at line {line} was lost", text(station))
+        });
+        let (value, origin) = match (writes.and_then(Writes::latest), &self.image) {
+            (Some(Write { line, station, value }), _) => {
+                (*value, format!("; written by station {} at line {line}", text(station)))
             }
-        }
+            (None, Some(blocks)) => {
+                let value = blocks.get(&[file.to_vec(), block.to_vec()]);
+                (value.map_or(&b"0"[..], |value| value), "; as the image has it".into())
+            }
+            (None, None) if lost.is_some() => (&b"0"[..], "; as at the start".into()),
+            (None, None) => (&b"0"[..], "; never written".into()),
+        };
+        (value, origin + &and_lost)
     }
 
     /// Whether the copy has been flushed, or written back by a callback reply, after this line.
@@ -188,6 +303,34 @@ impl<'a> TextBook<'a> {
         let after = |cleaned: Option<&u64>| cleaned.is_some_and(|&cleaned| cleaned > line);
         after(self.flushes.get(&place)) || after(self.answers.get(&[place[0], place[1]]))
     }
+}
+
+fn text(number: Number<'_>) -> &str {
+    str::from_utf8(number).unwrap_or("?")
+}
+
+fn number(written: Number) -> u64 {
+    text(written).parse().unwrap_or(u64::MAX)
+}
+
+/// What the sentence of a restart begins with.
+fn told_of_restart(station: Number, opened: &[u64], lost: &BTreeMap<[u64; 2], u64>) -> String {
+    let opened: String = opened.iter().map(|file| format!(" {file}")).collect();
+    let lost = lost.iter().map(|([file, block], line)| format!(" file {file} block {block} at line {line}"));
+    let lost = lost.collect::<Vec<_>>().join(",");
+    let or_none = |list: String| if list.is_empty() { " none".into() } else { list };
+    let (opened, lost) = (or_none(opened), or_none(lost));
+    format!("station {} restarts; files it had open:{opened}; writes lost:{lost}", text(station))
+}
+
+/// The station and the file of each grant that is told.
+fn opens_told(grants: &[u8]) -> Vec<[Number<'_>; 2]> {
+    let words = fields_of(grants);
+    let told = words.windows(5).filter_map(|words| match *words {
+        [b"station", opener, b"has", b"file", file] => Some([opener, file]),
+        _ => None,
+    });
+    told.collect()
 }
 
 fn fields_of(line: &[u8]) -> Vec<&[u8]> {

@@ -32,4 +32,14 @@ impl StateTable {
         let entries = &service.server.entries[..sizes.files];
         StateTable { entries: entries.iter().map(|entry| TableEntry::of(sizes, entry)).collect() }
     }
+
+    /// "The recovered table is the one at the crash without that station" (document 02, Wish 8).
+    pub fn forget(&mut self, client: usize) {
+        for entry in &mut self.entries {
+            if let Some(record) = entry.records.get_mut(client) {
+                *record = Record::default();
+            }
+            entry.last_writer = entry.last_writer.filter(|&last_writer| last_writer != client);
+        }
+    }
 }

@@ -2,7 +2,7 @@
 
 use std::fmt;
 
-use super::{Behind, Witness};
+use super::{Behind, Restarts, Witness};
 use crate::{BLOCKS, Outcome, Refusal, Service, Step};
 
 #[derive(Default)]
@@ -15,6 +15,7 @@ pub struct Tally {
     /// Callback replies, by the number of blocks sent.
     replies: [u64; BLOCKS + 1],
     behind: Behind,
+    restarts: Restarts,
     refusals: [u64; Refusal::LAST_NUMBER + 1],
 }
 
@@ -43,15 +44,21 @@ impl Tally {
     pub fn behind(&self) -> &Behind {
         &self.behind
     }
+
+    pub fn restarts(&self) -> &Restarts {
+        &self.restarts
+    }
 }
 
 impl Witness for Tally {
     fn before(&mut self, service: &Service, step: &Step) {
         self.behind.before(service, step);
+        self.restarts.before(service, step);
     }
 
     fn after(&mut self, service: &Service, step: &Step, outcome: &Outcome) {
         self.behind.after(service, step, outcome);
+        self.restarts.after(service, step, outcome);
         if *step == Step::End && *outcome == Outcome::Done {
             self.recoveries += 1;
         }
@@ -67,7 +74,7 @@ impl Witness for Tally {
                 self.grants_after_waits += u64::from(granted.is_some());
             }
             Outcome::Refused(refusal) => self.refusals[refusal.number()] += 1,
-            Outcome::Granted(_) | Outcome::Done => {}
+            Outcome::Granted(_) | Outcome::Restarted { .. } | Outcome::Done => {}
         }
     }
 }
@@ -82,6 +89,7 @@ impl fmt::Display for Tally {
         let replies: Vec<String> = self.replies.iter().enumerate().map(|(n, count)| format!("{n}:{count}")).collect();
         writeln!(out, "answers by blocks sent {}", replies.join(" "))?;
         writeln!(out, "{}", self.behind)?;
+        writeln!(out, "{}", self.restarts)?;
         write!(out, "refusals")?;
         for number in Refusal::NUMBERS {
             write!(out, " {number}:{}", self.refusals[number])?;

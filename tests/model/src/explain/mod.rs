@@ -9,7 +9,7 @@ mod taken;
 mod told;
 mod words;
 
-pub use book::{Book, Origin, WrittenAt};
+pub use book::{Book, LostAt, Origin, WrittenAt};
 pub use explainer::{Distortion, distorted, explain, explain_on, explained, explained_from};
 pub use picture::{ClientPicture, FilePicture, Picture};
 pub use reason::{Reason, Waiting};

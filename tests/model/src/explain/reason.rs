@@ -108,7 +108,7 @@ impl Named {
             Step::Reply { client, file } => (client, file, 0, None),
             Step::Read { client, file, block } | Step::Flush { client, file, block } => (client, file, block, None),
             Step::Write { client, file, block, .. } => (client, file, block, Some(Mode::Write)),
-            Step::Report { client } => (client, 0, 0, None),
+            Step::Report { client } | Step::Restart { client } => (client, 0, 0, None),
             Step::Crash | Step::End => (0, 0, 0, None),
         };
         Named { client, file, block, mode }

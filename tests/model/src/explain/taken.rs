@@ -1,7 +1,7 @@
 //! A step taken by the service, and what is told of it.
 
-use super::{Book, Granted, Opening, Place, Reading, Reason, Source, Told};
-use crate::{Outcome, Rules, Service, State, Step, WaitingOpen};
+use super::{Book, Granted, LostAt, Opening, Place, Reading, Reason, Source, Told};
+use crate::{GrantedOpen, Outcome, Rules, Service, State, Step, WaitingOpen};
 
 /// The documents' rules, compiled apart: the player's are inlined where they have no second caller. What both call is
 /// marked for that.
@@ -27,6 +27,9 @@ enum Found {
     Open { opening: Opening, state: State, label: u32 },
     /// The open that waits, and the label of the opener's copy.
     Reply { client: usize, opening: Opening, label: u32 },
+    /// The files that the client has open, its writes at risk, and of each file the open that waits, if one does, with
+    /// the label of the opener's copy.
+    Restart { client: usize, opened: Vec<usize>, lost: Vec<LostAt>, waiting: Vec<Option<(Opening, u32)>> },
     /// All that is told, found before the step.
     Whole(Told),
 }
@@ -49,8 +52,8 @@ impl Found {
             }
             Step::Read { client, file, block } => {
                 let place = place(client, file, block);
-                let reading = Reading { place, source: source(service, book, place), origin: book.origin(place) };
-                Found::Whole(Told::Read(reading))
+                let (source, origin, lost) = (source(service, book, place), book.origin(place), book.lost(place));
+                Found::Whole(Told::Read(Reading { place, source, origin, lost }))
             }
             Step::Write { client, file, block, value } => {
                 let place = place(client, file, block);
@@ -61,6 +64,23 @@ impl Found {
             Step::Crash => Found::Whole(Told::Crashed),
             Step::Report { client } => Found::Whole(Told::Reported { client: client as usize }),
             Step::End => Found::Whole(Told::Ended),
+            Step::Restart { client } => Found::restart(service, book, client as usize),
+        }
+    }
+
+    fn restart(service: &Service, book: &Book, client: usize) -> Self {
+        let sizes = service.sizes();
+        let is_open = |file: &usize| service.clients[client].files[*file].record.is_open();
+        let waiting = |file: usize| {
+            let open = service.server.entries[file].waiting.read(sizes)?;
+            let opening = Opening { client: open.opener, file, mode: open.mode };
+            Some((opening, label(service, opening)))
+        };
+        Found::Restart {
+            client,
+            opened: (0..sizes.files).filter(is_open).collect(),
+            lost: book.at_risk(sizes, client),
+            waiting: (0..sizes.files).map(waiting).collect(),
         }
     }
 
@@ -79,8 +99,15 @@ impl Found {
             (Found::Reply { client, opening: Opening { file, .. }, .. }, Outcome::Replied { sent, granted: None }) => {
                 Told::Answered { client, file, sent: *sent, still: waiting(service, file).callbacks.clients() }
             }
+            (Found::Restart { client, opened, lost, waiting }, Outcome::Restarted { granted }) => {
+                let told = |GrantedOpen { file, grant, .. }: &GrantedOpen| {
+                    let (opening, label) = waiting[*file].expect("an open that is granted has waited");
+                    Granted::of(opening, label, grant)
+                };
+                Told::Restarted { client, opened, lost, granted: granted.iter().map(told).collect() }
+            }
             (Found::Whole(told), _) => told,
-            (_, outcome) => unreachable!("an open or a callback reply with the outcome {outcome:?}"),
+            (_, outcome) => unreachable!("an open, a callback reply or a restart with the outcome {outcome:?}"),
         }
     }
 }

@@ -1,9 +1,9 @@
 //! What is told of a line, before it is put into words.
 
-use super::{Origin, Reason};
+use super::{LostAt, Origin, Reason, WrittenAt};
 use crate::{Callbacks, ClientSet, Grant, Mode, Sizes, State, copy_kept};
 
-#[derive(Clone, Copy, PartialEq, Eq, Debug)]
+#[derive(Clone, PartialEq, Eq, Debug)]
 pub enum Told {
     Read(Reading),
     Granted(Granted),
@@ -38,6 +38,13 @@ pub enum Told {
         client: usize,
     },
     Ended,
+    Restarted {
+        client: usize,
+        /// The files that it had open, by its own record.
+        opened: Vec<usize>,
+        lost: Vec<LostAt>,
+        granted: Vec<Granted>,
+    },
     /// A first line SET that is accepted.
     Set(Sizes),
     Refused(Reason),
@@ -64,6 +71,8 @@ pub struct Reading {
     pub place: Place,
     pub source: Source,
     pub origin: Origin,
+    /// The latest accepted write to the block, if it is lost.
+    pub lost: Option<WrittenAt>,
 }
 
 /// Which number a read gives.

@@ -1,6 +1,6 @@
 //! What is told, in the words of docs/EXPLAIN.md.
 
-use super::{CopyAtGrant, Granted, Opening, Origin, Place, Reading, Reason, Source, Told, Waiting};
+use super::{CopyAtGrant, Granted, LostAt, Opening, Origin, Place, Reading, Reason, Source, Told, Waiting};
 use crate::text::Text;
 use crate::{CLIENTS, Callbacks, ClientSet, Kind, Mode, Sizes};
 
@@ -49,6 +49,13 @@ impl Text<'_> {
                 self.words(" reports what it has open");
             }
             Told::Ended => self.words("the recovery ends"),
+            Told::Restarted { client, opened, lost, granted } => {
+                self.restarts(*client, opened, lost);
+                for granted in granted {
+                    self.words("; ");
+                    self.granted(granted);
+                }
+            }
             Told::Set(Sizes { clients, files, blocks }) => {
                 self.words("the service has ");
                 self.count(*clients);
@@ -85,7 +92,15 @@ impl Text<'_> {
                 self.number(written.line);
             }
             Origin::NeverWritten => self.words("; never written"),
+            Origin::Start => self.words("; as at the start"),
             Origin::Image => self.words("; as the image has it"),
+        }
+        if let Some(lost) = reading.lost {
+            self.words("; the write of ");
+            self.station(lost.client);
+            self.words(" at line ");
+            self.number(lost.line);
+            self.words(" was lost");
         }
     }
 
@@ -129,6 +144,30 @@ impl Text<'_> {
         self.file(file);
         self.words(", blocks sent: ");
         self.count(sent);
+    }
+
+    fn restarts(&mut self, client: usize, opened: &[usize], lost: &[LostAt]) {
+        self.station(client);
+        self.words(" restarts; files it had open:");
+        self.list(opened.iter().copied());
+        self.words("; writes lost:");
+        if lost.is_empty() {
+            self.words(" none");
+        }
+        for (at, lost) in lost.iter().enumerate() {
+            if at > 0 {
+                self.byte(b',');
+            }
+            self.lost(lost);
+        }
+    }
+
+    fn lost(&mut self, &LostAt { file, block, line }: &LostAt) {
+        self.file(file);
+        self.words(" block ");
+        self.count(block);
+        self.words(" at line ");
+        self.number(line);
     }
 
     fn reason(&mut self, reason: &Reason) {

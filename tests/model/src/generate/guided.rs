@@ -5,15 +5,21 @@ use std::collections::VecDeque;
 
 use super::Author;
 use super::aim::{Aims, aims_for};
+use super::restart::restart_scene;
 use super::rng::Rng;
 use super::scene::scene;
 use super::stage::{Scope, Stage};
 use super::text::write_step;
 use super::tide::Tide;
-use crate::{Settings, Step};
+use crate::{Service, Settings, Step};
 
 /// One step in so many, while the server neither recovers nor has an open that waits, begins a scene.
 const SCENE: usize = 40;
+
+/// Where clients restart, one step in so many is a restart, and so many while the server recovers or has an open that
+/// waits.
+const RESTART: usize = 40;
+const RESTART_HALFWAY: usize = 12;
 
 pub struct Guided {
     stage: Stage,
@@ -22,6 +28,8 @@ pub struct Guided {
     tide: Option<Tide>,
     /// The steps of a scene still to come.
     scene: VecDeque<Step>,
+    /// Whether clients restart.
+    restarts: bool,
 }
 
 impl Guided {
@@ -31,12 +39,26 @@ impl Guided {
         let whole = Scope::whole(settings.read());
         let scope = if settings == Settings::NOT_GIVEN { few } else { Scope { files: whole.files.min(2), ..whole } };
         let tide = (seed % 8 == 7).then(|| Tide::new(&mut rng));
-        Guided { stage: Stage::new(rng, settings, scope), turns: seed.is_multiple_of(2), tide, scene: VecDeque::new() }
+        Guided { tide, ..Guided::on(Stage::new(rng, settings, scope), seed) }
     }
 
     pub fn wide(seed: u64, settings: Settings) -> Self {
-        let stage = Stage::new(Rng::new(!seed), settings, Scope::whole(settings.read()));
-        Guided { stage, turns: seed.is_multiple_of(2), tide: None, scene: VecDeque::new() }
+        Guided::on(Stage::new(Rng::new(!seed), settings, Scope::whole(settings.read())), seed)
+    }
+
+    /// A wide file with restarts that goes on from this service.
+    pub fn from(service: Service, seed: u64) -> Self {
+        let mut guided = Guided::wide(seed, service.settings).with_restarts();
+        guided.stage.service = service;
+        guided
+    }
+
+    fn on(stage: Stage, seed: u64) -> Self {
+        Guided { stage, turns: seed.is_multiple_of(2), tide: None, scene: VecDeque::new(), restarts: false }
+    }
+
+    pub fn with_restarts(self) -> Self {
+        Guided { restarts: true, ..self }
     }
 
     /// The next step, not yet taken.
@@ -49,8 +71,16 @@ impl Guided {
         }
         let at_rest = !self.stage.service.server.recovering && !self.stage.any_open_waits();
         if at_rest && self.stage.rng.one_in(SCENE) {
-            self.scene.extend(scene(&mut self.stage));
+            let steps = if self.restarts && self.stage.rng.one_in(2) {
+                restart_scene(&mut self.stage)
+            } else {
+                scene(&mut self.stage)
+            };
+            self.scene.extend(steps);
             return self.choose();
+        }
+        if self.restarts && self.stage.rng.one_in(if at_rest { RESTART } else { RESTART_HALFWAY }) {
+            return self.stage.restart();
         }
         let aims: &Aims = if at_rest && self.tide.is_some() { &Tide::HIGH } else { aims_for(&self.stage, self.turns) };
         let aim = self.stage.rng.weighted(aims);

@@ -136,6 +136,11 @@ impl Malformed {
         Malformed { steps: Guided::hot(seed, settings), rng, ends_with_lf: seed.is_multiple_of(2) }
     }
 
+    pub fn with_restarts(mut self) -> Self {
+        self.steps = self.steps.with_restarts();
+        self
+    }
+
     fn spoil(&mut self, offset: usize, line: &mut Vec<u8>) {
         match self.rng.below(400) {
             0 => self.lengthen(line),

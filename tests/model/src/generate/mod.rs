@@ -4,6 +4,7 @@ mod aim;
 mod closing;
 mod guided;
 mod malformed;
+mod restart;
 mod resumed;
 mod rng;
 mod scene;
@@ -24,7 +25,7 @@ use settings::{SettingsLines, WithSettings};
 use crate::{Service, Settings};
 
 pub use closing::closing_time;
-pub use resumed::resumed_run;
+pub use resumed::{restarted_run, resumed_run};
 pub use rng::Rng;
 
 #[derive(Clone, Copy, PartialEq, Eq, Debug)]
@@ -37,10 +38,13 @@ pub enum FileKind {
     Malformed,
     /// All desks at work: mostly reads and writes, prompt replies, a crash now and then.
     Session,
+    /// Hot, wide and malformed files in which clients restart. The other kinds have no restart.
+    Restart,
 }
 
 impl FileKind {
-    pub const ALL: [FileKind; 4] = [FileKind::Hot, FileKind::Wide, FileKind::Malformed, FileKind::Session];
+    pub const ALL: [FileKind; 5] =
+        [FileKind::Hot, FileKind::Wide, FileKind::Malformed, FileKind::Session, FileKind::Restart];
 
     pub fn name(self) -> &'static str {
         match self {
@@ -48,6 +52,7 @@ impl FileKind {
             FileKind::Wide => "wide",
             FileKind::Malformed => "malformed",
             FileKind::Session => "session",
+            FileKind::Restart => "restart",
         }
     }
 
@@ -75,10 +80,20 @@ pub fn generate(kind: FileKind, seed: u64, lines: usize, output: &mut impl Write
         FileKind::Wide => Box::new(Guided::wide(seed, settings)),
         FileKind::Malformed => Box::new(Malformed::new(seed, settings)),
         FileKind::Session => Box::new(Session::new(seed, settings)),
+        FileKind::Restart => restarting(seed, settings),
     };
     match settings_lines {
         Some(settings_lines) => write_lines(&mut WithSettings::new(settings_lines, author), lines, output),
         None => write_lines(&mut *author, lines, output),
+    }
+}
+
+/// Of four seeds, one has hot files, two have wide ones and one has malformed ones.
+fn restarting(seed: u64, settings: Settings) -> Box<dyn Author> {
+    match seed % 4 {
+        0 => Box::new(Guided::hot(seed, settings).with_restarts()),
+        1 | 2 => Box::new(Guided::wide(seed, settings).with_restarts()),
+        _ => Box::new(Malformed::new(seed, settings).with_restarts()),
     }
 }
 
@@ -107,6 +122,13 @@ pub fn seeds(text: &str) -> Option<Range<u64>> {
 pub fn step_file(kind: FileKind, seed: u64, lines: usize) -> Vec<u8> {
     let mut bytes = Vec::new();
     generate(kind, seed, lines, &mut bytes).expect("a vector takes every byte");
+    bytes
+}
+
+/// A wide file with restarts, in memory, that goes on from this service.
+pub fn restarts_from(service: Service, seed: u64, lines: usize) -> Vec<u8> {
+    let mut bytes = Vec::new();
+    write_lines(&mut Guided::from(service, seed), lines, &mut bytes).expect("a vector takes every byte");
     bytes
 }
 

@@ -15,7 +15,7 @@ const CUT: usize = 4;
 /// A file with more opens than that is not closed for a scene.
 const MOST_OPENS: usize = 8;
 
-/// The steps of some scene, for a service that neither recovers nor has an open that waits.
+/// The steps of some scene without a restart, for a service that neither recovers nor has an open that waits.
 pub fn scene(stage: &mut Stage) -> Vec<Step> {
     let cast = Cast::of(stage);
     let before = put_to_rest(stage, cast.file);
@@ -27,14 +27,19 @@ pub fn scene(stage: &mut Stage) -> Vec<Step> {
         }
         _ => broken_off_invalidation(&cast, stage.rng.one_in(3)),
     };
-    if stage.rng.one_in(CUT) {
-        steps.truncate(1 + stage.rng.below(steps.len()));
-    }
+    cut(stage, &mut steps);
     steps
 }
 
+/// Breaks a scene off now and then.
+pub fn cut(stage: &mut Stage, steps: &mut Vec<Step>) {
+    if stage.rng.one_in(CUT) {
+        steps.truncate(1 + stage.rng.below(steps.len()));
+    }
+}
+
 /// Closes and flushes after which nobody has the file open and nothing of it is dirty; none if it has too many opens.
-fn put_to_rest(stage: &Stage, file: u64) -> Option<Vec<Step>> {
+pub fn put_to_rest(stage: &Stage, file: u64) -> Option<Vec<Step>> {
     let sizes = stage.sizes();
     let own = |client: usize| &stage.service.clients[client].files[file as usize];
     let opens = |own: &ClientFile| usize::from(own.record.readers) + usize::from(own.record.writers);
@@ -52,9 +57,9 @@ fn put_to_rest(stage: &Stage, file: u64) -> Option<Vec<Step>> {
 }
 
 /// Who takes part, and where. Clients and blocks are different ones where the scope has so many.
-struct Cast {
-    clients: [u64; 3],
-    file: u64,
+pub struct Cast {
+    pub clients: [u64; 3],
+    pub file: u64,
     blocks: [u64; 2],
     /// All blocks of the scope.
     all_blocks: u64,
@@ -64,7 +69,7 @@ struct Cast {
 }
 
 impl Cast {
-    fn of(stage: &mut Stage) -> Self {
+    pub fn of(stage: &mut Stage) -> Self {
         let (clients, file, blocks, value) =
             (stage.some_clients(), stage.some_file(), stage.some_blocks(), stage.value());
         let all = stage.sizes().clients;
@@ -73,58 +78,67 @@ impl Cast {
         Cast { clients, file, blocks, all_blocks: stage.blocks_in_scope(), value, reporters }
     }
 
-    fn open(&self, mode: Mode, client: usize) -> Step {
+    pub fn open(&self, mode: Mode, client: usize) -> Step {
         Step::Open { mode, client: self.clients[client], file: self.file }
     }
 
-    fn close(&self, mode: Mode, client: usize) -> Step {
+    pub fn close(&self, mode: Mode, client: usize) -> Step {
         Step::Close { mode, client: self.clients[client], file: self.file }
     }
 
-    fn reply(&self, client: usize) -> Step {
+    pub fn reply(&self, client: usize) -> Step {
         Step::Reply { client: self.clients[client], file: self.file }
     }
 
-    fn read(&self, client: usize, block: usize) -> Step {
+    pub fn read(&self, client: usize, block: usize) -> Step {
         Step::Read { client: self.clients[client], file: self.file, block: self.blocks[block] }
     }
 
-    fn write(&self, block: usize) -> Step {
+    pub fn write(&self, block: usize) -> Step {
         self.write_at(self.blocks[block], block as u64)
     }
 
-    fn write_at(&self, block: u64, more: u64) -> Step {
+    pub fn first_block(&self) -> u64 {
+        self.blocks[0]
+    }
+
+    pub fn write_at(&self, block: u64, more: u64) -> Step {
         Step::Write { client: self.clients[0], file: self.file, block, value: self.value.wrapping_add(more) }
     }
 
     /// Client 0 opens for write and writes every block.
-    fn all_written(&self) -> Vec<Step> {
+    pub fn all_written(&self) -> Vec<Step> {
         let writes = (0..self.all_blocks).map(|block| self.write_at(block, block));
         [self.open(Mode::Write, 0)].into_iter().chain(writes).collect()
     }
 
-    fn flush(&self, block: usize) -> Step {
+    /// Client 0 flushes every block.
+    pub fn all_flushed(&self) -> Vec<Step> {
+        (0..self.all_blocks).map(|block| Step::Flush { client: self.clients[0], file: self.file, block }).collect()
+    }
+
+    pub fn flush(&self, block: usize) -> Step {
         Step::Flush { client: self.clients[0], file: self.file, block: self.blocks[block] }
     }
 
     /// All reports and the end.
-    fn reports(&self) -> Vec<Step> {
+    pub fn reports(&self) -> Vec<Step> {
         let reports = self.reporters.iter().map(|&client| Step::Report { client });
         reports.chain([Step::End]).collect()
     }
 
-    fn recovery(&self) -> Vec<Step> {
+    pub fn recovery(&self) -> Vec<Step> {
         [vec![Step::Crash], self.reports()].concat()
     }
 
     /// Client 0 opens for write, writes these blocks and closes.
-    fn written(&self, blocks: &[usize]) -> Vec<Step> {
+    pub fn written(&self, blocks: &[usize]) -> Vec<Step> {
         let writes = blocks.iter().map(|&block| self.write(block));
         [self.open(Mode::Write, 0)].into_iter().chain(writes).chain([self.close(Mode::Write, 0)]).collect()
     }
 
     /// Client 1 opens for read: client 0 answers if it is called, else it is refused.
-    fn next_reader(&self) -> Vec<Step> {
+    pub fn next_reader(&self) -> Vec<Step> {
         vec![self.open(Mode::Read, 1), self.reply(0), self.read(1, 0), self.read(1, 1)]
     }
 }

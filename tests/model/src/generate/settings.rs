@@ -94,7 +94,7 @@ impl SettingsLines {
         let (client, file, block) =
             (past(clients, &mut self.rng), past(files, &mut self.rng), past(blocks, &mut self.rng));
         let (there, value) = (self.rng.below(clients) as u64, 7);
-        let step = *self.rng.pick(&[
+        let steps = [
             Step::Open { mode, client, file: 0 },
             Step::Close { mode, client, file: 0 },
             Step::Reply { client, file: 0 },
@@ -105,7 +105,9 @@ impl SettingsLines {
             Step::Read { client: there, file: 0, block },
             Step::Write { client: there, file: 0, block, value },
             Step::Flush { client: there, file: 0, block },
-        ]);
+        ];
+        let restarts = self.kind == FileKind::Restart && self.rng.one_in(4);
+        let step = if restarts { Step::Restart { client } } else { *self.rng.pick(&steps) };
         let mut line = Vec::new();
         write_step(&step, &mut line);
         line
@@ -129,6 +131,7 @@ fn in_range(rng: &mut Rng, kind: FileKind) -> [u64; 3] {
     let any_file = 1 + rng.below(FILES);
     let files = match kind {
         FileKind::Hot | FileKind::Malformed => *rng.pick(&[1, 1, 2, 2, 3, FILES]),
+        FileKind::Restart => *rng.pick(&[1, 2, 3, any_file, FILES, FILES]),
         FileKind::Wide | FileKind::Session => *rng.pick(&[any_file, any_file, any_file, FILES]),
     };
     let any_block = 1 + rng.below(BLOCKS);

@@ -1,7 +1,7 @@
 //! The model run beside the author, so that steps are chosen with knowledge of the state.
 
 use super::rng::Rng;
-use crate::{Document01, Entry, Mode, Outcome, Service, Settings, Sizes, Step};
+use crate::{ClientSet, Document01, Entry, Mode, Outcome, Service, Settings, Sizes, Step};
 
 /// The clients, files and blocks that are drawn from, the first of each.
 #[derive(Clone, Copy)]
@@ -48,11 +48,13 @@ pub struct Stage {
     stray: usize,
     /// The client and the file of the latest step, often drawn again.
     latest: (u64, u64),
+    /// The client that restarted last.
+    restarted: Option<u64>,
 }
 
 impl Stage {
     pub fn new(rng: Rng, settings: Settings, scope: Scope) -> Self {
-        Stage { rng, service: Service::fresh_of(settings), scope, stray: 200, latest: (0, 0) }
+        Stage { rng, service: Service::fresh_of(settings), scope, stray: 200, latest: (0, 0), restarted: None }
     }
 
     pub fn sizes(&self) -> Sizes {
@@ -89,6 +91,23 @@ impl Stage {
         step
     }
 
+    /// A restart: mostly of a client that waits, is called, is last writer or has writes to lose.
+    pub fn restart(&mut self) -> Step {
+        let sizes = self.sizes();
+        let entries = &self.service.server.entries[..self.scope.files];
+        let waits = entries.iter().filter_map(|entry| entry.waiting.read(sizes));
+        let openers = ClientSet::of(|client| waits.clone().any(|open| open.opener == client));
+        let called = ClientSet::of(|client| waits.clone().any(|open| open.callbacks.clients().contains(client)));
+        let last_writers = ClientSet::of(|client| entries.iter().any(|e| e.last_writer.read(sizes) == Some(client)));
+        let dirty = ClientSet::of(|client| (0..self.scope.files).any(|file| self.service.any_dirty(client, file)));
+        let again = self.restarted.map_or(ClientSet::NONE, |client| ClientSet::only(client as usize));
+        let sort = *self.rng.pick(&[openers, called, called, last_writers, dirty, again, ClientSet::NONE]);
+        let choices: Vec<usize> = sort.members().collect();
+        let client = if choices.is_empty() { self.client() } else { *self.rng.pick(&choices) as u64 };
+        self.restarted = Some(client).filter(|&client| client < sizes.clients as u64);
+        Step::Restart { client }
+    }
+
     pub fn step(&mut self, kind: StepKind) -> Step {
         match kind {
             StepKind::Open => Step::Open { mode: self.mode(), client: self.client(), file: self.file() },
@@ -116,6 +135,11 @@ impl Stage {
 
     pub fn some_file(&mut self) -> u64 {
         self.rng.below(self.scope.files) as u64
+    }
+
+    /// The file after this one, a different one where the scope has two.
+    pub fn next_file(&self, file: u64) -> u64 {
+        (file + 1) % self.scope.files as u64
     }
 
     pub fn some_block(&mut self) -> u64 {

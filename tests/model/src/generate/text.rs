@@ -15,6 +15,7 @@ pub fn write_step(step: &Step, text: &mut Vec<u8>) {
         Step::Crash => write!(text, "XX"),
         Step::Report { client } => write!(text, "RP {client}"),
         Step::End => write!(text, "EN"),
+        Step::Restart { client } => write!(text, "BT {client}"),
     }
     .expect("a vector takes every byte");
 }

@@ -16,6 +16,7 @@ mod promises;
 mod random;
 mod recovery;
 mod refusals;
+mod restart;
 mod sent;
 mod settings;
 mod sizes;

@@ -2,8 +2,8 @@
 //! rules, and for any service.
 
 use model::{
-    CLIENTS, Callbacks, ClientField, ClientFile, Entry, Grant, Mode, Outcome, Record, Service, Sizes, Step,
-    VersionField,
+    CLIENTS, Callbacks, ClientField, ClientFile, Entry, Grant, GrantedOpen, Mode, Outcome, Record, Service, Sizes,
+    Step, VersionField,
 };
 
 use crate::sizes::in_force;
@@ -22,6 +22,7 @@ pub fn accept(service: &mut Service, step: &Step) -> Outcome {
         Step::Crash => crash(service),
         Step::Report { client } => report(service, client as usize),
         Step::End => end(service),
+        Step::Restart { client } => restart(service, client as usize),
     }
 }
 
@@ -82,6 +83,20 @@ fn end(service: &mut Service) -> Outcome {
     no_reports(in_force(service).clients, service);
     service.server.recovering = false;
     Outcome::Done
+}
+
+/// "BT .. prints K, then each granted open as after A, by ascending file. During recovery the restart stands as an empty
+/// report and supersedes one already given" (Wish 8).
+fn restart(service: &mut Service, client: usize) -> Outcome {
+    let mut granted = Vec::new();
+    for file in 0..in_force(service).files {
+        let brought = File::of(service, file as u64).restart(client);
+        granted.extend(brought.map(|(opener, grant)| GrantedOpen { opener, file, grant }));
+    }
+    if service.server.recovering {
+        service.server.reported = service.server.reported.with(client);
+    }
+    Outcome::Restarted { granted }
 }
 
 /// "A station is open on a file when its readers or writers are above 0."
@@ -257,10 +272,43 @@ impl<'a> File<'a> {
             own.cached_version = 0;
             (own.record.may_cache, self.entry.records[client].may_cache) = (false, false);
         }
+        Outcome::Replied { sent, granted: self.grant_after_the_last_call() }
+    }
+
+    /// Of an open that waits, after a call was replied to: it "is granted in the step in which the last called station
+    /// replies".
+    fn grant_after_the_last_call(&mut self) -> Option<(usize, Grant)> {
         let (opener, mode) = (usize::from(self.entry.waiting.opener.0), self.entry.waiting.mode);
         let kinds = &self.entry.waiting.callbacks.0[..self.sizes.clients];
         let was_last = !kinds.iter().any(|kind| (1..=3).contains(kind));
-        Outcome::Replied { sent, granted: was_last.then(|| (opener, self.grant(opener, mode))) }
+        was_last.then(|| (opener, self.grant(opener, mode)))
+    }
+
+    /// "Its counts, permissions, marks, copies and any waiting open of its own go at both ends, with the calls of that
+    /// open. Then a call on it counts as replied to with no blocks, which may grant opens of others" (Wish 8).
+    fn restart(&mut self, client: usize) -> Option<(usize, Grant)> {
+        let clients = self.sizes.clients;
+        let own = &mut self.clients[client];
+        drop_blocks(self.sizes.blocks, own);
+        (own.cached_version, own.last_writer_flag) = (0, false);
+        for record in [&mut own.record, &mut self.entry.records[client]] {
+            *record = Record { readers: 0, writers: 0, may_cache: false };
+        }
+        if last_writer(clients, self.entry) == Some(client) {
+            self.entry.last_writer = ClientField::NONE;
+        }
+        let opener = usize::from(self.entry.waiting.opener.0);
+        if opener == client {
+            no_wait(clients, self.entry);
+        }
+        let waits = opener < clients && opener != client;
+        if !waits || !matches!(self.entry.waiting.callbacks.0[client], 1..=3) {
+            return None;
+        }
+        if std::mem::take(&mut self.entry.waiting.callbacks.0[client]) != 2 {
+            self.entry.last_writer = ClientField::NONE;
+        }
+        self.grant_after_the_last_call()
     }
 
     /// "A station that may cache gives the held block, or fetches and holds it. Without permission the server's block is

@@ -1,8 +1,8 @@
 //! What holds of every step from every service, hand-made or not.
 
 use model::{
-    CLIENTS, Callbacks, ClientField, Document01, Entry, FILES, Grant, Mode, Outcome, Record, Service, Settings, Sizes,
-    Step, VersionField,
+    CLIENTS, Callbacks, ClientField, ClientFile, Copies, Document01, Entry, FILES, Grant, Mode, Outcome, Record,
+    Service, Settings, Sizes, Step, VersionField,
 };
 
 use crate::sizes::{in_force, with_past_of};
@@ -40,18 +40,27 @@ impl Taken {
         }
     }
 
-    /// The opener that is granted in this step, and its file.
-    fn granted(&self) -> Option<(usize, usize)> {
-        let (client, file) = self.place()?;
-        match self.outcome {
-            Outcome::Granted(_) => Some((client, file)),
-            Outcome::Replied { granted, .. } => granted.map(|(opener, _)| (opener, file)),
+    /// The openers that are granted in this step, each with its file.
+    fn granted(&self) -> Vec<(usize, usize)> {
+        match (&self.outcome, self.place()) {
+            (Outcome::Granted(_), Some(place)) => vec![place],
+            (Outcome::Replied { granted: Some((opener, _)), .. }, Some((_, file))) => vec![(*opener, file)],
+            (Outcome::Restarted { granted }, _) => granted.iter().map(|open| (open.opener, open.file)).collect(),
+            _ => vec![],
+        }
+    }
+
+    /// The client that has restarted.
+    fn restarted(&self) -> Option<usize> {
+        match self.step {
+            Step::Restart { client } if self.refusal().is_none() => Some(client as usize),
             _ => None,
         }
     }
 
     fn touches(&self, client: usize, file: usize) -> bool {
-        self.place() == Some((client, file)) || self.granted() == Some((client, file))
+        let restarted = self.restarted() == Some(client) && file < self.sizes().files;
+        restarted || self.place() == Some((client, file)) || self.granted().contains(&(client, file))
     }
 }
 
@@ -62,7 +71,7 @@ pub fn broken(taken: &Taken) -> Option<&'static str> {
 
 type Promise = fn(&Taken) -> bool;
 
-const PROMISES: [(&str, Promise); 13] = [
+const PROMISES: [(&str, Promise); 15] = [
     ("refusals are tested in number order, lowest first", |taken| {
         taken.refusal() == refusals::lowest(&taken.before, &taken.step)
     }),
@@ -75,8 +84,24 @@ const PROMISES: [(&str, Promise); 13] = [
     }),
     ("a step gets a reply of its own form", has_its_form),
     ("at a crash, a report and an end nothing at a client changes", |taken| {
-        taken.place().is_some() || taken.after.clients == taken.before.clients
+        let whole_table = matches!(taken.step, Step::Crash | Step::Report { .. } | Step::End);
+        !whole_table || taken.after.clients == taken.before.clients
     }),
+    ("a client that has restarted has nothing left, at both ends", |taken| {
+        taken.restarted().is_none_or(|client| has_nothing_left(taken, client))
+    }),
+    (
+        "a restart counts as a report while the server recovers, and leaves the blocks, recovery and other reports",
+        |taken| {
+            let (server, before) = (&taken.after.server, &taken.before.server);
+            let mut entries = server.entries.iter().zip(&before.entries);
+            taken.restarted().is_none_or(|client| {
+                let reported = if before.recovering { before.reported.with(client) } else { before.reported };
+                (server.recovering, server.reported) == (before.recovering, reported)
+                    && entries.all(|(after, before)| after.blocks == before.blocks)
+            })
+        },
+    ),
     ("versions and blocks survive a crash; the rest does not", |taken| {
         let Sizes { clients, files, .. } = taken.sizes();
         let survives = |(after, before): (&Entry, &Entry)| {
@@ -99,7 +124,7 @@ const PROMISES: [(&str, Promise); 13] = [
     ),
     ("after a grant no open waits and no callback is out", |taken| {
         let after = |file| nothing_waits(taken.sizes().clients, &taken.after.server.entries[file]);
-        taken.granted().is_none_or(|(_, file)| after(file))
+        taken.granted().into_iter().all(|(_, file)| after(file))
     }),
     ("a client field past the clients reads as none, a version of 0 as 1, a kind above 3 as no callback", |taken| {
         let plain = Taken::from(as_read(&taken.before), taken.step);
@@ -124,8 +149,9 @@ fn nothing_waits(clients: usize, entry: &Entry) -> bool {
 /// by its station and its G fields; else K." With A comes the number of blocks that were sent, as many as there are at
 /// the most (Wishes 5 and 7).
 fn has_its_form(taken: &Taken) -> bool {
-    let Sizes { clients, blocks, .. } = taken.sizes();
-    match (taken.step, taken.outcome) {
+    let Sizes { clients, files, blocks } = taken.sizes();
+    let granted_well = |opener: usize, grant: &Grant| opener < clients && grant.previous + 1 == grant.latest;
+    match (taken.step, &taken.outcome) {
         (_, Outcome::Refused(_)) => taken.step != Step::Crash,
         (Step::Open { .. }, Outcome::Granted(grant)) => grant.previous + 1 == grant.latest,
         (Step::Open { client, .. }, Outcome::Waits(Callbacks(kinds))) => {
@@ -136,22 +162,30 @@ fn has_its_form(taken: &Taken) -> bool {
                 && past.iter().all(|&kind| kind == 0)
         }
         (Step::Reply { .. }, Outcome::Replied { sent, granted }) => {
-            let granted_well = |(opener, grant): (usize, Grant)| opener < clients && grant.previous + 1 == grant.latest;
-            sent <= blocks && granted.is_none_or(granted_well)
+            *sent <= blocks && granted.is_none_or(|(opener, grant)| granted_well(opener, &grant))
+        }
+        (Step::Restart { client }, Outcome::Restarted { granted }) => {
+            granted.is_sorted_by(|one, next| one.file < next.file)
+                && granted.iter().all(|open| {
+                    open.file < files && open.opener != client as usize && granted_well(open.opener, &open.grant)
+                })
         }
         (Step::Read { .. }, Outcome::Value(_)) => true,
-        (Step::Open { .. } | Step::Reply { .. } | Step::Read { .. }, _) => false,
-        (_, outcome) => outcome == Outcome::Done,
+        (Step::Open { .. } | Step::Reply { .. } | Step::Read { .. } | Step::Restart { .. }, _) => false,
+        (_, outcome) => *outcome == Outcome::Done,
     }
 }
 
+/// A restart leaves the other clients alone save those that it grants an open.
 fn leaves_the_rest_alone(taken: &Taken) -> bool {
-    let Some((_, file)) = taken.place() else { return true };
     let (before, after) = (&taken.before, &taken.after);
     let same_entry = |other| after.server.entries[other] == before.server.entries[other];
     let same_end = |client: usize, file: usize| after.clients[client].files[file] == before.clients[client].files[file];
-    (0..FILES).all(|other| other == file || same_entry(other))
-        && (0..CLIENTS).all(|client| (0..FILES).all(|file| taken.touches(client, file) || same_end(client, file)))
+    let same_ends =
+        (0..CLIENTS).all(|client| (0..FILES).all(|file| taken.touches(client, file) || same_end(client, file)));
+    let Some((_, file)) = taken.place() else { return taken.restarted().is_none() || same_ends };
+    same_ends
+        && (0..FILES).all(|other| other == file || same_entry(other))
         && (after.server.recovering, after.server.reported) == (before.server.recovering, before.server.reported)
 }
 
@@ -162,6 +196,23 @@ fn leaves_the_table(taken: &Taken) -> bool {
     let flushed = matches!(taken.step, Step::Flush { .. }) && before.last_writer == ClientField(client as u8);
     let last_writer = if flushed { after.last_writer } else { before.last_writer };
     *after == Entry { blocks: after.blocks, last_writer, ..before.clone() }
+}
+
+/// Of the files and blocks in force.
+fn has_nothing_left(taken: &Taken, client: usize) -> bool {
+    let Sizes { files, blocks, .. } = taken.sizes();
+    let at_server = |entry: &Entry| {
+        let named = [entry.last_writer, entry.waiting.opener].contains(&ClientField(client as u8));
+        entry.records[client] == Record::default() && !named
+    };
+    let own = |file: &ClientFile| {
+        let Copies { values, held, dirty } = &file.copies;
+        let dropped = |block: usize| (values[block], held[block], dirty[block]) == (0, false, false);
+        (file.record, file.last_writer_flag, file.cached_version) == (Record::default(), false, 0)
+            && (0..blocks).all(dropped)
+    };
+    taken.after.server.entries[..files].iter().all(at_server)
+        && taken.after.clients[client].files[..files].iter().all(own)
 }
 
 /// The blocks that an answer has made clean, if its callback asked for them.

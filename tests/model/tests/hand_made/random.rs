@@ -37,7 +37,7 @@ fn hold(seeds: Range<u64>, steps: usize) -> Tally {
 
 #[test]
 fn random_services_keep_every_promise() {
-    let tally = hold(0..20_000, 8);
+    let tally = hold(0..24_000, 8);
     use Refusal::*;
     let met = |refusal| tally.refused(refusal) > 50;
     assert!([NoSuchClient, NoSuchFile, NoSuchBlock, Recovering, NotRecovering, AlreadyReported].into_iter().all(met));
@@ -45,6 +45,7 @@ fn random_services_keep_every_promise() {
     assert!(met(VersionAtLimit) && tally.waits() > 1000 && tally.grants_after_waits() > 500);
     assert!(tally.recoveries() > 100);
     assert!(tally.behind().least() > 20, "{}", tally.behind());
+    assert!(tally.restarts().least() > 10, "{}", tally.restarts());
 }
 
 /// Run it with `--release` and `--ignored`.
@@ -151,7 +152,7 @@ impl Maker {
         let sizes = in_force(service);
         let (client, file, block) = (self.number(sizes.clients), self.file(service), self.number(sizes.blocks));
         let mode = self.mode();
-        match self.rng.below(33) {
+        match self.rng.below(39) {
             0..9 => Step::Open { mode, client, file },
             9..13 => Step::Close { mode, client, file },
             13..20 => Step::Reply { client: self.called(service, file).unwrap_or(client), file },
@@ -160,7 +161,8 @@ impl Maker {
             26..28 => self.flush(service, client, file, block),
             28 => Step::Crash,
             29 => Step::End,
-            _ => Step::Report { client },
+            30..33 => Step::Report { client },
+            _ => Step::Restart { client: self.restarting(service, file).unwrap_or(client) },
         }
     }
 
@@ -184,6 +186,16 @@ impl Maker {
         let waiting = service.server.entries.get(file as usize)?.waiting.read(in_force(service))?;
         let called: Vec<usize> = waiting.callbacks.clients().members().collect();
         (self.coin() && !called.is_empty()).then(|| *self.rng.pick(&called) as u64)
+    }
+
+    /// Half of the time a client that is called on this file or waits for it, or its last writer, if there is one.
+    fn restarting(&mut self, service: &Service, file: u64) -> Option<u64> {
+        let sizes = in_force(service);
+        let entry = service.server.entries.get(file as usize)?;
+        let opener = entry.waiting.read(sizes).map(|open| open.opener as u64);
+        let last_writer = entry.last_writer.read(sizes).map(|client| client as u64);
+        let called = self.called(service, file);
+        if self.coin() { *self.rng.pick(&[called, called, opener, last_writer]) } else { None }
     }
 
     fn file(&mut self, service: &Service) -> u64 {

@@ -11,7 +11,7 @@ pub fn lowest(service: &Service, step: &Step) -> Option<usize> {
 }
 
 /// "Open tests 2, 3, 5, 9, 12, 14; close 2, 3, 5, 9, 11; read and write 2, 3, 4, 5, 11; flush 2, 3, 4, 5, 13; reply 2, 3,
-/// 5, 10; report 2, 6, 7; end 6, 8; crash none."
+/// 5, 10; report 2, 6, 7; end 6, 8; crash none." "BT tests 2 only" (Wish 8).
 fn tested(step: &Step) -> &'static [usize] {
     match step {
         Step::Open { .. } => &[2, 3, 5, 9, 12, 14],
@@ -22,6 +22,7 @@ fn tested(step: &Step) -> &'static [usize] {
         Step::Report { .. } => &[2, 6, 7],
         Step::End => &[6, 8],
         Step::Crash => &[],
+        Step::Restart { .. } => &[2],
     }
 }
 
@@ -62,7 +63,7 @@ impl Numbers {
             Step::Reply { client, file } => (client, file, 0),
             Step::Read { client, file, block } | Step::Flush { client, file, block } => (client, file, block),
             Step::Write { client, file, block, .. } => (client, file, block),
-            Step::Report { client } => (client, 0, 0),
+            Step::Report { client } | Step::Restart { client } => (client, 0, 0),
             Step::Crash | Step::End => (0, 0, 0),
         };
         Numbers { client, file, block }

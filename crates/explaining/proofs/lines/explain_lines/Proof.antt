@@ -13,9 +13,8 @@ use Rattle.sizes.specs.declared.sizes.Sizes.{Sizes}
 use Rattle.sizes.specs.Sizes.{Permitted, inForce}
 use Rattle.sizes.proofs.InForce.{in-force-permitted}
 use Rattle.blocks.specs.Stores.{lent}
-use Rattle.words.specs.Rows.{rowWords, tableWords}
+use Rattle.words.specs.Rows.{tableWords}
 use Rattle.words.specs.Said.{saidRoom}
-use Rattle.words.proofs.Listing.{length-listed}
 use Rattle.service.specs.Lent.{lentFlags}
 use Rattle.stepfile.specs.declared.parsed.Parsed.{Parsed}
 use Rattle.stepfile.specs.declared.parsed.Read.the-variants.{Line}
@@ -33,23 +32,24 @@ use Rattle.sentences.specs.Explained.{explainedRoom}
 use Rattle.playing.specs.Lines.{choosesSizes, Long}
 use Rattle.playing.proofs.FirstLines.{none-later, not-chosen}
 use Rattle.explaining.specs.Lines.{explaining, stateHeld, TellsLine}
+use Rattle.explaining.proofs.Wholes.{stored-long}
 use Rattle.explaining.proofs.Explaining.{step-told, sets-nothing, line-told}
 use Rattle.explaining.proofs.lines.explain_lines.Statement.{statement}
 use Rattle.explaining.proofs.lines.explain_lines.Tie as tie
 
 -- the lines before this one are told, no line that can be told chooses the sizes, and the arrays have their lengths
 abbrev Inv-loop : tie.InvT-loop
-Inv-loop fresh first input out₀ table₀ flags₀ blocks₀ copies₀ held₀ dirty₀ written₀ writers₀ copied₀ waiting₀ refusals₀ given force words₀ number₀ used₀ to₀ out table flags blocks copies held dirty written writers copied waiting refusals words number used to =
+Inv-loop fresh first input out₀ table₀ flags₀ blocks₀ copies₀ held₀ dirty₀ written₀ writers₀ copied₀ waiting₀ refusals₀ given force words₀ before₀ number₀ used₀ to₀ out table flags blocks copies held dirty written writers copied waiting refusals words before number used to =
     GoesOn (explaining fresh) input
     (stateHeld given table₀ flags₀ (lent blocks₀ copies₀ held₀ dirty₀) (entered written₀ writers₀ copied₀ waiting₀) refusals₀)
     number₀ used₀ to₀ out₀
     (stateHeld given table flags (lent blocks copies held dirty) (entered written writers copied waiting) refusals)
     number used to out
     × (((choosesSizes fresh number (drop used input) && canTell explainedRoom (length out) to number) ≡ false)
-    × (Long table₀ flags₀ table flags × (length words ≡ saidRoom)))
+    × (Long table₀ flags₀ table flags × ((length words ≡ saidRoom) × (length before ≡ tableWords))))
 
 abbrev μ-loop : tie.MeasureT-loop
-μ-loop fresh first input out₀ table₀ flags₀ blocks₀ copies₀ held₀ dirty₀ written₀ writers₀ copied₀ waiting₀ refusals₀ given force words₀ number₀ used₀ to₀ out table flags blocks copies held dirty written writers copied waiting refusals words number used to =
+μ-loop fresh first input out₀ table₀ flags₀ blocks₀ copies₀ held₀ dirty₀ written₀ writers₀ copied₀ waiting₀ refusals₀ given force words₀ before₀ number₀ used₀ to₀ out table flags blocks copies held dirty written writers copied waiting refusals words before number used to =
     length input - used
 
 -- Before a line, or the end.
@@ -114,7 +114,7 @@ module _ (c : tie.At-loop Inv-loop μ-loop) where
   flags-long = long .reports ∙ start .pre .1
 
   words-long : length (c .loop .words) ≡ saidRoom
-  words-long = c .loop .inv .1 .1 .1
+  words-long = c .loop .inv .1 .1 .1 .0
 
   kept-length : length (c .loop .out) ≡ length out₀
   kept-length = same-length (explaining fresh₀) came first₀ input₀ out₀ stands (c .loop .number) (c .loop .used) (c .loop .to) (c .loop .out) reached
@@ -178,7 +178,7 @@ loop-holds c =
     let a = begun .before .before .before .before .before .before .before .before .before .before .before .args in
     let ledger = entered (now (a .written)) (now (a .writers)) (now (a .copied)) (now (a .waiting)) in (
       λ s n out w. w,
-      (begun .explain-first .ensures ledger .chosen, (record { rows = refl; reports = refl }, search needs)),
+      (begun .explain-first .ensures ledger .chosen, (record { rows = refl; reports = refl }, (search needs, search needs))),
     )
 
 add-number : tie.Need-add-number Inv-loop μ-loop
@@ -202,24 +202,28 @@ loop-again c =
     told .ensures .0 (fresh₀ at) _ (ledger at) (lineBytes (input₀ at) (l .used) (next line))
     (sets-nothing (fresh₀ at) (l .number) (lineBytes (input₀ at) (l .used) (next line)) (plain line)) in (
       λ s n out w. told-so line _ _ _ (told .result) none tells s n out (l .inv .0 s n out w),
-      (none-next line _ _, (l .inv .1 .1 .0, told .ensures .1 ∙ words-long at)),
+      (none-next line _ _, (l .inv .1 .1 .0, (told .ensures .1 ∙ words-long at, l .inv .1 .1 .1 .1))),
     )
 
 -- ---- a line that gives a step
 
-row-at-requires : tie.Need-row-at-requires Inv-loop μ-loop
-row-at-requires c κs = (omega arith, table-long (at-line (c .before .before .before .before .before .before)))
+keep-before-requires : tie.Need-keep-before-requires Inv-loop μ-loop
+keep-before-requires c κs =
+    let at = at-line (c .before .before .before .before .before .before) in
+    (table-long at, at .loop .inv .1 .1 .1 .1)
+
+look-requires : tie.Need-look-requires Inv-loop μ-loop
+look-requires c κs =
+    let kept = c .before .before .before .before .before .before in
+    stored-long _ _ _ _ _ _ (kept .keep-before .ensures) (at-line (kept .before .before .before .before .before .before .before) .loop .inv .1 .1 .1 .1)
 
 -- the step was taken
 module _ (c : tie.After-take-step Inv-loop μ-loop) where
   abbrev line-of : tie.After-known-told Inv-loop μ-loop
   line-of = c .before .before .before .before .before .before .before .before .before .before .before .before .before .before .before .before .before .before .before .before .before .before
 
-  row-long : length (c .before .before .before .before .before .before .before .before .before .before .before .before .before .before .before .row-at .result) ≡ rowWords
-  row-long = ap length (c .before .before .before .before .before .before .before .before .before .before .before .before .before .before .before .row-at .ensures) ∙ length-listed rowWords _
-
-look-requires : tie.Need-look-requires Inv-loop μ-loop
-look-requires c κs = search needs
+  abbrev kept-of : tie.After-keep-before Inv-loop μ-loop
+  kept-of = c .before .before .before .before .before .before .before .before .before .before .before .before .before .before .before
 
 take-step-requires : tie.Need-take-step-requires Inv-loop μ-loop
 take-step-requires c κs =
@@ -236,7 +240,7 @@ tell-step-requires c κs =
         steps .short,
         (
           steps .wordsLong ∙ words-long at,
-          (row-long taken, (steps .long ∙ table-long at, steps .flagsLong ∙ flags-long at)),
+          (stored-long _ _ _ _ _ _ (kept-of taken .keep-before .ensures) (at .loop .inv .1 .1 .1 .1), (steps .long ∙ table-long at, steps .flagsLong ∙ flags-long at)),
         ),
       ),
     )
@@ -245,17 +249,18 @@ loop-again-2 : tie.Need-loop-again-2 Inv-loop μ-loop
 loop-again-2 c =
     let told = c .before .before .tell-step in
     let taken = c .before .before .before .before .before .before .before .before .before .before .before .before .before in
-    let seen = c .before .before .before .before .before .before .before .before .before .before .before .before .before .before .before .before .before .before .before .before .before .look in
-    let row = c .before .before .before .before .before .before .before .before .before .before .before .before .before .before .before .before .before .before .before .before .before .before .before .before .before .before .before .before .row-at in
-    let asked = c .before .before .before .before .before .before .before .before .before .before .before .before .before .before .before .before .before .before .before .before .before .before .before .before .before .before .before .before .before .before .before .asked in
-    let parsed = c .before .before .before .before .before .before .before .before .before .before .before .before .before .before .before .before .before .before .before .before .before .before .before .before .before .before .before .before .before .before .before .before .before .parsed2 in
+    let seen = taken .before .before .before .before .before .before .before .before .look in
+    let kept = kept-of taken in
+    let asked = kept .before .before .before .asked in
+    let parsed = kept .before .before .before .before .before .parsed2 in
     let line = line-of taken in
     let at = at-line line in
     let l = at .loop in
     let steps = taken .take-step .ensures in
     let tells =
     step-told (fresh₀ at) (given at) (at .before .in-force .result) (in-force at) (l .number) (parsed .given .0 .0) (asked .result) (asked .ensures)
-    (l .table) (l .flags) _ (l .words) _ _ _ _ _ steps (ledger at) (row .result) (row .ensures) (seen .result)
+    (l .table) (l .flags) _ (l .words) _ _ _ _ _ steps (table-long at) (ledger at) _ _ (l .inv .1 .1 .1 .1) (kept .keep-before .ensures)
+    (seen .result)
     (seen .ensures .0)
     (seen .ensures .1 .0)
     (seen .ensures .1 .1)
@@ -276,7 +281,7 @@ loop-again-2 c =
         none-next line _ _,
         (
           record { rows = steps .long ∙ l .inv .1 .1 .0 .rows; reports = steps .flagsLong ∙ l .inv .1 .1 .0 .reports },
-          steps .wordsLong ∙ words-long at,
+          (steps .wordsLong ∙ words-long at, stored-long _ _ _ _ _ _ (kept .keep-before .ensures) (l .inv .1 .1 .1 .1)),
         ),
       ),
     )
@@ -323,7 +328,7 @@ explain-lines-spec =
     (λ c. fewer-left (c .before .before .before .before .before .before .before .before))
     loop-again
     (λ c κs. tt)
-    row-at-requires
+    keep-before-requires
     look-requires
     take-step-requires
     tell-step-requires

@@ -25,6 +25,8 @@ look-spec =
     (search needs)
     (search needs)
     (search needs)
+    (search needs)
+    (search needs)
     (λ c κs. tt)
     (λ c κs. tt)
     (λ c κs. tt)

@@ -23,7 +23,7 @@ returns c =
           set-told fresh s (a .number) line _ set l s _ (now (a .refusals)) _ (now (a .out)) (a .at) _ (text .result)
           refl
           refl
-          (text .ensures .0 _ _ (says .says))
+          (text .ensures .0 _ _ _ (says .says))
           (text .ensures .1)
           (counted .count-refusal .ensures),
       says .long,

@@ -24,7 +24,7 @@ returns c =
           set-told fresh _ (a .number) line (a .setting) set l _ (replied .reply-to .result) (now (a .refusals)) _ (now (a .out)) (a .at) _ (text .result)
           (chosen .choose-sizes .ensures .0)
           (replied .reply-to .ensures _)
-          (text .ensures .0 _ _ (said .say .ensures .says))
+          (text .ensures .0 _ _ _ (said .say .ensures .says))
           (text .ensures .1)
           (counted .count-refusal .ensures),
       chosen .choose-sizes .ensures .1,

@@ -58,6 +58,12 @@ slice-aggregate-put-text-2 c = search needs
 put-text-requires-2 : tie.Need-put-text-requires-2
 put-text-requires-2 c κs = search needs
 
+enum-known-step-5 : tie.Need-enum-known-step-5
+enum-known-step-5 c = search needs
+
+put-restarts-requires : tie.Need-put-restarts-requires
+put-restarts-requires c κs = search needs
+
 returns : tie.Need-returns
 returns c =
     let start = c .before .before .before in (
@@ -157,6 +163,19 @@ returns-9 c =
       search needs,
     )
 
+same-length-7 : tie.Need-same-length-7
+same-length-7 c = search needs
+
+returns-10 : tie.Need-returns-10
+returns-10 c =
+    let first = c .before .before in
+    let start = first .before .before .before .before .before .before in
+    let test = first .before .before .before in (
+      wrote-as (ap (doneText (start .args .caching)) (sym (test .step5 .given .1)))
+          (first .put-restarts .ensures .0),
+      search needs,
+    )
+
 pub put-done-spec : {M : Type 1} → statement M
 put-done-spec =
     tie.close
@@ -178,6 +197,8 @@ put-done-spec =
     enum-told-5
     slice-aggregate-put-text-2
     put-text-requires-2
+    enum-known-step-5
+    put-restarts-requires
     returns
     same-length
     returns-2
@@ -192,4 +213,6 @@ put-done-spec =
     same-length-5
     returns-8
     same-length-6
-    returns-9)
+    returns-9
+    same-length-7
+    returns-10)

@@ -1,40 +1,43 @@
--- `put_unwritten` meets its contract, by how the session began. Assumes nothing.
+-- `put_unwritten` meets its contract, by how the session began and whether a write was lost. Assumes nothing.
+use mathlib.Core.Path.{sym, _∙_}
 use borrow.Author.Needs.{needs}
-use Rattle.writer.proofs.Buffers.{wrote-as}
+use borrow.Author.Tests.{eq-eqb, ne-eqb, not-true, not-false}
 use Rattle.sizes.proofs.Choosing.{when, unless}
-use mathlib.Core.Path.{sym}
+use Rattle.writer.proofs.Buffers.{wrote-as}
 use Rattle.phrases.proofs.read.put_unwritten.Statement.{statement}
 use Rattle.phrases.proofs.read.put_unwritten.Tie as tie
 
-slice-aggregate-put-text : tie.Need-slice-aggregate-put-text
-slice-aggregate-put-text c = search needs
-
-put-text-requires : tie.Need-put-text-requires
-put-text-requires c κs = search needs
-
-same-length : tie.Need-same-length
-same-length c = search needs
-
 returns : tie.Need-returns
 returns c =
-    let first = c .before .before in (
-      wrote-as (sym (when _ _ (first .before .before .before .if1 .taken))) (first .put-text .ensures .0),
+    let first = c .before .before in
+    let test = first .before .before .before in (
+      wrote-as (sym (unless _ _ (not-true (test .before .before .args .fresh) (test .if1 .taken)))) (first .put-text .ensures .0),
       search needs,
     )
 
-slice-aggregate-put-text-2 : tie.Need-slice-aggregate-put-text-2
-slice-aggregate-put-text-2 c = search needs
-
-put-text-requires-2 : tie.Need-put-text-requires-2
-put-text-requires-2 c κs = search needs
-
-same-length-2 : tie.Need-same-length-2
-same-length-2 c = search needs
-
 returns-2 : tie.Need-returns-2
 returns-2 c =
-    let first = c .before .before in (
-      wrote-as (sym (unless _ _ (first .before .before .before .if1 .left))) (first .put-text2 .ensures .0),
+    let first = c .before .before in
+    let none = first .before .before .before in
+    let test = none .before in (
+      wrote-as
+          (sym
+          (when _ _ (not-false (test .before .before .args .fresh) (test .if1 .left))
+          ∙ when _ _ (eq-eqb _ 0 (none .if2 .taken))))
+          (first .put-text2 .ensures .0),
+      search needs,
+    )
+
+returns-3 : tie.Need-returns-3
+returns-3 c =
+    let first = c .before .before in
+    let some = first .before .before .before in
+    let test = some .before in (
+      wrote-as
+          (sym
+          (when _ _ (not-false (test .before .before .args .fresh) (test .if1 .left))
+          ∙ unless _ _ (ne-eqb _ 0 (some .if2 .left))))
+          (first .put-text3 .ensures .0),
       search needs,
     )
 
@@ -42,11 +45,15 @@ pub put-unwritten-spec : {M : Type 1} → statement M
 put-unwritten-spec =
     tie.close
     (tie.spec
-    slice-aggregate-put-text
-    put-text-requires
-    same-length
+    (search needs)
+    (search needs)
+    (search needs)
     returns
-    slice-aggregate-put-text-2
-    put-text-requires-2
-    same-length-2
-    returns-2)
+    (search needs)
+    (search needs)
+    (search needs)
+    returns-2
+    (search needs)
+    (search needs)
+    (search needs)
+    returns-3)

@@ -40,6 +40,9 @@ enum-told-7 c = search needs
 enum-told-8 : tie.Need-enum-told-8
 enum-told-8 c = search needs
 
+enum-told-9 : tie.Need-enum-told-9
+enum-told-9 c = search needs
+
 returns : tie.Need-returns
 returns c = (
   wrote-as (ap neededText (sym (c .enum-told .given .1))) (wrote-none _ _ (omega arith)),
@@ -104,6 +107,12 @@ returns-9 c = (
   search needs,
 )
 
+returns-10 : tie.Need-returns-10
+returns-10 c = (
+  wrote-as (ap neededText (sym (c .enum-told9 .given .1))) (wrote-none _ _ (omega arith)),
+  search needs,
+)
+
 pub put-needed-spec : {M : Type 1} → statement M
 put-needed-spec =
     tie.close
@@ -119,6 +128,7 @@ put-needed-spec =
     enum-told-6
     enum-told-7
     enum-told-8
+    enum-told-9
     returns
     same-length
     returns-2
@@ -129,4 +139,5 @@ put-needed-spec =
     returns-6
     returns-7
     returns-8
-    returns-9)
+    returns-9
+    returns-10)

@@ -178,7 +178,7 @@ loop-again c =
           (outcomeAsked (stands at) (r .kind) (r .client) (r .file) (r .block) (r .value))
           _ (wrote .result) _ (l .inv .0 s n out w) (is-read line) (can line) is
           (steps .service)
-          (wrote .ensures .0 _ _ (steps .says .says))
+          (wrote .ensures .0 _ _ _ (steps .says .says))
           (wrote .ensures .1),
       (
         none-later (settable₀ at) (l .number) _ _ (from-1 lineRoom (length (l .out)) (l .to) (l .number) (can line)),

@@ -8,7 +8,7 @@ use lib.ListN.{length, drop}
 use borrow.Author.Needs.{needs}
 use denote.Ref.{now}
 use Rattle.stepfile.specs.Grammar.{found, onward, shapeOf, shaped, step}
-use Rattle.protocol.specs.declared.step.Step.the-variants.{Report}
+use Rattle.protocol.specs.declared.step.Step.the-variants.{Report, Restart}
 use Rattle.reader.proofs.Words.{step-short, step-word, step-unknown}
 use Rattle.reader.proofs.step.long_at.Statement.{statement}
 use Rattle.reader.proofs.step.long_at.Tie as tie
@@ -130,11 +130,20 @@ returns-13 : tie.Need-returns-13
 unfolding shapeOf shaped
 returns-13 c = word (c .before) 69 78 (lit< tt) (c .match .keys11)
 
+-- BT
 returns-14 : tie.Need-returns-14
+unfolding shapeOf shaped
 returns-14 c =
+    let number = c .before in
+    word (number .before .before) 66 84 (lit< tt) (number .before .match .keys12)
+    ∙ ap (λ t. onward t (λ a rest. found (Restart a) rest)) (number .argument-at2 .ensures)
+    ∙ c .restart-of .ensures _
+
+returns-15 : tie.Need-returns-15
+returns-15 c =
     let r = c .match .rest in
     step-unknown (S (c .before)) (At (c .before)) _ (room (c .before)) (c .before .word-at .ensures)
-    (r .0 .0 .0 .0 .0 .0 .0 .0 .0 .0 .1, (r .0 .0 .0 .0 .0 .0 .0 .0 .0 .1, (r .0 .0 .0 .0 .0 .0 .0 .0 .1, (r .0 .0 .0 .0 .0 .0 .0 .1, (r .0 .0 .0 .0 .0 .0 .1, (r .0 .0 .0 .0 .0 .1, (r .0 .0 .0 .0 .1, (r .0 .0 .0 .1, (r .0 .0 .1, (r .0 .1, (r .1, tt)))))))))))
+    (r .0 .0 .0 .0 .0 .0 .0 .0 .0 .0 .0 .1, (r .0 .0 .0 .0 .0 .0 .0 .0 .0 .0 .1, (r .0 .0 .0 .0 .0 .0 .0 .0 .0 .1, (r .0 .0 .0 .0 .0 .0 .0 .0 .1, (r .0 .0 .0 .0 .0 .0 .0 .1, (r .0 .0 .0 .0 .0 .0 .1, (r .0 .0 .0 .0 .0 .1, (r .0 .0 .0 .0 .1, (r .0 .0 .0 .1, (r .0 .0 .1, (r .0 .1, (r .1, tt))))))))))))
 
 pub long-at-spec : {M : Type 1} → statement M
 long-at-spec =
@@ -143,6 +152,8 @@ long-at-spec =
     returns
     (search needs)
     returns-2
+    (search needs)
+    (search needs)
     (search needs)
     (search needs)
     (search needs)
@@ -174,4 +185,5 @@ long-at-spec =
     returns-11
     returns-12
     returns-13
-    returns-14)
+    returns-14
+    returns-15)

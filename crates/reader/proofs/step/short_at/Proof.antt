@@ -111,13 +111,23 @@ returns-11 : tie.Need-returns-11
 unfolding shapeOf shaped
 returns-11 c there = word (c .before) 69 78 (lit< tt) (c .match .keys11)
 
+-- BT
 returns-12 : tie.Need-returns-12
-returns-12 c there = absurd (there refl)
+unfolding shapeOf
+returns-12 c there =
+    let number = c .before in
+    word (number .before .before) 66 84 (lit< tt) (number .before .match .keys12)
+    ∙ short-number _ _ _ there _ _ (number .digit-at2 .ensures .0) (c .restart-of .ensures _)
+
+returns-13 : tie.Need-returns-13
+returns-13 c there = absurd (there refl)
 
 pub short-at-spec : {M : Type 1} → statement M
 short-at-spec =
     tie.close
     (tie.spec
+    (search needs)
+    (search needs)
     (search needs)
     (search needs)
     (search needs)
@@ -149,4 +159,5 @@ short-at-spec =
     returns-9
     returns-10
     returns-11
-    returns-12)
+    returns-12
+    returns-13)

@@ -7,10 +7,10 @@ use Rattle.sentences.proofs.explained.explain_setting.Statement.{statem
 use Rattle.sentences.proofs.explained.explain_setting.Tie as tie
 
 returns : tie.Need-returns
-returns c = (λ reply calls says. no-room-wrote _ _ _ _ (omega arith), search needs)
+returns c = (λ reply calls granted says. no-room-wrote _ _ _ _ (omega arith), search needs)
 
 returns-2 : tie.Need-returns-2
-returns-2 c = (λ reply calls says. no-room-wrote _ _ _ _ (omega arith), search needs)
+returns-2 c = (λ reply calls granted says. no-room-wrote _ _ _ _ (omega arith), search needs)
 
 returns-3 : tie.Need-returns-3
 unfolding explainedText
@@ -19,9 +19,9 @@ returns-3 c =
     let said = feed .before .before .before .before in
     let space = said .before .before .before .before in
     let begun = space .before .before .before .before .before in (
-      λ reply calls says.
+      λ reply calls granted says.
           wrote-if-room _ _ _ _ _ _ (omega arith)
-          (wrote-then (begun .put-said .ensures .0 reply calls says)
+          (wrote-then (begun .put-said .ensures .0 reply calls granted says)
           (wrote-then (space .put-text .ensures .0)
           (wrote-then (said .put-setting .ensures .0) (feed .put-byte .ensures .0)))),
       search needs,

@@ -1,19 +1,21 @@
 -- `put_sentence` meets its contract, reply by reply. Assumes nothing.
-use Prim.Native.Nat.{ℕ, _%_}
+use Prim.Native.Nat.{ℕ, _%_, _<_}
 use mathlib.Core.Path.{_≡_, refl, sym, ap, _∙_}
-use mathlib.Core.List.{List}
+use mathlib.Core.List.{List, []}
 use native.Mathlib.Omega.{arith}
 use lib.ListN.{length}
 use denote.Ref.{now}
 use borrow.Author.Needs.{needs}
 use Rattle.sizes.specs.Sizes.{maxFiles}
+use Rattle.protocol.specs.declared.entry.Entry.{Entry}
 use Rattle.protocol.specs.declared.reply.Reply.{Reply}
 use Rattle.protocol.specs.Client.{sideOf}
 use Rattle.protocol.specs.Step.{clientOf, fileOf, blockOf, modeOf}
 use Rattle.words.specs.Rows.{entryHeld, sidesHeld}
+use Rattle.ledger.specs.Ledger.{entered, linesAt}
 use Rattle.phrases.specs.Phrase.{modeByKind}
 use Rattle.phrases.specs.Accepted.{stillText}
-use Rattle.sentences.specs.Scene.{sceneHeld}
+use Rattle.sentences.specs.Scene.{sceneHeld, wholeHeld}
 use Rattle.sentences.specs.Explained.{saidOf}
 use Rattle.writer.proofs.Buffers.{wrote-as, wrote-then}
 use Rattle.phrases.proofs.Names.{mode-named}
@@ -23,8 +25,8 @@ use Rattle.sentences.proofs.sentence.put_sentence.Statement.{statement}
 use Rattle.sentences.proofs.sentence.put_sentence.Tie as tie
 
 module _ (c : tie.After-asked) where
-  abbrev row : List ℕ
-  row = now (c .before .before .args .row)
+  abbrev before : List ℕ
+  before = now (c .before .before .args .before)
 
   -- what the numbers name, the step names
   client-is : c .asked .result .client ≡ clientOf (c .before .before .args .step)
@@ -39,12 +41,17 @@ module _ (c : tie.After-asked) where
   mode-is : modeByKind (c .asked .result .kind) ≡ modeOf (c .before .before .args .step)
   mode-is = mode-named (c .before .before .args .step) (c .asked .ensures)
 
+  -- the entry before the step
+  entry-named : entryHeld before (c .asked .result .file % maxFiles) ≡ entryHeld before (fileOf (c .before .before .args .step) % maxFiles)
+  entry-named = ap (λ (f : ℕ). entryHeld before (f % maxFiles)) file-is
+
   -- of the step that is answered so
   abbrev said : Reply → List ℕ
   said r =
       let a = c .before .before .args in
       saidOf (a .fresh)
-      (sceneHeld (a .sizes) (a .step) (now (a .row)) (now (a .table)) (now (a .flags)) (a .since) (a .told) (a .caching))
+      (sceneHeld (a .sizes) (a .step) (now (a .before)) (now (a .table)) (now (a .flags)) (a .since) (a .told) (a .caching))
+      (wholeHeld (now (a .before)) (now (a .table)) (linesAt (entered (now (a .written)) (now (a .writers)) [] [])))
       (a .step) (a .calls) r
 
 same : (i : ℕ) → i ≡ i
@@ -67,7 +74,8 @@ returns c =
     let i = client-is asked in (
       wrote-as
           (grant-as (is .reply .given .0 .0) (put .before .before .before .mode-by-kind .ensures ∙ mode-is asked)
-          (put .before .side-in .ensures ∙ ap (sideOf (sidesHeld (row asked) 0)) i)
+          (put .before .before .side-in .ensures
+          ∙ (λ k. sideOf (sidesHeld (before asked) (file-is asked k % maxFiles)) (i k)))
           i
           (file-is asked)
           ∙ ap (said asked) (sym (is .reply .given .1)))
@@ -82,7 +90,7 @@ returns-2 c =
     let asked = is .before .before in
     let a = asked .before .before .args in (
       wrote-as
-          (wait-as (a .sizes .clients) (a .calls) (put .before .before .entry-in .ensures)
+          (wait-as (a .sizes .clients) (a .calls) (put .before .before .entry-at .ensures ∙ entry-named asked)
           (put .before .before .before .mode-by-kind2 .ensures ∙ mode-is asked)
           (client-is asked)
           (file-is asked)
@@ -112,7 +120,7 @@ returns-4 c =
     let a = asked .before .before .args in (
       wrote-as
           (refusal-as (a .sizes) (a .since) (a .step) (is .reply2 .given .0 .0) (put .before .before .before .reported-in .ensures)
-          (put .before .before .entry-in2 .ensures)
+          (put .before .before .entry-at2 .ensures ∙ entry-named asked)
           ∙ ap (said asked) (sym (is .reply2 .given .1)))
           (put .put-refusal .ensures .0),
       search needs,
@@ -125,7 +133,7 @@ returns-5 c =
     let is = answer .before .before .before .before in
     let asked = is .before .before in
     let a = asked .before .before .args in
-    let after = answer .before .before .entry-at .ensures ∙ ap (λ (f : ℕ). entryHeld (now (a .table)) (f % maxFiles)) (file-is asked) in (
+    let after = answer .before .before .entry-at3 .ensures ∙ ap (λ (f : ℕ). entryHeld (now (a .table)) (f % maxFiles)) (file-is asked) in (
       wrote-as (ap (said asked) (sym (is .reply3 .given .1)))
           (wrote-then (wrote-as (answer-as _ (client-is asked) (file-is asked)) (answer .put-answer .ensures .0))
           (wrote-as (ap (stillText (a .sizes .clients)) after) (put .put-still .ensures .0))),
@@ -144,7 +152,9 @@ returns-6 c =
           (wrote-then (wrote-as (answer-as _ (client-is asked) f) (answer .put-answer2 .ensures .0))
           (wrote-then (text .put-text .ensures .0)
           (wrote-as
-          (grant-as (is .reply4 .given .0 .1 .1 .0) (answer .before .before .before .mode-of .ensures) (answer .before .before .side-in2 .ensures)
+          (grant-as (is .reply4 .given .0 .1 .1 .0) (answer .before .before .before .mode-of .ensures ∙ ap (λ (e : Entry). e .mode) (entry-named asked))
+          (answer .before .before .side-in2 .ensures
+          ∙ ap (λ (f : ℕ). sideOf (sidesHeld (before asked) (f % maxFiles)) (is .reply4 .given .0 .1 .0)) f)
           (same (is .reply4 .given .0 .1 .0))
           f)
           (put .put-grant2 .ensures .0)))),
@@ -154,9 +164,42 @@ returns-6 c =
 returns-7 : tie.Need-returns-7
 returns-7 c =
     let put = c .before .before in
-    let is = put .before .before in
-    let asked = is .before .before in
-    (wrote-as (ap (said asked) (sym (is .enum-told3 .given .1))) (put .put-done .ensures .0), search needs)
+    let done = put .before .before .before .before in
+    let is = done .before .before in
+    let asked = is .before .before in (
+      wrote-as (ap (said asked) (sym (is .enum-told3 .given .1)))
+          (wrote-then (done .put-done .ensures .0) (put .put-restarted .ensures .0)),
+      search needs,
+    )
+
+-- the row of the file lies in the table
+row-in : (c : tie.After-asked) → c .asked .result .file % maxFiles < maxFiles
+row-in c = omega arith
+
+side-in-requires : tie.Need-side-in-requires
+side-in-requires c κs =
+    let asked = c .before .before .before .before in
+    (row-in asked, asked .before .before .pre .1 .1 .0)
+
+side-in-requires-2 : tie.Need-side-in-requires-2
+side-in-requires-2 c κs =
+    let asked = c .before .before .before .before .before in
+    (row-in asked, asked .before .before .pre .1 .1 .0)
+
+put-wait-requires : tie.Need-put-wait-requires
+put-wait-requires c κs = (c .before .before .before .before .before .before .before .pre .0 .clients, search needs)
+
+put-refusal-requires : tie.Need-put-refusal-requires
+put-refusal-requires c κs = (c .before .before .before .before .before .before .before .before .pre .0 .clients, search needs)
+
+put-still-requires : tie.Need-put-still-requires
+put-still-requires c κs =
+    (c .before .before .before .before .before .before .before .before .before .before .before .pre .0 .clients, search needs)
+
+put-restarted-requires : tie.Need-put-restarted-requires
+put-restarted-requires c κs =
+    let pre = c .before .before .before .before .before .before .before .before .before .pre in
+    (pre .0, (search needs, (pre .1 .1 .0, pre .1 .1 .1 .0)))
 
 pub put-sentence-spec : {M : Type 1} → statement M
 put-sentence-spec =
@@ -165,27 +208,30 @@ put-sentence-spec =
     (λ c κs. tt)
     (search needs)
     (λ c κs. tt)
+    side-in-requires
+    (search needs)
+    (search needs)
+    (λ c κs. tt)
+    (λ c κs. row-in (c .before .before .before))
+    put-wait-requires
+    (search needs)
+    (search needs)
+    (search needs)
+    (search needs)
+    (λ c κs. row-in (c .before .before .before .before))
+    put-refusal-requires
+    (search needs)
+    (λ c κs. row-in (c .before .before .before))
+    (search needs)
+    put-still-requires
+    (search needs)
+    (search needs)
     (search needs)
     (search needs)
     (search needs)
     (λ c κs. tt)
     (search needs)
-    (search needs)
-    (search needs)
-    (search needs)
-    (search needs)
-    (search needs)
-    (search needs)
-    (search needs)
-    (search needs)
-    (search needs)
-    (search needs)
-    (search needs)
-    (search needs)
-    (search needs)
-    (λ c κs. tt)
-    (search needs)
-    (search needs)
+    side-in-requires-2
     (search needs)
     (search needs)
     (search needs)
@@ -193,6 +239,7 @@ put-sentence-spec =
     put-grant-requires-2
     (search needs)
     (search needs)
+    put-restarted-requires
     (search needs)
     returns
     (search needs)

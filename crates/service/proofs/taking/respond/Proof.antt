@@ -141,8 +141,8 @@ returns-7 c =
     silently start (asked start) _ _ _ (c .silent6 .result) _ refl (c .silent6 .ensures)
     (table-serves (a .sizes) (asked start) (now (a .table)) _ (now (a .flags)) _ (stores start) (of .recovery-of .result)
     (recover .recover .result) _
-    (table-asked (a .kind) (a .client) (a .file) (a .block) (a .value) past)
-    (recover .recover .ensures .0 (a .file) (a .block) (a .value) past)
+    (table-asked (a .kind) (a .client) (a .file) (a .block) (a .value) past (start .pre .1 .0))
+    (recover .recover .ensures .0 (a .file) (a .block) (a .value) past (start .pre .1 .0))
     (of .recovery-of .ensures .0)
     (of .recovery-of .ensures .1)
     (start .pre .1 .1 .1)

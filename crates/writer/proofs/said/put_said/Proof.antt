@@ -13,8 +13,8 @@ returns c =
     let letter = fields .before .before .before .before in
     let number = letter .before .before .before .before in
     let a = number .before .before .before .args in (
-      λ reply calls says.
-          wrote-as (said-reply (a .said) (now (a .words)) reply calls says (a .number))
+      λ reply calls grants says.
+          wrote-as (said-reply (a .said) (now (a .words)) reply calls grants says (a .number))
           (wrote-then (number .put-decimal .ensures .0) (wrote-then (letter .put-letter .ensures .0) (fields .put-fields .ensures .0))),
       omega (arith, number .put-decimal .ensures .1, letter .put-letter .ensures .1, fields .put-fields .ensures .1),
     )

@@ -10,10 +10,10 @@ use Rattle.writer.proofs.said.write_said.Statement.{statement}
 use Rattle.writer.proofs.said.write_said.Tie as tie
 
 returns : tie.Need-returns
-returns c = ((λ reply calls says. no-room-wrote _ _ _ _ (omega arith)), search needs)
+returns c = ((λ reply calls grants says. no-room-wrote _ _ _ _ (omega arith)), search needs)
 
 returns-2 : tie.Need-returns-2
-returns-2 c = ((λ reply calls says. no-room-wrote _ _ _ _ (omega arith)), search needs)
+returns-2 c = ((λ reply calls grants says. no-room-wrote _ _ _ _ (omega arith)), search needs)
 
 returns-3 : tie.Need-returns-3
 returns-3 c =
@@ -21,9 +21,10 @@ returns-3 c =
     let put = feed .before .before .before .before in
     let start = put .before .before .before .before .before in
     let a = start .args in (
-      (λ reply calls says.
+      (λ reply calls grants says.
           wrote-if-room _ _ _ _ _ _ (omega arith)
-          (wrote-as (line-text (a .number) reply calls) (wrote-then (put .put-said .ensures .0 reply calls says) (feed .put-byte .ensures .0)))),
+          (wrote-as (line-text (a .number) reply calls grants)
+          (wrote-then (put .put-said .ensures .0 reply calls grants says) (feed .put-byte .ensures .0)))),
       omega (arith, put .put-said .ensures .1, feed .put-byte .ensures .1),
     )
 

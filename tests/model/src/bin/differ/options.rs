@@ -5,7 +5,8 @@ use std::ops::Range;
 
 use model::generate::{FileKind, seeds};
 
-pub const USAGE: &str = "usage: differ --player PATH [--seeds A..B] [--lines N] [--kinds hot,wide,malformed,session]";
+pub const USAGE: &str =
+    "usage: differ --player PATH [--seeds A..B] [--lines N] [--kinds hot,wide,malformed,session,restart]";
 
 pub struct Options {
     pub player: String,

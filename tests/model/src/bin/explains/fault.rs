@@ -13,7 +13,7 @@ pub struct Fault {
 /// What is told wrongly, given the lines so far.
 pub enum Wrong {
     Read(fn(&Lines, &mut Reading)),
-    /// A grant, at its open or after the last answer.
+    /// A grant, at its open, after the last answer or by a restart.
     Grant(fn(&Lines, &mut Granted)),
     Refusal(fn(&Lines, &mut Reason)),
     /// A line of any kind.
@@ -53,12 +53,15 @@ struct Faulty<'a> {
 
 impl Distortion for Faulty<'_> {
     fn line(&mut self, service: &Service, step: Option<&Step>, told: &mut Told) {
-        self.lines.push(Line { step: step.copied(), told: *told });
+        self.lines.push(Line { step: step.copied(), told: told.clone() });
         let lines = Lines { service, lines: &self.lines };
         match (&self.fault.wrong, told) {
             (Wrong::Read(change), Told::Read(reading)) => change(&lines, reading),
             (Wrong::Grant(change), Told::Granted(granted) | Told::AnsweredLast { granted, .. }) => {
                 change(&lines, granted);
+            }
+            (Wrong::Grant(change), Told::Restarted { granted, .. }) => {
+                granted.iter_mut().for_each(|granted| change(&lines, granted));
             }
             (Wrong::Refusal(change), Told::Refused(reason)) => change(&lines, reason),
             (Wrong::Line(change), told) => change(&lines, told),

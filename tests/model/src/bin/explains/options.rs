@@ -7,7 +7,7 @@ use model::generate::seeds;
 use crate::sample::Kind;
 
 pub const USAGE: &str = "usage: explains --explainer PROGRAM [--seeds A..B] [--lines N] \
-                         [--kinds hot,wide,malformed,session,resumed] [-- WORD..]
+                         [--kinds hot,wide,malformed,session,restart,resumed,resumed-restart] [-- WORD..]
        explains faults
        explains explain FAULT [--read-image FILE]";
 

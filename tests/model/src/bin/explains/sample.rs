@@ -2,7 +2,7 @@
 
 use model::check::Cuts;
 use model::explain::{Distortion, distorted, explained_from};
-use model::generate::{FileKind, closing_time, resumed_run, step_file};
+use model::generate::{FileKind, closing_time, restarted_run, resumed_run, step_file};
 use model::images::written;
 use model::{Document01, Service, play_on, replay, replay_from};
 
@@ -11,21 +11,26 @@ pub enum Kind {
     Fresh(FileKind),
     /// The run begins with an image.
     Resumed,
+    /// The same, and clients restart.
+    ResumedRestart,
 }
 
 impl Kind {
-    pub const ALL: [Kind; 5] = [
+    pub const ALL: [Kind; 7] = [
         Kind::Fresh(FileKind::Hot),
         Kind::Fresh(FileKind::Wide),
         Kind::Fresh(FileKind::Malformed),
         Kind::Fresh(FileKind::Session),
+        Kind::Fresh(FileKind::Restart),
         Kind::Resumed,
+        Kind::ResumedRestart,
     ];
 
     pub fn name(self) -> &'static str {
         match self {
             Kind::Fresh(kind) => kind.name(),
             Kind::Resumed => "resumed",
+            Kind::ResumedRestart => "resumed-restart",
         }
     }
 
@@ -47,8 +52,9 @@ impl Sample {
         let name = format!("{} seed {seed} lines {lines}", kind.name());
         match kind {
             Kind::Fresh(kind) => Sample { name, seed, input: step_file(kind, seed, lines), image: None },
-            Kind::Resumed => {
-                let (image, input) = resumed(seed, lines);
+            Kind::Resumed | Kind::ResumedRestart => {
+                let run = if matches!(kind, Kind::Resumed) { resumed_run } else { restarted_run };
+                let (image, input) = resumed(seed, lines, run);
                 Sample { name, seed, input, image: Some(image) }
             }
         }
@@ -94,11 +100,12 @@ impl Sample {
 }
 
 /// The image that a session, hot or wide file leaves once every client has closed and flushed, and the next run.
-fn resumed(seed: u64, lines: usize) -> (Vec<u8>, Vec<u8>) {
+fn resumed(seed: u64, lines: usize, run: fn(&mut Service, u64, usize) -> Vec<u8>) -> (Vec<u8>, Vec<u8>) {
     let kind = [FileKind::Session, FileKind::Hot, FileKind::Wide][seed as usize % 3];
     let mut service = Service::fresh();
     replay_from::<Document01>(&mut service, &step_file(kind, seed, lines), &mut ());
     closing_time(&mut service);
     let image = written(&service).expect("no open waits, and no recovery is under way");
-    (image, resumed_run(&mut service, seed, lines))
+    let input = run(&mut service, seed, lines);
+    (image, input)
 }

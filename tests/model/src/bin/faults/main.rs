@@ -12,6 +12,7 @@ mod fault;
 mod lines;
 mod opening;
 mod recovery;
+mod restart;
 mod said;
 mod sent;
 mod settings;
@@ -36,6 +37,7 @@ fn all_faults() -> impl Iterator<Item = &'static Fault> {
         sent::FAULTS,
         said::FAULTS,
         recovery::FAULTS,
+        restart::FAULTS,
         door::FAULTS,
         lines::FAULTS,
         settings::FAULTS,

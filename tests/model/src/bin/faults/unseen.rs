@@ -1,6 +1,9 @@
 //! Faults that no step file can show, each with the reason. They are tried like the others, and must not be found.
 
-use model::{BLOCKS, Callbacks, ClientField, ClientFile, Entry, FILES, Grant, Kind, Mode, Record, Service, Sizes};
+use model::{
+    BLOCKS, Callbacks, ClientField, ClientFile, Entry, FILES, Grant, Kind, Mode, Record, Server, Service, Sizes,
+    WaitingOpen,
+};
 
 use crate::fault::rule_faults;
 
@@ -172,6 +175,58 @@ rule_faults! {
         }
         fn grant_at_client(_sizes: Sizes, file: &mut ClientFile, mode: Mode, grant: &Grant) {
             file.grant(Sizes::LARGEST, mode, grant);
+        }
+    }
+    restart_keeps_the_label(
+        "the blocks are gone, so that keeping the copy at the next grant and dropping it are the same"
+    ) {
+        fn restart_at_client(sizes: Sizes, file: &mut ClientFile, _server: &mut [u64; BLOCKS]) {
+            let cached_version = file.cached_version;
+            file.restart(sizes);
+            file.cached_version = cached_version;
+        }
+    }
+    restart_keeps_permission(
+        "the permission of a client that is not open is never looked at, and its next open judges it anew"
+    ) {
+        fn restart_at_client(sizes: Sizes, file: &mut ClientFile, _server: &mut [u64; BLOCKS]) {
+            let may_cache = file.record.may_cache;
+            file.restart(sizes);
+            file.record.may_cache = may_cache;
+        }
+    }
+    restart_leaves_the_calls_of_its_wait_stored("without an opener no call is out, and the next wait replaces them") {
+        fn restart_at_server(sizes: Sizes, server: &mut Server, file: usize, client: usize) -> Option<WaitingOpen> {
+            let entry = &mut server.entries[file];
+            let before = entry.waiting;
+            let due = entry.restart(sizes, client);
+            if before.opener == ClientField::of(client) {
+                entry.waiting.callbacks = before.callbacks;
+            }
+            due
+        }
+    }
+    restart_leaves_another_last_writer_at_a_call(
+        "a client called to write back is the last writer or none is, and it is forgotten before"
+    ) {
+        fn restart_at_server(sizes: Sizes, server: &mut Server, file: usize, client: usize) -> Option<WaitingOpen> {
+            let entry = &mut server.entries[file];
+            let before = entry.last_writer;
+            let due = entry.restart(sizes, client);
+            if before != ClientField::of(client) {
+                entry.last_writer = before;
+            }
+            due
+        }
+    }
+    restart_reports_while_running("a running server's reports are never looked at, and a crash takes them back") {
+        fn restart_reports(server: &mut Server, client: usize) {
+            server.reported = server.reported.with(client);
+        }
+    }
+    restart_reaches_past_the_settings("what lies there is as a restart would leave it") {
+        fn restart_at_client(_sizes: Sizes, file: &mut ClientFile, _server: &mut [u64; BLOCKS]) {
+            file.restart(Sizes::LARGEST);
         }
     }
     crash_reaches_past_the_settings("what lies there is as a crash would leave it") {

@@ -6,14 +6,25 @@ use Rattle.service.specs.declared.service.Service.{Service}
 use Rattle.service.specs.Fresh.{fresh}
 use Rattle.service.specs.Demand3.{Consistent}
 use Rattle.service.specs.NothingBehind.{LeavesNothing}
+use Rattle.service.specs.Plain.{PlainlyConsistent}
+use Rattle.service.proofs.Plain.{plain-demand3}
 use Rattle.service.proofs.Demand3.{demand3}
 use Rattle.service.proofs.NothingBehind.{nothing-left}
 use borrow.Author.Needs.{needs}
 use Rattle.service.proofs.service.Service.new.Statement.{statement}
 use Rattle.service.proofs.service.Service.new.Tie as tie
 
-from-fresh : (z : Sizes) (s : Service) → s ≡ fresh z → (s ≡ fresh z) × (Consistent s × LeavesNothing s)
-from-fresh z s e = (e, (subst Consistent (sym e) (demand3 z), subst LeavesNothing (sym e) (nothing-left z)))
+from-fresh :
+    (z : Sizes) (s : Service)
+    → s ≡ fresh z
+    → (s ≡ fresh z) × (Consistent s × (PlainlyConsistent s × LeavesNothing s))
+from-fresh z s e = (
+  e,
+  (
+    subst Consistent (sym e) (demand3 z),
+    (subst PlainlyConsistent (sym e) (plain-demand3 z), subst LeavesNothing (sym e) (nothing-left z)),
+  ),
+)
 
 returns : tie.Need-returns
 unfolding fresh

@@ -4,6 +4,7 @@ mod opens;
 mod picture;
 mod reads;
 mod refusals;
+mod restarts;
 mod text;
 
 use model::check::{Difference, Provenance};
@@ -18,7 +19,9 @@ const SEEDS: u64 = 40;
 const LINES: [usize; 3] = [350, 1000, 3000];
 
 fn all() -> impl Iterator<Item = &'static Fault> {
-    [reads::FAULTS, opens::FAULTS, refusals::FAULTS, picture::FAULTS, text::FAULTS].into_iter().flatten()
+    [reads::FAULTS, opens::FAULTS, restarts::FAULTS, refusals::FAULTS, picture::FAULTS, text::FAULTS]
+        .into_iter()
+        .flatten()
 }
 
 pub fn named(name: &str) -> Option<&'static Fault> {

@@ -1,7 +1,7 @@
 //! Faults of what is told of reads and of writes: whose write it was, and which copy a read took.
 
 use model::Step;
-use model::explain::{Origin, Place, Reading, Source, Told, WrittenAt};
+use model::explain::{Granted, Origin, Place, Reading, Source, Told, WrittenAt};
 
 use crate::fault::{Lines, faults};
 
@@ -194,12 +194,15 @@ fn comes_to(told: &Told, of: Place) -> bool {
     is_fetch(told, of) || is_write_in_copy(told, of)
 }
 
+fn is_to(granted: &Granted, of: Place) -> bool {
+    (granted.opening.client, granted.opening.file) == (of.client, of.file)
+}
+
 /// Whether the line grants the file to the client.
 fn is_grant(told: &Told, of: Place) -> bool {
     match told {
-        Told::Granted(granted) | Told::AnsweredLast { granted, .. } => {
-            (granted.opening.client, granted.opening.file) == (of.client, of.file)
-        }
+        Told::Granted(granted) | Told::AnsweredLast { granted, .. } => is_to(granted, of),
+        Told::Restarted { granted, .. } => granted.iter().any(|granted| is_to(granted, of)),
         _ => false,
     }
 }
