@@ -1,6 +1,6 @@
 -- The server's side of one file: the entry of the state table, and how an open, a grant, a close, a flush, an answer,
--- a restart, a crash and a report change it. n is the number of clients; what lies past them in a list is neither looked at nor
--- changed.
+-- a restart, a crash and a report change it. n is the number of clients; what lies past them in a list is neither
+-- looked at nor changed.
 use Prim.Native.Nat.{ℕ}
 use mathlib.Core.Bool.{Bool, cond, not, _&&_}
 use mathlib.Core.List.{List}

@@ -1,8 +1,8 @@
 -- Who can cause a refusal: the tests of each step on a file, each with document 01's number, in number order. "Open
 -- tests 2, 3, 5, 9, 12, 14; close 2, 3, 5, 9, 11; read and write 2, 3, 4, 5, 11; flush 2, 3, 4, 5, 13; reply 2, 3, 5,
--- 10". "BT tests 2 only" (document 02, Wish 8). They look at the sizes z, the server's flags, the file's entry e and the client's own side of it: "Reads,
--- writes, refusals 11 to 13 and a station's own change go by the station's record; calls, grants and the table go by
--- the server's".
+-- 10". "BT tests 2 only" (document 02, Wish 8). They look at the sizes z, the server's flags, the file's entry e and the
+-- client's own side of it: "Reads, writes, refusals 11 to 13 and a station's own change go by the station's record;
+-- calls, grants and the table go by the server's".
 use Prim.Native.Nat.{ℕ}
 use mathlib.Core.Bool.{Bool, cond, not, _&&_, _||_}
 use mathlib.Core.List.{List, [], _∷_}

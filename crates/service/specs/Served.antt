@@ -55,7 +55,8 @@ pub record SweptBy
 -- the restart of client i on the files below k: the service that the arrays hold, and the words in which the grants are
 -- said so far, `at` of them
 pub record Restarts
-    (sizes : Sizes) (i k : ℕ) (t₀ : List ℕ) (a₀ : Stores) (words₀ t : List ℕ) (a : Stores) (words : List ℕ) (at : ℕ) : Type 0 where
+    (sizes : Sizes) (i k : ℕ) (t₀ : List ℕ) (a₀ : Stores) (words₀ t : List ℕ) (a : Stores) (words : List ℕ) (at : ℕ)
+    : Type 0 where
   pub long : length t ≡ length t₀
   pub few : at ≤ 4 * k
   pub service :

@@ -18,8 +18,8 @@ use table::Table;
 // The room that the summary is given: more than any summary takes.
 pub const SUMMARY_ROOM: usize = 8192;
 
-// Writes the summary, by the sizes in force, and answers the offset past it. Where the buffer has less than SUMMARY_ROOM bytes from the offset
-// on, writes nothing and answers the offset.
+// Writes the summary, by the sizes in force, and answers the offset past it. Where the buffer has less than
+// SUMMARY_ROOM bytes from the offset on, writes nothing and answers the offset.
 pub fn write_summary(out: &mut [u8], at: usize, given: Sizes, table: Table) -> usize
     ensures { λ r. ⌜ WroteIfRoom summaryRoom (now (out .entry)) at (summaryText (inForce given) (table .files))
         (now (out .exit)) r ⌝ }
