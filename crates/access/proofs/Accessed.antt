@@ -47,28 +47,28 @@ leaves-refused ts b c h d after o k r step is some told =
     (step ∙ when-refused ts (λ n. record { stores = lent b c h d; reply = Refused n }) after k is some)
     (record { replyAfter = told; storesAfter = refl })
 
-module _ (z : Sizes) (recovering reported : Bool) (own : ClientFile) (a : Stores) (i f b : ℕ) where
+module _ (z : Sizes) (embargoed recovering reported : Bool) (own : ClientFile) (a : Stores) (i f b : ℕ) where
   pub read-step :
-      blockStep z recovering reported own a (Read i f b)
-      ≡ unlessTested (readTests z recovering reported own (heldIn a i f b) i f b) a (afterRead own a i f b)
+      blockStep z embargoed recovering reported own a (Read i f b)
+      ≡ unlessTested (readTests z embargoed recovering reported own (heldIn a i f b) i f b) a (afterRead own a i f b)
   unfolding blockStep
   read-step = refl
 
   pub write-step :
       (v : ℕ)
-      → blockStep z recovering reported own a (Write i f b v)
-      ≡ unlessTested (writeTests z recovering reported own i f b) a (afterWrite own a i f b v)
+      → blockStep z embargoed recovering reported own a (Write i f b v)
+      ≡ unlessTested (writeTests z embargoed recovering reported own i f b v) a (afterWrite own a i f b v)
   unfolding blockStep
   write-step v = refl
 
 -- A block that the sizes do not have is refused, whatever stands at its wrapped place; one that they have stands there.
 pub read-tests :
-    (z : Sizes) (recovering reported : Bool) (own : ClientFile) (held : List Bool) (i f b : ℕ)
+    (z : Sizes) (embargoed recovering reported : Bool) (own : ClientFile) (held : List Bool) (i f b : ℕ)
     → Permitted z
     → firstOf
-    (readTests z recovering reported own (getD held (cell (i % maxClients) (f % maxFiles) (b % maxBlocks)) false) i f b)
-    ≡ firstOf (readTests z recovering reported own (getD held (cell i f b) false) i f b)
-read-tests z recovering reported own held i f b p =
+    (readTests z embargoed recovering reported own (getD held (cell (i % maxClients) (f % maxFiles) (b % maxBlocks)) false) i f b)
+    ≡ firstOf (readTests z embargoed recovering reported own (getD held (cell i f b) false) i f b)
+read-tests z embargoed recovering reported own held i f b p =
     split (leb (z .clients) i) (λ e. rw e)
     (λ client.
     split (leb (z .files) f) (λ e. rw (client, e))

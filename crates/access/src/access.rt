@@ -19,6 +19,7 @@ use sizes::Sizes;
 // then holds.
 pub fn read_block(
     sizes: Sizes,
+    embargoed: bool,
     recovering: bool,
     reported: bool,
     own: ClientFile,
@@ -32,7 +33,7 @@ pub fn read_block(
 ) -> Reply
     requires { ⌜ Permitted sizes ⌝ }
     ensures { λ r. ⌜ Leaves
-        (blockStep sizes recovering reported own
+        (blockStep sizes embargoed recovering reported own
         (lent (now (blocks .entry)) (now (copies .entry)) (now (held .entry)) (now (dirty .entry)))
         (Step.Read client file block))
         r (now (blocks .exit)) (now (copies .exit)) (now (held .exit)) (now (dirty .exit)) ⌝ }
@@ -41,6 +42,7 @@ pub fn read_block(
     let is_held = held[cell];
     let refusal = read_refusal(
         sizes,
+        embargoed,
         recovering,
         reported,
         own,
@@ -68,6 +70,7 @@ pub fn read_block(
 // Writes a block: the client's copy where it may cache, else the server's.
 pub fn write_block(
     sizes: Sizes,
+    embargoed: bool,
     recovering: bool,
     reported: bool,
     own: ClientFile,
@@ -82,12 +85,21 @@ pub fn write_block(
 ) -> Reply
     requires { ⌜ Permitted sizes ⌝ }
     ensures { λ r. ⌜ Leaves
-        (blockStep sizes recovering reported own
+        (blockStep sizes embargoed recovering reported own
         (lent (now (blocks .entry)) (now (copies .entry)) (now (held .entry)) (now (dirty .entry)))
         (Step.Write client file block value))
         r (now (blocks .exit)) (now (copies .exit)) (now (held .exit)) (now (dirty .exit)) ⌝ }
 {
-    let refusal = write_refusal(sizes, recovering, reported, own, client, file, block);
+    let refusal = write_refusal(
+        sizes,
+        embargoed,
+        recovering,
+        reported,
+        own,
+        client,
+        file,
+        block,
+    );
     if refusal != 0 {
         return Reply::Refused(refusal);
     }

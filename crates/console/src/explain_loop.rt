@@ -11,13 +11,13 @@ use crate::turns::input_buffer;
 use crate::turns::read_if;
 use crate::turns::write;
 use explaining::Session;
+use ledger::BEGINNINGS;
 use ledger::NOTES;
 use ledger::REFUSAL_NUMBERS;
 use service::FLAGS;
 use service::held_service;
 use service::hold;
 use sizes::MAX_CELLS;
-use sizes::MAX_FILES;
 use sizes::MAX_PLACES;
 use words::WORDS;
 
@@ -36,7 +36,7 @@ pub fn explain(start: Start, fd: i32) -> End {
     let mut written = [0u64; NOTES];
     let mut writers = [0u8; NOTES];
     let mut copied = [0u64; MAX_CELLS];
-    let mut waiting = [0u64; MAX_FILES];
+    let mut since = [0u64; BEGINNINGS];
     let mut refusals = [0u64; REFUSAL_NUMBERS];
     let service = start.service;
     hold(
@@ -73,7 +73,7 @@ pub fn explain(start: Start, fd: i32) -> End {
             &mut written,
             &mut writers,
             &mut copied,
-            &mut waiting,
+            &mut since,
             &mut refusals,
         );
         let after = turn.session;

@@ -65,7 +65,8 @@ fn write_lines() -> bool {
           \x20 RD C F B    read a block            WR C F B V  write a block\n\
           \x20 FL C F B    flush a dirty block     AN C F      answer a callback\n\
           \x20 XX          crash the server        RP C        report after a crash\n\
-          \x20 EN          end the recovery\n\
+          \x20 EN          end the recovery        BT C        restart the client\n\
+          \x20 EM C F      put under embargo       LF C        lift the embargo\n\
           As the first line, for other sizes than 8 clients, 32 files and 4 blocks:\n\
           \x20 SET N F B   N clients, F files, B blocks in each: at most 8, 64 and 8\n\
           \n\
@@ -73,11 +74,11 @@ fn write_lines() -> bool {
           \x20 G LATEST PREVIOUS PERMISSION         the open is granted\n\
           \x20 W C:KIND ..                          the open waits for these callbacks:\n\
           \x20                                      1 write-back, 2 invalidate, 3 both\n\
-          \x20 A N [C LATEST PREVIOUS PERMISSION]   answered, N blocks sent; if it was the last\n\
-          \x20                                      answer, the open of client C is granted\n\
+          \x20 A N [GRANT ..]                       answered, N blocks sent\n\
           \x20 V VALUE                              the value read\n\
-          \x20 K                                    done\n\
+          \x20 K [GRANT ..]                         done\n\
           \x20 N NUMBER                             refused, and why\n\
+          A GRANT is C LATEST PREVIOUS PERMISSION: the open of C that waited is granted.\n\
           \n",
     )
 }

@@ -5,11 +5,12 @@ use mathlib.Core.Path.{_≡_, refl, sym, ap, subst, _∙_}
 use mathlib.Core.Bool.{Bool, true, false, cond, _&&_, true≢false}
 use mathlib.Core.List.{List, []}
 use native.Mathlib.Omega.{arith}
-use lib.Dec.{eqb}
+use native.Mathlib.Nat.{mod-eq-of-lt}
+use lib.Dec.{eqb, leb}
 use lib.ListN.{length, getD}
 use Rattle.sizes.specs.declared.sizes.Sizes.{Sizes}
 use Rattle.sizes.specs.Sizes.{maxClients, maxFiles, maxBlocks, inForce, cell}
-use Rattle.sizes.proofs.InForce.{in-force-permitted, file-fits}
+use Rattle.sizes.proofs.InForce.{in-force-permitted, client-fits, file-fits}
 use Rattle.protocol.specs.declared.client.ClientFile.{ClientFile}
 use Rattle.protocol.specs.declared.client.Sides.{Sides}
 use Rattle.protocol.specs.declared.reply.Granting.{Granting}
@@ -18,9 +19,10 @@ use Rattle.protocol.specs.declared.step.Numbers.{Numbers}
 use Rattle.protocol.specs.declared.shared.SharedFile.{SharedFile}
 use Rattle.protocol.specs.declared.step.Step.{Step}
 use Rattle.protocol.specs.declared.step.Step.the-variants.{Open, Close, Read, Write, Flush, Answer, Crash, Report, End}
-use Rattle.protocol.specs.declared.step.Step.the-variants.{Restart}
+use Rattle.protocol.specs.declared.step.Step.the-variants.{Restart, Embargo, Lift}
 use Rattle.protocol.specs.Client.{noClient, sideOf}
-use Rattle.protocol.specs.Reply.{noCalls, noGrants}
+use borrow.Author.Tests.{eqb-true, leb-false}
+use Rattle.protocol.specs.Reply.{isRefused, noCalls, noGrants}
 use Rattle.protocol.specs.Step.{numbersOf, clientOf, fileOf, blockOf}
 use Rattle.blocks.specs.Stores.{Stores, lent}
 use Rattle.table.specs.TableStep.{noEntry, noSides}
@@ -31,11 +33,12 @@ use Rattle.words.proofs.Changing.{side-held}
 use Rattle.words.proofs.Listing.{getD-listed}
 use Rattle.service.specs.declared.service.Service.{Service}
 use Rattle.service.specs.declared.outcome.Outcome.{Outcome}
-use Rattle.service.specs.Contents.{sizesOf, tableIn, entryAt, sidesAt, clientAt}
+use Rattle.service.specs.Contents.{sizesOf, tableIn, entryAt, embargoedAt, sidesAt, clientAt}
 use Rattle.service.specs.Step.{stepOf}
-use Rattle.service.specs.Lent.{serviceHeld, reportedHeld, Stepped}
+use Rattle.service.specs.Lent.{serviceHeld, Stepped}
 use Rattle.service.specs.Demand3.{refused}
 use Rattle.service.proofs.Speaking.{asked-outcome, stepped-outcome}
+use Rattle.service.proofs.Tests.{split, conflict}
 use Rattle.stepfile.specs.declared.parsed.Parsed.{Parsed}
 use Rattle.stepfile.specs.declared.parsed.Parsed.the-variants.{Is, NoStep}
 use Rattle.stepfile.specs.declared.setting.Setting.{Setting}
@@ -49,21 +52,22 @@ use Rattle.writer.specs.Buffer.{WroteIfRoom}
 use Rattle.ledger.specs.declared.annotated.Annotated.{Annotated}
 use Rattle.ledger.specs.declared.ledger.Ledger.{Ledger}
 use Rattle.ledger.specs.declared.lines.Lines.{Lines}
-use Rattle.ledger.specs.Ledger.{entered, linesAt, noted, toldOf, mayCache, holdsBlock, stepTold, ledgerAfter}
+use Rattle.ledger.specs.Ledger.{entered, waitingSince, embargoedSince, linesAt, noted, toldOf, mayCache, holdsBlock, isAside}
+use Rattle.ledger.specs.Ledger.{stepTold, ledgerAfter}
 use Rattle.ledger.specs.Refusals.{refusalsAfter}
 use Rattle.ledger.specs.Wrapped.{wrappedStep}
 use Rattle.ledger.specs.Annotated.{annotatedBy, annotatedAfter}
 use Rattle.ledger.proofs.Wrapping.{found-there, noted-wrapped}
-use Rattle.sentences.specs.Scene.{sceneHeld, wholeHeld, wholeOf, keptBefore}
-use Rattle.sentences.specs.Explained.{saidOf, restartedText, sentenceOf, noStepText, settingText, explainedText, explainedRoom, explainedLine, explainedBy}
+use Rattle.sentences.specs.Scene.{asideHeld, sceneHeld, wholeHeld, wholeOf, keptBefore}
+use Rattle.sentences.specs.Explained.{saidOf, besidesText, forgottenText, isEmbargo, sentenceOf, noStepText, settingText, explainedText, explainedRoom, explainedLine, explainedBy}
 use Rattle.telling.specs.Lines.{canTell}
 use Rattle.telling.proofs.Reaching.{lineBytes, line-bytes}
 use Rattle.telling.specs.Reached.{Reached}
 use Rattle.telling.proofs.LineByLine.{one-more}
 use Rattle.explaining.specs.declared.tell.Seen.{Seen}
 use Rattle.explaining.specs.Lines.{explaining, settingAt, stateHeld, TellsLine}
-use Rattle.explaining.proofs.Scenes.{sceneBy, said-alike}
-use Rattle.explaining.proofs.Wholes.{kept-whole, kept-row, Alike, restart-agree}
+use Rattle.explaining.proofs.Scenes.{sceneBy, no-client-refused, said-alike}
+use Rattle.explaining.proofs.Wholes.{kept-whole, kept-row, Alike, opened-agree, forgotten-agree}
 
 -- ---- what is kept from before a step
 
@@ -192,28 +196,33 @@ module _
 
   abbrev held : List ℕ
   held =
-      saidOf fresh (sceneHeld sizes x before t flags (getD (l₀ .waiting) f 0) (seen .told) (seen .caching))
+      saidOf fresh (sceneHeld sizes x before t flags₀ (l₀ .since) (seen .told) (seen .caching))
       (wholeHeld before t lines) x (o .calls) (o .reply)
 
+  -- whether the flags have the client under embargo
+  aside-is : asideHeld flags₀ (clientOf x) ≡ embargoedAt s i
+  aside-is = sym (getD-listed maxClients (λ j. getD flags₀ (maxClients + 1 + j) false) false i client-in)
+
   scene-is :
-      sceneHeld sizes x before t flags (getD (l₀ .waiting) f 0) (seen .told) (seen .caching)
-      ≡ sceneBy sizes (tableIn (o .service) .reported) (entryAt s f) (entryAt (o .service) f) (sidesAt s f)
-      (getD (l₀ .waiting) f 0) (seen .told) (seen .caching)
+      sceneHeld sizes x before t flags₀ (l₀ .since) (seen .told) (seen .caching)
+      ≡ sceneBy sizes (tableIn s .reported) (tableIn s .embargoed) (entryAt s f) (entryAt (o .service) f) (sidesAt s f)
+      (waitingSince l₀ f) (embargoedAt s i) (embargoedSince l₀ i) (seen .told) (seen .caching)
   scene-is =
-      let reports : reportedHeld flags ≡ tableIn (o .service) .reported = ap (λ (k : Service). tableIn k .reported) service-is in
       let came : entryHeld before f ≡ entryAt s f =
       ap (λ (y : SharedFile). y .entry) row-is ∙ entry-there given t₀ flags₀ a₀ f file-in in
       let after : entryHeld t f ≡ entryAt (o .service) f =
       entry-there given t flags a f file-in ∙ ap (λ (k : Service). entryAt k f) service-is in
-      λ k. sceneBy sizes (reports k) (came k) (after k) (sides-is k) (getD (l₀ .waiting) f 0) (seen .told) (seen .caching)
+      λ k.
+      sceneBy sizes (tableIn s .reported) (tableIn s .embargoed) (came k) (after k) (sides-is k) (waitingSince l₀ f)
+      (aside-is k) (embargoedSince l₀ i) (seen .told) (seen .caching)
 
-  -- what a restart is told by
-  module _ (restarts : numbersOf x .kind ≡ 11) where
+  -- what a step on all files is told by
+  module _ (on-all : leb 11 (numbersOf x .kind) ≡ true) where
     all-kept : before ≡ t₀
     all-kept =
         kept
         ∙ ap (λ (r : Numbers). keptBefore (r .kind) (r .file) t₀ b₀) is
-        ∙ kept-whole t₀ b₀ t-long b-long (numbersOf x .kind) (fileOf x) restarts
+        ∙ kept-whole t₀ b₀ t-long b-long (numbersOf x .kind) (fileOf x) on-all
 
     whole-alike : Alike (sizesOf s .files) (wholeHeld before t lines) (wholeOf s l₀ x)
     whole-alike =
@@ -226,11 +235,11 @@ module _
           lines = refl;
         }
 
-  looks : restartedText (sizesOf s) (wholeHeld before t lines) x ≡ restartedText (sizesOf s) (wholeOf s l₀ x) x
+  looks : besidesText (sizesOf s) (wholeHeld before t lines) x ≡ besidesText (sizesOf s) (wholeOf s l₀ x) x
   looks = looks-at x refl
     where
       looks-at : (y : Step) → x ≡ y
-          → restartedText (sizesOf s) (wholeHeld before t lines) y ≡ restartedText (sizesOf s) (wholeOf s l₀ x) y
+          → besidesText (sizesOf s) (wholeHeld before t lines) y ≡ besidesText (sizesOf s) (wholeOf s l₀ x) y
       looks-at (Open m j g) e = refl
       looks-at (Close m j g) e = refl
       looks-at (Read j g c) e = refl
@@ -241,16 +250,36 @@ module _
       looks-at (Report j) e = refl
       looks-at End e = refl
       looks-at (Restart j) e =
-          restart-agree (sizesOf s) (wholeHeld before t lines) (wholeOf s l₀ x) j
-          (whole-alike (ap (λ (y : Step). numbersOf y .kind) e))
+          forgotten-agree (sizesOf s) (wholeHeld before t lines) (wholeOf s l₀ x) j
+          (whole-alike (ap (λ (y : Step). leb 11 (numbersOf y .kind)) e))
+      looks-at (Embargo j g) e = refl
+      looks-at (Lift j) e =
+          opened-agree (sizesOf s) (wholeHeld before t lines) (wholeOf s l₀ x) j
+          (whole-alike (ap (λ (y : Step). leb 11 (numbersOf y .kind)) e))
+
+  forgets :
+      isEmbargo x ≡ true
+      → forgottenText (sizesOf s) (wholeHeld before t lines) (clientOf x) ≡ forgottenText (sizesOf s) (wholeOf s l₀ x) (clientOf x)
+  forgets embargo =
+      forgotten-agree (sizesOf s) (wholeHeld before t lines) (wholeOf s l₀ x) (clientOf x)
+      (whole-alike (ap (leb 11) (eqb-true (numbersOf x .kind) 12 embargo)))
 
   sentence-is : held ≡ sentenceOf fresh s l₀ x
   unfolding sentenceOf
   sentence-is =
       ap (λ c. saidOf fresh c (wholeHeld before t lines) x (o .calls) (o .reply)) scene-is
       ∙ said-alike fresh s l₀ x sizes sized (seen .told) (seen .caching) (wholeHeld before t lines)
-      (λ ok. (found ok .0, found ok .1))
-      (λ ok. looks)
+      (λ ok. (found ok .0, found ok .1)) looks forgets
+
+  -- a step that is taken names a client that is there, or none
+  aside-found : refused s x ≡ false → asideHeld flags₀ (clientOf x) ≡ isAside s x
+  aside-found ok =
+      aside-is
+      ∙ split (leb (sizesOf s .clients) (clientOf x))
+      (λ none. conflict (ap isRefused (no-client-refused s x none)) ok)
+      (λ who.
+      ap (embargoedAt s)
+      (mod-eq-of-lt (client-fits (in-force-permitted given) (leb-false (sizesOf s .clients) (clientOf x) who))))
 
   pub step-told :
       (refusals₀ out₀ : List ℕ) (at : ℕ) (l : Ledger) (refusals out : List ℕ) (at′ : ℕ)
@@ -259,19 +288,21 @@ module _
       → callsSaid said words ≡ calls
       → WroteIfRoom explainedRoom out₀ at
       (explainedText n reply calls granted
-      (saidOf fresh (sceneHeld sizes x before t flags (getD (l₀ .waiting) f 0) (seen .told) (seen .caching))
+      (saidOf fresh (sceneHeld sizes x before t flags₀ (l₀ .since) (seen .told) (seen .caching))
       (wholeHeld before t lines) x calls reply))
       out at′)
       → at′ ≤ at + explainedRoom
-      → l ≡ noted n (wrappedStep x) (replySaid said words) (seen .caching) (seen .holds) l₀
+      → l
+      ≡ noted n (wrappedStep x) (replySaid said words) (seen .caching) (seen .holds) (asideHeld flags₀ (clientOf x)) l₀
       → refusals ≡ refusalsAfter (replySaid said words) refusals₀
       → (text : List ℕ)
       → TellsLine fresh (stateHeld given t₀ flags₀ a₀ l₀ refusals₀) n text (Is x) out₀ at (stateHeld given t flags a l refusals) out at′
   step-told refusals₀ out₀ at l refusals out at′ wrote most notes counts text =
       let ledger : l ≡ ledgerAfter n s x l₀ =
       notes
-      ∙ ap (λ (r : Reply). noted n (wrappedStep x) r (seen .caching) (seen .holds) l₀) reply-is
-      ∙ noted-wrapped s x n (seen .caching) (seen .holds) l₀ (λ ok. (found ok .1, found ok .2)) in
+      ∙ ap (λ (r : Reply). noted n (wrappedStep x) r (seen .caching) (seen .holds) (asideHeld flags₀ (clientOf x)) l₀) reply-is
+      ∙ noted-wrapped s x n (seen .caching) (seen .holds) (asideHeld flags₀ (clientOf x)) l₀
+      (λ ok. (found ok .1, found ok .2)) (λ ok _. aside-found ok) in
       let counted : refusals ≡ refusalsAfter (o .reply) refusals₀ =
       counts ∙ ap (λ (r : Reply). refusalsAfter r refusals₀) reply-is in
       record {

@@ -1,13 +1,12 @@
--- What is kept from before a step has the row of its file, and before a restart the whole table; and what is said of a
--- restart looks at the files in force alone. Assumes nothing.
+-- What is kept from before a step has the row of its file, and before a step on all files the whole table; and what is
+-- said of such a step looks at the files in force alone. Assumes nothing.
 use Prim.Native.Nat.{ℕ, zero, suc, _+_, _*_, _%_, _≤_, _<_}
 use mathlib.Core.Path.{_≡_, refl, ap, _∙_, subst⁻¹, fun-ext}
 use mathlib.Core.Bool.{Bool, true, false, cond}
 use mathlib.Core.List.{List, _++_}
 use native.Mathlib.Omega.{arith}
-use lib.Dec.{eqb}
+use lib.Dec.{leb}
 use lib.ListN.{length, getD}
-use borrow.Author.Tests.{eqb-true}
 use Rattle.sizes.proofs.Choosing.{split}
 use Rattle.sizes.specs.declared.sizes.Sizes.{Sizes}
 use Rattle.sizes.specs.Sizes.{maxFiles}
@@ -22,17 +21,22 @@ use Rattle.words.proofs.Places.{same-row}
 use Rattle.stepfile.specs.Text.{bytes}
 use Rattle.ledger.specs.declared.lines.Lines.{Lines}
 use Rattle.phrases.specs.Phrase.{numbersText, listText}
-use Rattle.phrases.specs.Accepted.{lossesText}
+use Rattle.phrases.specs.Accepted.{risksText}
 use Rattle.sentences.specs.Scene.{Whole, keptBefore}
-use Rattle.sentences.specs.Explained.{grantedText, grantsText, restartText}
+use Rattle.sentences.specs.Explained.{grantedText, grantsText, openedText, forgottenText}
 
 -- ---- what is kept
 
 module _ (t b₀ : List ℕ) (t-long : length t ≡ tableWords) (b-long : length b₀ ≡ tableWords) where
-  pub kept-whole : (kind f : ℕ) → kind ≡ 11 → keptBefore kind f t b₀ ≡ t
+  pub kept-whole : (kind f : ℕ) → leb 11 kind ≡ true → keptBefore kind f t b₀ ≡ t
   kept-whole kind f is =
       let from-0 : _≡_ {A = ℕ → ℕ} (λ k. 0 + k) (λ k. k) = fun-ext (λ k. omega arith) in
-      subst⁻¹ (λ k. keptBefore k f t b₀ ≡ t) is
+      subst⁻¹
+      (λ k.
+      stored (cond k tableWords rowWords) (λ j. cond k 0 (f % maxFiles * rowWords) + j)
+      (λ j. getD t (cond k 0 (f % maxFiles * rowWords) + j) 0) b₀
+      ≡ t)
+      is
       (ap (λ (g : ℕ → ℕ). stored tableWords g (λ k. getD t (g k) 0) b₀) from-0
       ∙ stored-whole tableWords 0 t b₀ t-long b-long)
 
@@ -48,8 +52,8 @@ module _ (t b₀ : List ℕ) (t-long : length t ≡ tableWords) (b-long : length
 
   pub kept-row : (kind f : ℕ) → fileHeld (keptBefore kind f t b₀) (f % maxFiles) ≡ fileHeld t (f % maxFiles)
   kept-row kind f =
-      split (eqb kind 11)
-      (λ e. ap (λ (l : List ℕ). fileHeld l (f % maxFiles)) (kept-whole kind f (eqb-true kind 11 e)))
+      split (leb 11 kind)
+      (λ e. ap (λ (l : List ℕ). fileHeld l (f % maxFiles)) (kept-whole kind f e))
       (λ e.
       subst⁻¹
       (λ k.
@@ -66,7 +70,7 @@ pub stored-long :
     (n : ℕ) (place v : ℕ → ℕ) (l₀ l : List ℕ) (m : ℕ) → l ≡ stored n place v l₀ → length l₀ ≡ m → length l ≡ m
 stored-long n place v l₀ l m is long = ap length is ∙ length-stored n place v l₀ ∙ long
 
--- ---- what a restart is told by
+-- ---- what a step on all files is told by
 
 numbers-agree : (n : ℕ) (p q : ℕ → Bool) → ((k : ℕ) → k < n → p k ≡ q k) → numbersText n p ≡ numbersText n q
 unfolding numbersText
@@ -95,14 +99,15 @@ grants-agree m n w v i (suc k) fits h =
     grantsText m v i k
     ++ grantedText m i (h .entry k below j) (h .after k below j) (h .side (h .entry k below j .waiter) k below j) k)
 
-pub restart-agree : (z : Sizes) (w v : Whole) (i : ℕ) → Alike (z .files) w v → restartText z w i ≡ restartText z v i
-restart-agree z w v i h =
-    let opened =
-    list-agree (z .files) (λ f. isOpen (w .side i f .opens)) (λ f. isOpen (v .side i f .opens))
-    (λ f below. ap (λ (c : ClientFile). isOpen (c .opens)) (h .side i f below))
-    in
+pub opened-agree : (z : Sizes) (w v : Whole) (i : ℕ) → Alike (z .files) w v → openedText z w i ≡ openedText z v i
+opened-agree z w v i h =
+    ap (λ (l : List ℕ). bytes "; files it had open:" ++ l)
+    (list-agree (z .files) (λ f. isOpen (w .side i f .opens)) (λ f. isOpen (v .side i f .opens))
+    (λ f below. ap (λ (c : ClientFile). isOpen (c .opens)) (h .side i f below)))
+
+pub forgotten-agree : (z : Sizes) (w v : Whole) (i : ℕ) → Alike (z .files) w v → forgottenText z w i ≡ forgottenText z v i
+forgotten-agree z w v i h =
+    let opened = opened-agree z w v i h in
     let granted = grants-agree (z .clients) (z .files) w v i (z .files) (omega arith) h in
     λ j.
-    bytes "; files it had open:"
-    ++ (opened j
-    ++ (bytes "; writes lost:" ++ (lossesText (h .lines j) i (z .files) (z .blocks) ++ granted j)))
+    opened j ++ (bytes "; writes lost:" ++ (risksText (h .lines j) i (z .files) (z .blocks) ++ granted j))

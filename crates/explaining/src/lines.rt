@@ -11,6 +11,7 @@ use crate::tell::look;
 use crate::tell::tell_no_step;
 use crate::tell::tell_setting;
 use crate::tell::tell_step;
+use ledger::BEGINNINGS;
 use ledger::NOTES;
 use ledger::REFUSAL_NUMBERS;
 use protocol::asked;
@@ -22,7 +23,6 @@ use sentences::keep_before;
 use service::FLAGS;
 use service::take_step;
 use sizes::MAX_CELLS;
-use sizes::MAX_FILES;
 use sizes::MAX_PLACES;
 use sizes::Sizes;
 use stepfile::Parsed;
@@ -58,7 +58,7 @@ pub fn explain_lines(
     written: &mut [u64; NOTES],
     writers: &mut [u8; NOTES],
     copied: &mut [u64; MAX_CELLS],
-    waiting: &mut [u64; MAX_FILES],
+    since: &mut [u64; BEGINNINGS],
     refusals: &mut [u64; REFUSAL_NUMBERS],
 ) -> Progress
     requires { ⌜ length (now table) ≡ tableWords ⌝ }
@@ -66,10 +66,10 @@ pub fn explain_lines(
     ensures { λ r. ⌜ Explains fresh sizes first (now (input .entry)) (now (out .entry)) (now (table .entry))
         (now (flags .entry))
         (lent (now (blocks .entry)) (now (copies .entry)) (now (held .entry)) (now (dirty .entry)))
-        (entered (now (written .entry)) (now (writers .entry)) (now (copied .entry)) (now (waiting .entry)))
+        (entered (now (written .entry)) (now (writers .entry)) (now (copied .entry)) (now (since .entry)))
         (now (refusals .entry)) r (now (out .exit)) (now (table .exit)) (now (flags .exit))
         (lent (now (blocks .exit)) (now (copies .exit)) (now (held .exit)) (now (dirty .exit)))
-        (entered (now (written .exit)) (now (writers .exit)) (now (copied .exit)) (now (waiting .exit)))
+        (entered (now (written .exit)) (now (writers .exit)) (now (copied .exit)) (now (since .exit)))
         (now (refusals .exit)) ⌝ }
 {
     let begun = explain_first(
@@ -106,6 +106,7 @@ pub fn explain_lines(
         };
         let named = asked(step);
         keep_before(table, named.kind, named.file, &mut before);
+        let came = *flags;
         let seen = look(named, &before, held, dirty, written, writers, copied);
         let said = take_step(
             given,
@@ -132,13 +133,13 @@ pub fn explain_lines(
             said,
             &words,
             &before,
+            &came,
             seen,
             table,
-            flags,
             written,
             writers,
             copied,
-            waiting,
+            since,
             refusals,
         );
     }

@@ -12,6 +12,7 @@ ghost use Rattle.explaining.specs.Lines.{explaining};
 ghost use Rattle.explaining.specs.Session.{startOf, freshSession, resumedSession, standing, movedHeld, Advances};
 use crate::turn::explain_turn;
 use ledger::Annotated;
+use ledger::BEGINNINGS;
 use ledger::Ledger;
 use ledger::NOTES;
 use ledger::REFUSAL_NUMBERS;
@@ -20,7 +21,6 @@ use picture::write_picture;
 use service::FLAGS;
 use service::held_service;
 use sizes::MAX_CELLS;
-use sizes::MAX_FILES;
 use sizes::MAX_PLACES;
 use sizes::Sizes;
 use telling::fill;
@@ -80,7 +80,7 @@ impl Session {
         written: &mut [u64; NOTES],
         writers: &mut [u8; NOTES],
         copied: &mut [u64; MAX_CELLS],
-        waiting: &mut [u64; MAX_FILES],
+        since: &mut [u64; BEGINNINGS],
         refusals: &mut [u64; REFUSAL_NUMBERS],
     ) -> Advance
         requires { ⌜ length (now table) ≡ tableWords ⌝ }
@@ -88,10 +88,10 @@ impl Session {
         ensures { λ r. ⌜ Advances self got (now (buffer .entry)) (now (out .entry)) (now (table .entry))
             (now (flags .entry))
             (lent (now (blocks .entry)) (now (copies .entry)) (now (held .entry)) (now (dirty .entry)))
-            (entered (now (written .entry)) (now (writers .entry)) (now (copied .entry)) (now (waiting .entry)))
+            (entered (now (written .entry)) (now (writers .entry)) (now (copied .entry)) (now (since .entry)))
             (now (refusals .entry)) r (now (buffer .exit)) (now (out .exit)) (now (table .exit)) (now (flags .exit))
             (lent (now (blocks .exit)) (now (copies .exit)) (now (held .exit)) (now (dirty .exit)))
-            (entered (now (written .exit)) (now (writers .exit)) (now (copied .exit)) (now (waiting .exit)))
+            (entered (now (written .exit)) (now (writers .exit)) (now (copied .exit)) (now (since .exit)))
             (now (refusals .exit)) ⌝ }
     {
         if self.over & !self.paused {
@@ -106,7 +106,7 @@ impl Session {
                 written,
                 writers,
                 copied,
-                waiting,
+                since,
                 refusals,
             );
         }
@@ -129,7 +129,7 @@ impl Session {
             written,
             writers,
             copied,
-            waiting,
+            since,
             refusals,
         );
         let after = turn.sizes;
@@ -160,25 +160,25 @@ impl Session {
         written: &[u64; NOTES],
         writers: &[u8; NOTES],
         copied: &[u64; MAX_CELLS],
-        waiting: &[u64; MAX_FILES],
+        since: &[u64; BEGINNINGS],
         refusals: &[u64; REFUSAL_NUMBERS],
     ) -> Advance
         requires { ⌜ length (now flags) ≡ lentFlags ⌝ }
         ensures { λ r. ⌜ movedHeld r (now (table .entry)) (now (flags .entry))
             (lent (now (blocks .entry)) (now (copies .entry)) (now (held .entry)) (now (dirty .entry)))
-            (entered (now (written .entry)) (now (writers .entry)) (now (copied .entry)) (now (waiting .entry)))
+            (entered (now (written .entry)) (now (writers .entry)) (now (copied .entry)) (now (since .entry)))
             (now (refusals .entry))
             ≡ closedBy (explaining (self .fresh))
             (standing self (now (table .entry)) (now (flags .entry))
             (lent (now (blocks .entry)) (now (copies .entry)) (now (held .entry)) (now (dirty .entry)))
-            (entered (now (written .entry)) (now (writers .entry)) (now (copied .entry)) (now (waiting .entry)))
+            (entered (now (written .entry)) (now (writers .entry)) (now (copied .entry)) (now (since .entry)))
             (now (refusals .entry)))
             (now (out .entry)) ⌝ }
         ensures { λ r. ⌜ now (out .exit)
             ≡ outClosed (explaining (self .fresh))
             (standing self (now (table .entry)) (now (flags .entry))
             (lent (now (blocks .entry)) (now (copies .entry)) (now (held .entry)) (now (dirty .entry)))
-            (entered (now (written .entry)) (now (writers .entry)) (now (copied .entry)) (now (waiting .entry)))
+            (entered (now (written .entry)) (now (writers .entry)) (now (copied .entry)) (now (since .entry)))
             (now (refusals .entry)))
             (now (out .entry)) ⌝ }
         ensures { λ r. ⌜ r .session .fresh ≡ self .fresh ⌝ }
@@ -189,13 +189,13 @@ impl Session {
         let all_written = *written;
         let all_writers = *writers;
         let all_copied = *copied;
-        let all_waiting = *waiting;
+        let all_since = *since;
         let all_refusals = *refusals;
         let ledger = Ledger {
             written: all_written,
             writers: all_writers,
             copied: all_copied,
-            waiting: all_waiting,
+            since: all_since,
         };
         let state = Annotated {
             service,

@@ -7,7 +7,7 @@ ghost use lib.ListN.{length, getD};
 ghost use Rattle.sizes.specs.Sizes.{maxClients, maxFiles, maxBlocks, Permitted, cell};
 ghost use Rattle.protocol.specs.declared.reply.Granting.{Granting};
 ghost use Rattle.protocol.specs.declared.reply.Reply.{Reply};
-ghost use Rattle.protocol.specs.Step.{fileOf};
+ghost use Rattle.protocol.specs.Step.{clientOf};
 ghost use Rattle.blocks.specs.Stores.{lent};
 ghost use Rattle.words.specs.Words.{sideHeld};
 ghost use Rattle.words.specs.Rows.{tableWords, wordAt};
@@ -21,11 +21,12 @@ ghost use Rattle.ledger.specs.declared.ledger.Ledger.{Ledger};
 ghost use Rattle.ledger.specs.Ledger.{entered, linesAt, noted, toldOf};
 ghost use Rattle.ledger.specs.Refusals.{refusalsAfter};
 ghost use Rattle.ledger.specs.Wrapped.{wrappedStep};
-ghost use Rattle.sentences.specs.Scene.{sceneHeld, wholeHeld};
+ghost use Rattle.sentences.specs.Scene.{asideHeld, sceneHeld, wholeHeld};
 ghost use Rattle.sentences.specs.Explained.{saidOf, explainedText, explainedRoom};
 ghost use Rattle.playing.specs.Lines.{Long};
 ghost use Rattle.explaining.specs.Lines.{settingAt, stateHeld, TellsLine};
 use blocks::cell_of;
+use ledger::BEGINNINGS;
 use ledger::NOTES;
 use ledger::REFUSAL_NUMBERS;
 use ledger::Told;
@@ -105,7 +106,8 @@ pub fn look(
     }
 }
 
-// A line whose step was taken, by the sizes in force: it said this, and this was seen before.
+// A line whose step was taken, by the sizes in force: it said this, and this was seen before; `came` are the flags as they
+// came to the step.
 pub fn tell_step(
     out: &mut [u8],
     at: usize,
@@ -116,13 +118,13 @@ pub fn tell_step(
     said: u64,
     words: &[u64; SAID],
     before: &[u64; WORDS],
+    came: &[bool; FLAGS],
     seen: Seen,
     table: &[u64; WORDS],
-    flags: &[bool; FLAGS],
     written: &mut [u64; NOTES],
     writers: &mut [u8; NOTES],
     copied: &mut [u64; MAX_CELLS],
-    waiting: &mut [u64; MAX_FILES],
+    since: &mut [u64; BEGINNINGS],
     refusals: &mut [u64; REFUSAL_NUMBERS],
 ) -> usize
     requires { ⌜ Permitted sizes ⌝ }
@@ -130,23 +132,24 @@ pub fn tell_step(
     requires { ⌜ length (now words) ≡ saidRoom ⌝ }
     requires { ⌜ length (now before) ≡ tableWords ⌝ }
     requires { ⌜ length (now table) ≡ tableWords ⌝ }
-    requires { ⌜ length (now flags) ≡ lentFlags ⌝ }
+    requires { ⌜ length (now came) ≡ lentFlags ⌝ }
     ensures { λ r. ⌜ ((reply : Reply) (calls : List ℕ) (granted : List Granting)
         → Says said (now (words .entry)) reply calls granted
         → callsSaid said (now (words .entry)) ≡ calls
         → WroteIfRoom explainedRoom (now (out .entry)) at
         (explainedText line reply calls granted
         (saidOf fresh
-        (sceneHeld sizes step (now (before .entry)) (now (table .entry)) (now (flags .entry))
-        (getD (now (waiting .entry)) (fileOf step % maxFiles) 0) (seen .told) (seen .caching))
+        (sceneHeld sizes step (now (before .entry)) (now (table .entry)) (now (came .entry))
+        (now (since .entry)) (seen .told) (seen .caching))
         (wholeHeld (now (before .entry)) (now (table .entry))
         (linesAt (entered (now (written .entry)) (now (writers .entry)) [] [])))
         step calls reply))
         (now (out .exit)) r) ⌝ }
     ensures { λ r. ⌜ r ≤ at + explainedRoom ⌝ }
-    ensures { λ _. ⌜ entered (now (written .exit)) (now (writers .exit)) (now (copied .exit)) (now (waiting .exit))
+    ensures { λ _. ⌜ entered (now (written .exit)) (now (writers .exit)) (now (copied .exit)) (now (since .exit))
         ≡ noted line (wrappedStep step) (replySaid said (now (words .entry))) (seen .caching) (seen .holds)
-        (entered (now (written .entry)) (now (writers .entry)) (now (copied .entry)) (now (waiting .entry))) ⌝ }
+        (asideHeld (now (came .entry)) (clientOf step))
+        (entered (now (written .entry)) (now (writers .entry)) (now (copied .entry)) (now (since .entry))) ⌝ }
     ensures { λ _. ⌜ now (refusals .exit)
         ≡ refusalsAfter (replySaid said (now (words .entry))) (now (refusals .entry)) ⌝ }
 {
@@ -163,10 +166,10 @@ pub fn tell_step(
         words,
         before,
         table,
-        flags,
+        came,
         written,
         writers,
-        waiting[named.file % MAX_FILES],
+        since,
         told,
         seen.caching,
     );
@@ -177,10 +180,11 @@ pub fn tell_step(
         reply,
         seen.caching,
         seen.holds,
+        came[MAX_CLIENTS + 1 + named.client % MAX_CLIENTS],
         written,
         writers,
         copied,
-        waiting,
+        since,
     );
     count_refusal(reply, refusals);
     next

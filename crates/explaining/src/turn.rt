@@ -7,12 +7,12 @@ ghost use Rattle.service.specs.Lent.{lentFlags};
 ghost use Rattle.ledger.specs.Ledger.{entered};
 ghost use Rattle.explaining.specs.Turn.{ExplainsTurn};
 use crate::lines::explain_lines;
+use ledger::BEGINNINGS;
 use ledger::NOTES;
 use ledger::REFUSAL_NUMBERS;
 use sentences::EXPLAINED_ROOM;
 use service::FLAGS;
 use sizes::MAX_CELLS;
-use sizes::MAX_FILES;
 use sizes::MAX_PLACES;
 use sizes::Sizes;
 use telling::can_tell;
@@ -51,7 +51,7 @@ pub fn explain_turn(
     written: &mut [u64; NOTES],
     writers: &mut [u8; NOTES],
     copied: &mut [u64; MAX_CELLS],
-    waiting: &mut [u64; MAX_FILES],
+    since: &mut [u64; BEGINNINGS],
     refusals: &mut [u64; REFUSAL_NUMBERS],
 ) -> Turn
     requires { ⌜ length (now table) ≡ tableWords ⌝ }
@@ -59,10 +59,10 @@ pub fn explain_turn(
     ensures { λ r. ⌜ ExplainsTurn fresh sizes number (now (buffer .entry)) filled (now (out .entry))
         (now (table .entry)) (now (flags .entry))
         (lent (now (blocks .entry)) (now (copies .entry)) (now (held .entry)) (now (dirty .entry)))
-        (entered (now (written .entry)) (now (writers .entry)) (now (copied .entry)) (now (waiting .entry)))
+        (entered (now (written .entry)) (now (writers .entry)) (now (copied .entry)) (now (since .entry)))
         (now (refusals .entry)) r (now (buffer .exit)) (now (out .exit)) (now (table .exit)) (now (flags .exit))
         (lent (now (blocks .exit)) (now (copies .exit)) (now (held .exit)) (now (dirty .exit)))
-        (entered (now (written .exit)) (now (writers .exit)) (now (copied .exit)) (now (waiting .exit)))
+        (entered (now (written .exit)) (now (writers .exit)) (now (copied .exit)) (now (since .exit)))
         (now (refusals .exit)) ⌝ }
 {
     let n = least(filled, buffer.len());
@@ -81,7 +81,7 @@ pub fn explain_turn(
         written,
         writers,
         copied,
-        waiting,
+        since,
         refusals,
     );
     let can = can_tell(EXPLAINED_ROOM, out.len(), progress.written, progress.number);

@@ -4,10 +4,14 @@ pub mod Taking
 pub mod Wrapping
 pub mod Lending
 pub mod OpenStep
+pub mod LastAnswer
+pub mod Leaving
 pub mod AnswerStep
+pub mod ForgetStep
 pub mod GrantedRow
 pub mod WaitingRow
 pub mod FlushedRow
 pub mod AnsweredRow
+pub mod KnownRow
 pub mod ForgottenRow
-pub mod RestartStep
+pub mod DroppedRow

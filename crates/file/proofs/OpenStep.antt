@@ -26,7 +26,7 @@ use Rattle.protocol.specs.Reply.{noCalls}
 use Rattle.file.specs.FileStep.{granted, waiting, afterOpen, fileStep}
 use Rattle.file.proofs.Taking.{open-step, accepted}
 
-module _ (z : Sizes) (recovering : Bool) (x : SharedFile) (a : Stores) (mode : Mode) (i f : ℕ) where
+module _ (z : Sizes) (embargoed recovering : Bool) (x : SharedFile) (a : Stores) (mode : Mode) (i f : ℕ) where
   -- how many clients the callbacks call is how many the open causes to be called
   calls-counted :
       (calls : List ℕ)
@@ -45,14 +45,14 @@ module _ (z : Sizes) (recovering : Bool) (x : SharedFile) (a : Stores) (mode : M
       (calls : List ℕ)
       (number : ℕ)
       (bound : z .clients ≤ maxClients)
-      (tests : k ≡ firstOf (openTests z recovering (x .entry) (sideOf (x .sides) i) mode i f))
+      (tests : k ≡ firstOf (openTests z embargoed recovering (x .entry) (sideOf (x .sides) i) mode i f))
       (passed : k ≡ 0)
       (due : calls ≡ callsDue (z .clients) (x .entry) i mode noCalls)
       (counted : number ≡ callsIn (z .clients) calls) where
-    taken : fileStep z recovering x a (Open mode i f) ≡ afterOpen z x a mode i f
+    taken : fileStep z embargoed recovering x a (Open mode i f) ≡ afterOpen z x a mode i f
     taken =
-        accepted (openTests z recovering (x .entry) (sideOf (x .sides) i) mode i f) x a (afterOpen z x a mode i f)
-        (open-step z recovering x a mode i f) tests passed
+        accepted (openTests z embargoed recovering (x .entry) (sideOf (x .sides) i) mode i f) x a (afterOpen z x a mode i f)
+        (open-step z embargoed recovering x a mode i f) tests passed
 
     counts : number ≡ callsFor (z .clients) (x .entry) i mode
     counts = counted ∙ calls-counted calls bound due
@@ -61,12 +61,12 @@ module _ (z : Sizes) (recovering : Bool) (x : SharedFile) (a : Stores) (mode : M
         (g : Grant)
         → number ≡ 0
         → g ≡ grantOf (z .clients) (x .entry) i mode
-        → fileStep z recovering x a (Open mode i f) ≡ granted z f x a i mode g (Granted g)
+        → fileStep z embargoed recovering x a (Open mode i f) ≡ granted z f x a i mode g (Granted g)
     open-granted g none is =
         taken
         ∙ when _ _ (ap (λ (n : ℕ). eqb n 0) (sym counts) ∙ eq-eqb number 0 none)
         ∙ ap (λ (g′ : Grant). granted z f x a i mode g′ (Granted g′)) (sym is)
 
     pub open-waits :
-        (number ≡ 0 → ⊥) → fileStep z recovering x a (Open mode i f) ≡ waiting z x a i mode
+        (number ≡ 0 → ⊥) → fileStep z embargoed recovering x a (Open mode i f) ≡ waiting z x a i mode
     open-waits some = taken ∙ unless _ _ (ap (λ (n : ℕ). eqb n 0) (sym counts) ∙ ne-eqb number 0 some)

@@ -20,32 +20,32 @@ use Rattle.blocks.specs.Stores.{Stores, lent, dirtyIn}
 use Rattle.file.specs.FileStep.{FileAfter, leaving, unlessTested, afterOpen, afterClose, afterFlush, afterAnswer, fileStep}
 use Rattle.file.specs.Held.{Holds}
 
-module _ (z : Sizes) (recovering : Bool) (x : SharedFile) (a : Stores) where
+module _ (z : Sizes) (embargoed recovering : Bool) (x : SharedFile) (a : Stores) where
   pub open-step :
       (mode : Mode) (i f : ℕ)
-      → fileStep z recovering x a (Open mode i f)
-      ≡ unlessTested (openTests z recovering (x .entry) (sideOf (x .sides) i) mode i f) x a (afterOpen z x a mode i f)
+      → fileStep z embargoed recovering x a (Open mode i f)
+      ≡ unlessTested (openTests z embargoed recovering (x .entry) (sideOf (x .sides) i) mode i f) x a (afterOpen z x a mode i f)
   unfolding fileStep
   open-step mode i f = refl
 
   pub close-step :
       (mode : Mode) (i f : ℕ)
-      → fileStep z recovering x a (Close mode i f)
-      ≡ unlessTested (closeTests z recovering (x .entry) (sideOf (x .sides) i) mode i f) x a (afterClose z x a mode i f)
+      → fileStep z embargoed recovering x a (Close mode i f)
+      ≡ unlessTested (closeTests z embargoed recovering (x .entry) (sideOf (x .sides) i) mode i f) x a (afterClose z x a mode i f)
   unfolding fileStep
   close-step mode i f = refl
 
   pub flush-step :
       (i f b : ℕ)
-      → fileStep z recovering x a (Flush i f b)
-      ≡ unlessTested (flushTests z recovering (dirtyIn a i f b) i f b) x a (afterFlush z x a i f b)
+      → fileStep z embargoed recovering x a (Flush i f b)
+      ≡ unlessTested (flushTests z embargoed recovering (dirtyIn a i f b) i f b) x a (afterFlush z x a i f b)
   unfolding fileStep
   flush-step i f b = refl
 
   pub answer-step :
       (i f : ℕ)
-      → fileStep z recovering x a (Answer i f)
-      ≡ unlessTested (answerTests z recovering (x .entry) i f) x a (afterAnswer z x a i f)
+      → fileStep z embargoed recovering x a (Answer i f)
+      ≡ unlessTested (answerTests z embargoed recovering (x .entry) i f) x a (afterAnswer z x a i f)
   unfolding fileStep
   answer-step i f = refl
 

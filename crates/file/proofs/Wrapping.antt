@@ -49,11 +49,11 @@ wrapped-side t f i own there is =
 
 -- the flag of the block
 pub flush-tests :
-    (z : Sizes) (recovering : Bool) (dirty : List Bool) (i f b : ℕ)
+    (z : Sizes) (embargoed recovering : Bool) (dirty : List Bool) (i f b : ℕ)
     → Permitted z
-    → firstOf (flushTests z recovering (getD dirty (cell (i % maxClients) (f % maxFiles) (b % maxBlocks)) false) i f b)
-    ≡ firstOf (flushTests z recovering (getD dirty (cell i f b) false) i f b)
-flush-tests z recovering dirty i f b p =
+    → firstOf (flushTests z embargoed recovering (getD dirty (cell (i % maxClients) (f % maxFiles) (b % maxBlocks)) false) i f b)
+    ≡ firstOf (flushTests z embargoed recovering (getD dirty (cell i f b) false) i f b)
+flush-tests z embargoed recovering dirty i f b p =
     split (leb (z .clients) i) (λ e. rw e)
     (λ client.
     split (leb (z .files) f) (λ e. rw (client, e))

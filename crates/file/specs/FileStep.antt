@@ -1,17 +1,19 @@
--- The steps on one file: an open, a close, a flush and an answer, at both sides; and what a restart does to it. They look
--- at the sizes in force z, at whether the server recovers, at the file as both sides have it, and at its blocks and
--- copies among all.
+-- The steps on one file: an open, a close, a flush and an answer, at both sides; and what is done to it where the server
+-- forgets a client, and where a client drops what it has. They look at the sizes in force z, at whether the client is
+-- under embargo and the server recovers, at the file as both sides have it, and at its blocks and copies among all.
 use Prim.Native.Nat.{ℕ}
 use mathlib.Core.Bool.{Bool, false, cond}
 use mathlib.Core.List.{List}
 use lib.Dec.{eqb}
 use Rattle.records.specs.declared.record.Mode.{Mode}
 use Rattle.sizes.specs.declared.sizes.Sizes.{Sizes}
+use Rattle.protocol.specs.declared.entry.Entry.{Entry}
 use Rattle.protocol.specs.declared.reply.Grant.{Grant}
 use Rattle.protocol.specs.declared.reply.Reply.{Reply}
 use Rattle.protocol.specs.declared.reply.Reply.the-variants.{Granted, Waiting, Refused, Answered, AnsweredGrant, Done}
 use Rattle.protocol.specs.declared.shared.SharedFile.{SharedFile}
 use Rattle.protocol.specs.declared.step.Step.{Step}
+use Rattle.decision.specs.Callback.{asksNothing}
 use Rattle.protocol.specs.Step.{FileAct, opens, closes, flushes, answers, nothing, fileAct}
 use Rattle.protocol.specs.Entry.{callTo, callsOut, callsFor, callsDue, waitingEntry, grantOf, grantedEntry}
 use Rattle.protocol.specs.Entry.{closedEntry, flushedEntry, answeredEntry, forgottenEntry}
@@ -127,32 +129,40 @@ afterAnswer z x a i f =
 
 -- ---- a step
 
-abbrev pub acted : Sizes → Bool → SharedFile → Stores → FileAct → FileAfter
-acted z recovering x a (opens m i f) =
-    unlessTested (openTests z recovering (x .entry) (sideOf (x .sides) i) m i f) x a (afterOpen z x a m i f)
-acted z recovering x a (closes m i f) =
-    unlessTested (closeTests z recovering (x .entry) (sideOf (x .sides) i) m i f) x a (afterClose z x a m i f)
-acted z recovering x a (flushes i f b) =
-    unlessTested (flushTests z recovering (dirtyIn a i f b) i f b) x a (afterFlush z x a i f b)
-acted z recovering x a (answers i f) =
-    unlessTested (answerTests z recovering (x .entry) i f) x a (afterAnswer z x a i f)
-acted z recovering x a nothing = leaving x a Done
+abbrev pub acted : Sizes → Bool → Bool → SharedFile → Stores → FileAct → FileAfter
+acted z embargoed recovering x a (opens m i f) =
+    unlessTested (openTests z embargoed recovering (x .entry) (sideOf (x .sides) i) m i f) x a (afterOpen z x a m i f)
+acted z embargoed recovering x a (closes m i f) =
+    unlessTested (closeTests z embargoed recovering (x .entry) (sideOf (x .sides) i) m i f) x a (afterClose z x a m i f)
+acted z embargoed recovering x a (flushes i f b) =
+    unlessTested (flushTests z embargoed recovering (dirtyIn a i f b) i f b) x a (afterFlush z x a i f b)
+acted z embargoed recovering x a (answers i f) =
+    unlessTested (answerTests z embargoed recovering (x .entry) i f) x a (afterAnswer z x a i f)
+acted z embargoed recovering x a nothing = leaving x a Done
 
 -- a step that is on no one file leaves all as it came
-unfoldable pub fileStep : Sizes → Bool → SharedFile → Stores → Step → FileAfter
-fileStep z recovering x a y = acted z recovering x a (fileAct y)
+unfoldable pub fileStep : Sizes → Bool → Bool → SharedFile → Stores → Step → FileAfter
+fileStep z embargoed recovering x a y = acted z embargoed recovering x a (fileAct y)
 
--- ---- restarting
+-- ---- the server forgets a client, and the client drops what it has
 
--- "Its counts, permissions, marks, copies and any waiting open of its own go at both ends" (document 02, Wish 8)
-abbrev pub forgotten : Sizes → ℕ → SharedFile → Stores → ℕ → FileAfter
-forgotten z f x a i =
+-- the file with another entry, at a client that notices nothing
+abbrev pub withEntry : SharedFile → Entry → SharedFile
+withEntry x e = record { entry = e; sides = x .sides }
+
+-- "Its counts, permissions, marks .. and any waiting open of its own go .., with the calls of that open. Then a call on
+-- it counts as replied to with no blocks, which may grant opens of others" (document 02, Wish 8), at the server's end
+unfoldable pub afterForgetting : Sizes → ℕ → SharedFile → Stores → ℕ → FileAfter
+afterForgetting z f x a i =
+    let e = forgottenEntry (z .clients) (x .entry) i in
+    let kind = callTo (z .clients) e i in
+    cond (asksNothing kind) (leaving (withEntry x e) a Done)
+    (grantedIfLast z f 0 (leaving (withEntry x (answeredEntry e i kind)) a (Answered 0)))
+
+-- "Its counts, permissions, marks, copies .. go" at the client's end
+unfoldable pub afterDropping : Sizes → ℕ → SharedFile → Stores → ℕ → FileAfter
+afterDropping z f x a i =
     leaving
-    (record { entry = forgottenEntry (z .clients) (x .entry) i; sides = withSide (x .sides) i noClient })
+    (record { entry = x .entry; sides = withSide (x .sides) i noClient })
     (droppedUnless (z .blocks) false i f a)
     Done
-
--- "Then a call on it counts as replied to with no blocks, which may grant opens of others": it answers, whether or not
--- the server recovers. Without a call it is refused that, and nothing more changes.
-unfoldable pub afterRestart : Sizes → ℕ → SharedFile → Stores → ℕ → FileAfter
-afterRestart z f x a i = let o = forgotten z f x a i in acted z false (o .file) (o .stores) (answers i f)

@@ -20,9 +20,9 @@ pub record Holds
   pub storesAfter : lent blocks copies held dirty ≡ after .stores
   pub refused : isRefused reply ≡ true → t ≡ t₀
 
--- The table t holds, in row f, what a restart has left, and has every other row as in the table t₀ that came. The reply
--- is that of the answer, which is a refusal where no callback was out.
-pub record Restarted
+-- The table t holds, in row f, what is left where the server forgets a client or the client drops what it has, and has
+-- every other row as in the table t₀ that came.
+pub record Leaves
     (after : FileAfter) (f : ℕ) (t₀ t : List ℕ) (reply : Reply) (blocks copies : List ℕ) (held dirty : List Bool)
     : Type 0 where
   pub puts : Puts f (after .file) t₀ t

@@ -1,6 +1,7 @@
 // An answer: the client's four words of the row are stored, its record and side, the head and the callbacks; and if it
 // was the last, the open that waits is granted.
 ghost use mathlib.Core.Path.{_≡_};
+ghost use mathlib.Core.List.{List};
 ghost use mathlib.Core.Logic.{_≢_};
 ghost use Prim.Native.Nat.{ℕ, _%_, _<_, _+_};
 ghost use lib.ListN.{length, getD};
@@ -9,10 +10,10 @@ ghost use Rattle.sizes.specs.Sizes.{Permitted, maxClients, maxFiles};
 ghost use Rattle.protocol.specs.Client.{withSide};
 ghost use Rattle.protocol.specs.Reply.{noCalls};
 ghost use Rattle.words.specs.Words.{recordHeld};
-ghost use Rattle.words.specs.Rows.{wordAt, sidesHeld, fileHeld, tableWords, Puts};
+ghost use Rattle.words.specs.Rows.{wordAt, entryHeld, sidesHeld, fileHeld, tableWords, Puts};
 ghost use Rattle.blocks.specs.Stores.{lent};
-ghost use Rattle.file.specs.FileStep.{fileStep};
-ghost use Rattle.file.specs.Held.{Holds};
+ghost use Rattle.file.specs.FileStep.{leaving, grantedIfLast, fileStep};
+ghost use Rattle.file.specs.Held.{Holds, Leaves};
 use crate::granting::grant_open;
 use crate::refusal::answer_refusal;
 use blocks::answer_blocks;
@@ -60,6 +61,7 @@ fn put_own(entry: Entry, own: ClientFile, c: usize, f: usize, table: &mut [u64; 
 
 pub fn answer(
     sizes: Sizes,
+    embargoed: bool,
     recovering: bool,
     client: usize,
     file: usize,
@@ -72,7 +74,7 @@ pub fn answer(
     requires { ⌜ Permitted sizes ⌝ }
     requires { ⌜ length (now table) ≡ tableWords ⌝ }
     ensures { λ r. ⌜ Holds
-        (fileStep sizes recovering (fileHeld (now (table .entry)) (file % maxFiles))
+        (fileStep sizes embargoed recovering (fileHeld (now (table .entry)) (file % maxFiles))
         (lent (now (blocks .entry)) (now (copies .entry)) (now (held .entry)) (now (dirty .entry)))
         (Step.Answer client file))
         (file % maxFiles) (now (table .entry)) (now (table .exit)) r noCalls
@@ -82,7 +84,7 @@ pub fn answer(
     let c = client % MAX_CLIENTS;
     let row = f * ROW;
     let entry = entry_at(table, f);
-    let refusal = answer_refusal(sizes, recovering, entry, client, file);
+    let refusal = answer_refusal(sizes, embargoed, recovering, entry, client, file);
     if refusal != 0 {
         return Reply::Refused(refusal);
     }
@@ -100,6 +102,32 @@ pub fn answer(
     );
     let answered = entry.answered(client, kind);
     put_own(answered, own.answered(kind), c, f, table);
+    grant_if_last(sizes, sent, answered, file, table, copies, held, dirty)
+}
+
+// The reply to an answer that sent so many blocks and left this entry: where no callback is out any more the open that
+// waits is granted.
+pub fn grant_if_last(
+    sizes: Sizes,
+    sent: usize,
+    answered: Entry,
+    file: usize,
+    table: &mut [u64; WORDS],
+    copies: &mut [u64; MAX_CELLS],
+    held: &mut [bool; MAX_CELLS],
+    dirty: &mut [bool; MAX_CELLS],
+) -> Reply
+    requires { ⌜ Permitted sizes ⌝ }
+    requires { ⌜ length (now table) ≡ tableWords ⌝ }
+    requires { ⌜ file < sizes .files ⌝ }
+    requires { ⌜ answered .waiter < sizes .clients ⌝ }
+    requires { ⌜ entryHeld (now table) (file % maxFiles) ≡ answered ⌝ }
+    ensures { λ r. ⌜ ((blocks : List ℕ) → Leaves
+        (grantedIfLast sizes file sent (leaving (fileHeld (now (table .entry)) (file % maxFiles))
+        (lent blocks (now (copies .entry)) (now (held .entry)) (now (dirty .entry))) (Reply.Answered sent)))
+        (file % maxFiles) (now (table .entry)) (now (table .exit)) r
+        blocks (now (copies .exit)) (now (held .exit)) (now (dirty .exit))) ⌝ }
+{
     if answered.calls_out(sizes.clients) != 0 {
         return Reply::Answered(sent);
     }
@@ -107,7 +135,7 @@ pub fn answer(
     let opener = waiter as usize;
     let mode = answered.mode;
     let grant = answered.grant(sizes.clients, opener, mode);
-    let side = side_of(table[row + (10 + opener % MAX_CLIENTS)]);
+    let side = side_of(table[file % MAX_FILES * ROW + (10 + opener % MAX_CLIENTS)]);
     grant_open(
         sizes,
         mode,

@@ -45,6 +45,7 @@ fn last_closed(ends: bool, any: bool, client: usize, last: u8) -> u8
 
 pub fn close(
     sizes: Sizes,
+    embargoed: bool,
     recovering: bool,
     mode: Mode,
     client: usize,
@@ -55,7 +56,7 @@ pub fn close(
     requires { ⌜ Permitted sizes ⌝ }
     requires { ⌜ length (now table) ≡ tableWords ⌝ }
     ensures { λ r. ⌜ ((blocks copies : List ℕ) (held : List Bool) → Holds
-        (fileStep sizes recovering (fileHeld (now (table .entry)) (file % maxFiles))
+        (fileStep sizes embargoed recovering (fileHeld (now (table .entry)) (file % maxFiles))
         (lent blocks copies held (now (dirty .entry)))
         (Step.Close mode client file))
         (file % maxFiles) (now (table .entry)) (now (table .exit)) r noCalls
@@ -65,7 +66,16 @@ pub fn close(
     let c = client % MAX_CLIENTS;
     let head = table[row + 1];
     let own = side_of(table[row + (10 + c)]);
-    let refusal = close_refusal(sizes, recovering, waiter_of(head), own, mode, client, file);
+    let refusal = close_refusal(
+        sizes,
+        embargoed,
+        recovering,
+        waiter_of(head),
+        own,
+        mode,
+        client,
+        file,
+    );
     if refusal != 0 {
         return Reply::Refused(refusal);
     }

@@ -45,6 +45,7 @@ fn last_flushed(left: bool, client: usize, last: u8) -> u8
 // What stands at the wrapped place counts only where the step is not refused before.
 pub fn flush(
     sizes: Sizes,
+    embargoed: bool,
     recovering: bool,
     client: usize,
     file: usize,
@@ -57,14 +58,22 @@ pub fn flush(
     requires { ⌜ Permitted sizes ⌝ }
     requires { ⌜ length (now table) ≡ tableWords ⌝ }
     ensures { λ r. ⌜ ((held : List Bool) → Holds
-        (fileStep sizes recovering (fileHeld (now (table .entry)) (file % maxFiles))
+        (fileStep sizes embargoed recovering (fileHeld (now (table .entry)) (file % maxFiles))
         (lent (now (blocks .entry)) (now (copies .entry)) held (now (dirty .entry)))
         (Step.Flush client file block))
         (file % maxFiles) (now (table .entry)) (now (table .exit)) r noCalls
         (now (blocks .exit)) (now (copies .entry)) held (now (dirty .exit))) ⌝ }
 {
     let cell = cell_of(client, file, block);
-    let refusal = flush_refusal(sizes, recovering, dirty[cell], client, file, block);
+    let refusal = flush_refusal(
+        sizes,
+        embargoed,
+        recovering,
+        dirty[cell],
+        client,
+        file,
+        block,
+    );
     if refusal != 0 {
         return Reply::Refused(refusal);
     }

@@ -51,6 +51,7 @@ fn put_wait(entry: Entry, f: usize, table: &mut [u64; WORDS])
 
 pub fn open(
     sizes: Sizes,
+    embargoed: bool,
     recovering: bool,
     mode: Mode,
     client: usize,
@@ -63,7 +64,7 @@ pub fn open(
     requires { ⌜ Permitted sizes ⌝ }
     requires { ⌜ length (now table) ≡ tableWords ⌝ }
     ensures { λ r. ⌜ ((blocks : List ℕ) → Holds
-        (fileStep sizes recovering (fileHeld (now (table .entry)) (file % maxFiles))
+        (fileStep sizes embargoed recovering (fileHeld (now (table .entry)) (file % maxFiles))
         (lent blocks (now (copies .entry)) (now (held .entry)) (now (dirty .entry)))
         (Step.Open mode client file))
         (file % maxFiles) (now (table .entry)) (now (table .exit)) (r .reply) (r .calls)
@@ -74,7 +75,7 @@ pub fn open(
     let row = f * ROW;
     let entry = entry_at(table, f);
     let own = side_of(table[row + (10 + c)]);
-    let refusal = open_refusal(sizes, recovering, entry, own, mode, client, file);
+    let refusal = open_refusal(sizes, embargoed, recovering, entry, own, mode, client, file);
     if refusal != 0 {
         return Response {
             reply: Reply::Refused(refusal),

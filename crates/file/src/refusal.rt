@@ -14,6 +14,7 @@ use protocol::NO_FILE;
 use protocol::NOT_DIRTY;
 use protocol::NOT_OPEN;
 use protocol::OPEN_WAITS;
+use protocol::UNDER_EMBARGO;
 use protocol::VERSION_SPENT;
 use protocol::refused_if;
 use records::Mode;
@@ -21,6 +22,7 @@ use sizes::Sizes;
 
 pub fn open_refusal(
     sizes: Sizes,
+    embargoed: bool,
     recovering: bool,
     entry: Entry,
     own: ClientFile,
@@ -28,7 +30,7 @@ pub fn open_refusal(
     client: usize,
     file: usize,
 ) -> u8
-    ensures { λ r. ⌜ r ≡ firstOf (openTests sizes recovering entry own mode client file) ⌝ }
+    ensures { λ r. ⌜ r ≡ firstOf (openTests sizes embargoed recovering entry own mode client file) ⌝ }
 {
     let opens = own.opens;
     let version = entry.version;
@@ -36,16 +38,18 @@ pub fn open_refusal(
     let full = refused_if(opens.count(mode) == 255, COUNT_FULL, spent);
     let waits = refused_if(entry.waits(sizes.clients), OPEN_WAITS, full);
     let recovers = refused_if(recovering, IN_RECOVERY, waits);
+    let aside = refused_if(embargoed, UNDER_EMBARGO, recovers);
     refused_if(
         sizes.clients <= client,
         NO_CLIENT,
-        refused_if(sizes.files <= file, NO_FILE, recovers),
+        refused_if(sizes.files <= file, NO_FILE, aside),
     )
 }
 
 // A close needs of the entry only who waits.
 pub fn close_refusal(
     sizes: Sizes,
+    embargoed: bool,
     recovering: bool,
     waiter: u8,
     own: ClientFile,
@@ -54,57 +58,62 @@ pub fn close_refusal(
     file: usize,
 ) -> u8
     ensures { λ r. ⌜ ((e : Entry) → e .waiter ≡ waiter
-        → r ≡ firstOf (closeTests sizes recovering e own mode client file)) ⌝ }
+        → r ≡ firstOf (closeTests sizes embargoed recovering e own mode client file)) ⌝ }
 {
     let opens = own.opens;
     let closed = refused_if(opens.count(mode) == 0, NOT_OPEN, 0);
     let waits = refused_if((waiter as usize) < sizes.clients, OPEN_WAITS, closed);
     let recovers = refused_if(recovering, IN_RECOVERY, waits);
+    let aside = refused_if(embargoed, UNDER_EMBARGO, recovers);
     refused_if(
         sizes.clients <= client,
         NO_CLIENT,
-        refused_if(sizes.files <= file, NO_FILE, recovers),
+        refused_if(sizes.files <= file, NO_FILE, aside),
     )
 }
 
 pub fn flush_refusal(
     sizes: Sizes,
+    embargoed: bool,
     recovering: bool,
     dirty: bool,
     client: usize,
     file: usize,
     block: usize,
 ) -> u8
-    ensures { λ r. ⌜ r ≡ firstOf (flushTests sizes recovering dirty client file block) ⌝ }
+    ensures { λ r. ⌜ r ≡ firstOf (flushTests sizes embargoed recovering dirty client file block) ⌝ }
 {
     let clean = refused_if(!dirty, NOT_DIRTY, 0);
     let recovers = refused_if(recovering, IN_RECOVERY, clean);
+    let aside = refused_if(embargoed, UNDER_EMBARGO, recovers);
     refused_if(
         sizes.clients <= client,
         NO_CLIENT,
         refused_if(
             sizes.files <= file,
             NO_FILE,
-            refused_if(sizes.blocks <= block, NO_BLOCK, recovers),
+            refused_if(sizes.blocks <= block, NO_BLOCK, aside),
         ),
     )
 }
 
 pub fn answer_refusal(
     sizes: Sizes,
+    embargoed: bool,
     recovering: bool,
     entry: Entry,
     client: usize,
     file: usize,
 ) -> u8
-    ensures { λ r. ⌜ r ≡ firstOf (answerTests sizes recovering entry client file) ⌝ }
+    ensures { λ r. ⌜ r ≡ firstOf (answerTests sizes embargoed recovering entry client file) ⌝ }
 {
     let uncalled = asks_nothing(entry.call_to(sizes.clients, client));
     let answered = refused_if(uncalled, NO_CALL, 0);
     let recovers = refused_if(recovering, IN_RECOVERY, answered);
+    let aside = refused_if(embargoed, UNDER_EMBARGO, recovers);
     refused_if(
         sizes.clients <= client,
         NO_CLIENT,
-        refused_if(sizes.files <= file, NO_FILE, recovers),
+        refused_if(sizes.files <= file, NO_FILE, aside),
     )
 }

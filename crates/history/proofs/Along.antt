@@ -1,6 +1,5 @@
 -- What holds of the service and its past all along a history, and what is promised follows from it. Assumes nothing.
 use Prim.Native.Nat.{ℕ, _<_}
-use mathlib.Core.Path.{_≡_}
 use mathlib.Core.List.{List, [], _∷_}
 use Rattle.sizes.specs.declared.sizes.Sizes.{Sizes}
 use Rattle.sizes.specs.Sizes.{inForce}
@@ -13,6 +12,7 @@ use Rattle.service.specs.NothingBehind.{afterSteps}
 use Rattle.service.proofs.Owing.{Owed}
 use Rattle.service.proofs.NothingBehind.{fresh-owed}
 use Rattle.service.proofs.Reached.{Reached, reached-fresh, reached-after, promised-at, owed-after, behind-at}
+use Rattle.service.proofs.SetAside.{unseen, is-told}
 use Rattle.ledger.proofs.AllBooked.{all-booked}
 use Rattle.ledger.proofs.Provenance.{Agrees, agrees-after, line-told, fresh-agrees}
 use Rattle.history.specs.Past.{Past, noPast, pastAfter, pastAll}
@@ -36,10 +36,13 @@ module _ (z : Sizes) where
             record {
               read = read;
               end = end;
+              unseen = unseen s x;
+              lifted = is-told s x;
               told = line-told (in-force-permitted z) s (p .memory) (p .ledger) (p .steps) x
                   (all-booked z s (p .memory) (p .recovery) (h .reached)) (h .agrees) read;
             };
         nothingBehind = behind-at z s (p .memory) (p .recovery) (h .reached) (h .owed);
+        forgotten = h .reached .forgotten;
       }
 
   -- a step, and steps one after the other, on line n

@@ -1,23 +1,20 @@
 -- What is promised of every history: each kind of member keeps what holds all along. Assumes nothing.
 use Prim.Native.Nat.{ℕ, _<_}
-use mathlib.Core.Path.{_≡_, refl, sym, ap, _∙_, subst, subst⁻¹}
-use mathlib.Core.Bool.{Bool, true, false, cond}
+use mathlib.Core.Path.{_≡_, sym, ap, _∙_, subst, subst⁻¹}
+use mathlib.Core.Bool.{true, false}
 use mathlib.Core.List.{List, [], _∷_}
 use Rattle.sizes.proofs.Choosing.{split, conflict, when, unless}
 use Rattle.sizes.specs.declared.sizes.Sizes.{Sizes}
-use Rattle.sizes.specs.Sizes.{inForce}
 use Rattle.protocol.specs.declared.step.Step.{Step}
 use Rattle.protocol.specs.declared.step.Step.the-variants.{Crash}
 use Rattle.service.specs.declared.service.Server.{Server}
 use Rattle.service.specs.declared.service.Service.{Service}
-use Rattle.service.specs.Contents.{sizesOf, heldAt}
+use Rattle.service.specs.Contents.{sizesOf}
 use Rattle.service.specs.Step.{stepOf}
 use Rattle.table.specs.TableStep.{tableStep}
-use Rattle.service.specs.Demand3.{after, Memory}
+use Rattle.service.specs.Demand3.{after}
 use Rattle.service.specs.Fresh.{fresh}
 use Rattle.service.specs.NothingBehind.{afterSteps}
-use Rattle.ledger.specs.declared.ledger.Ledger.{Ledger}
-use Rattle.ledger.proofs.Provenance.{Agrees}
 use Rattle.batch.specs.declared.batch.BatchOutcome.{BatchOutcome}
 use Rattle.batch.specs.Batch.{Opening, opensOf, listTooLong, batchOf}
 use Rattle.batch.proofs.Trying.{too-long, not-too-long}
@@ -28,7 +25,7 @@ use Rattle.history.specs.Past.{Past, noPast, pastAfter, pastAll}
 use Rattle.history.specs.Promises.{Member, AllKept, Premises, Histories}
 use Rattle.history.proofs.Along.{Sound, sound-fresh, kept, step-sound, steps-sound}
 use Rattle.history.proofs.Reading.{reading-is-crash}
-use Rattle.history.proofs.Moving.{moved-is, moved-reached}
+use Rattle.history.proofs.Moving.{moved-is, taken-aside, taken-in, moved-reached}
 
 -- bytes that are refused are no image
 refused-is : (s : Service) (bytes : List ℕ) → refusesImage s bytes ≡ true → isImage (sizesOf s) bytes ≡ false
@@ -65,7 +62,7 @@ module _ (z : Sizes) (n : ℕ) (some : 0 < n) (s : Service) (p : Past) (h : Soun
         subst⁻¹ (λ (t : Service). Sound z t (pastAfter n s Crash p)) (moved-is z s (p .memory) (p .recovery) (h .reached) v whole bytes u)
         (record {
           reached = moved-reached z s (p .memory) (p .recovery) (h .reached) v whole bytes u;
-          owed = h .owed;
+          owed = λ i f here. h .owed i f (taken-in z s (p .memory) (p .recovery) (h .reached) v whole bytes u here);
           agrees =
               record {
                 sizes = h .agrees .sizes;
@@ -76,6 +73,9 @@ module _ (z : Sizes) (n : ℕ) (some : 0 < n) (s : Service) (p : Past) (h : Soun
                 copied = crash .agrees .copied;
                 waiting = crash .agrees .waiting;
                 held = crash .agrees .held;
+                aside = λ i hi out.
+                    crash .agrees .aside i hi
+                    (sym (taken-aside z s (p .memory) (p .recovery) (h .reached) v whole bytes u i hi) ∙ out);
               };
         })
 

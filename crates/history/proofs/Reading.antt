@@ -1,6 +1,7 @@
 -- An accepted reading of an image is a crash, on its premise. Assumes nothing.
 use Prim.Native.Nat.{ℕ, zero, suc, _<_}
 use mathlib.Core.Path.{_≡_, refl, sym, ap, _∙_, subst}
+use mathlib.Core.Bool.{false}
 use mathlib.Core.List.{List}
 use native.Mathlib.Omega.{arith}
 use lib.ListN.{getD}
@@ -14,7 +15,7 @@ use Rattle.decision.proofs.Storing.{getD-stored, stored-same}
 use Rattle.protocol.specs.declared.entry.Entry.{Entry}
 use Rattle.protocol.specs.declared.step.Step.the-variants.{Crash}
 use Rattle.protocol.specs.Entry.{crashedEntry}
-use Rattle.table.specs.TableStep.{noEntry, entryOf, tableStep}
+use Rattle.table.specs.TableStep.{noEntry, entryOf, isEmbargoed, tableStep}
 use Rattle.service.specs.declared.service.Service.{Service}
 use Rattle.service.specs.declared.outcome.Outcome.{Outcome}
 use Rattle.service.specs.Contents.{sizesOf, tableIn, entryAt}
@@ -22,7 +23,7 @@ use Rattle.service.specs.Step.{stepOf}
 use Rattle.service.specs.Demand3.{after, Memory, Recovery}
 use Rattle.service.proofs.Views.{Sized}
 use Rattle.service.proofs.Reached.{Reached, reached-sized, version-not-zero}
-use Rattle.restore.specs.Reading.{withVersion, withVersions, withBlocks, withContents, readingOf}
+use Rattle.restore.specs.Reading.{withVersion, withVersions, withBlocks, withEmbargoes, withContents, readingOf}
 use Rattle.restore.proofs.ReadsBack.{reads-back}
 use Rattle.history.specs.Event.{Unchanged}
 
@@ -88,7 +89,13 @@ module _
       blocks-same n (sizesOf s .blocks) (u .written .server .blocks) (s .server .blocks)
       (λ f b hf hb. sym (u .blocks f b hf hb))
 
-  contents-same : withContents crashed others (u .written .server .blocks) ≡ crashed
+  embargoes-stay :
+      withEmbargoes (sizesOf s .clients) (tableIn (u .written) .embargoed) (tableIn s .embargoed) ≡ tableIn s .embargoed
+  embargoes-stay =
+      stored-same (sizesOf s .clients) (λ i. i) (isEmbargoed (tableIn (u .written) .embargoed))
+      (tableIn s .embargoed) false (λ i hi. sym (u .embargoes i hi))
+
+  contents-same : withContents crashed others (u .written .server .blocks) (tableIn (u .written) .embargoed) ≡ crashed
   unfolding stepOf tableStep
   contents-same =
       λ k.
@@ -101,6 +108,7 @@ module _
                     files = files-same k;
                     recovering = tableIn crashed .recovering;
                     reported = tableIn crashed .reported;
+                    embargoed = embargoes-stay k;
                   };
               blocks = blocks-stay k;
             };

@@ -3,7 +3,7 @@ use Prim.Native.Nat.{ℕ}
 use mathlib.Core.List.{List, [], _∷_}
 use Rattle.protocol.specs.declared.step.Step.{Step}
 use Rattle.service.specs.declared.service.Service.{Service}
-use Rattle.service.specs.Demand3.{refused, after, Memory, blank, delays, fed, Recovery, none, recoveryAfter}
+use Rattle.service.specs.Demand3.{refused, after, Memory, blank, remembered, Recovery, none, recoveryAfter}
 use Rattle.ledger.specs.declared.ledger.Ledger.{Ledger}
 use Rattle.ledger.specs.Ledger.{emptyLedger, ledgerAfter}
 use Rattle.ledger.specs.Provenance.{Event}
@@ -22,7 +22,7 @@ noPast = record { memory = blank; recovery = none; ledger = emptyLedger; steps =
 abbrev pub pastAfter : ℕ → Service → Step → Past → Past
 pastAfter n s x p =
     record {
-      memory = fed (p .memory) x (refused s x) (delays s);
+      memory = remembered s (p .memory) x;
       recovery = recoveryAfter s (p .recovery) x (refused s x);
       ledger = ledgerAfter n s x (p .ledger);
       steps = record { line = n; step = x; before = s } ∷ p .steps;

@@ -1,11 +1,11 @@
--- What is promised of every history, from the fresh service of any sizes on: Demand 3, nothing left behind, and what is
--- told of each read. A new promise is a field here.
+-- What is promised of every history, from the fresh service of any sizes on: Demand 3, nothing left behind, what an
+-- embargo is worth, and what is told of each read. A new promise is a field here.
 use Prim.Native.Nat.{ℕ, _<_}
-use mathlib.Core.Path.{_≡_}
 use mathlib.Core.List.{List, [], _∷_}
 use Rattle.sizes.specs.declared.sizes.Sizes.{Sizes}
 use Rattle.protocol.specs.declared.step.Step.{Step}
 use Rattle.service.specs.declared.service.Service.{Service}
+use Rattle.service.specs.Aside.{Forgotten, Unseen, Told}
 use Rattle.service.specs.Demand3.{ReadIsLatest, EndRestores}
 use Rattle.service.specs.Fresh.{fresh}
 use Rattle.service.specs.NothingBehind.{NothingBehind}
@@ -20,10 +20,15 @@ pub record Member : Type 0 where
 
 -- of a step that is to come
 pub record StepKept (s : Service) (p : Past) (x : Step) : Type 0 where
-  -- "Every accepted read gives the number that the book has for its file and block just before that read."
+  -- "Every accepted read gives the number that the book has for its file and block just before that read", of a client
+  -- without embargo
   pub read : ReadIsLatest s (p .memory) x
   -- "After that end the table equals the one just before the crash that began the recovery, and no open waits."
   pub end : EndRestores s (p .recovery) x
+  -- what a client under embargo reads and writes changes nothing but its own copies, and the memory has none of it
+  pub unseen : Unseen s x
+  -- a client that is told of its embargo, or restarts, is under embargo no more
+  pub lifted : Told s x
   -- what `explain` says of a read is so
   pub told : LineIsTold s (p .ledger) (p .steps) x
 
@@ -32,6 +37,8 @@ pub record Kept (s : Service) (p : Past) : Type 0 where
   pub steps : (x : Step) → StepKept s p x
   -- "a station is last writer only while it has a dirty block of that file and no writers"
   pub nothingBehind : NothingBehind s
+  -- "The server forgets it": it has nothing of a client under embargo
+  pub forgotten : Forgotten s
 
 -- before each member of a history, and at its end
 abbrev pub AllKept : Service → Past → List Member → Type 0

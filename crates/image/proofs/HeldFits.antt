@@ -2,6 +2,7 @@
 -- the numbers. Assumes nothing.
 use Prim.Native.Nat.{ℕ, zero, suc, _<_}
 use mathlib.Core.Path.{_≡_, sym, _∙_}
+use mathlib.Core.Bool.{Bool}
 use mathlib.Core.List.{List, [], _∷_, map}
 use native.Mathlib.Omega.{arith}
 use lib.ListN.{length, getD, length-map}
@@ -77,13 +78,16 @@ module _ (e : Entry) (vs : List Val) (known : Is (row entryType.the-type) e vs) 
 pub held-fits : (s : Service) (vs : List Val) → Is (row serviceType.the-type) s vs → Fits s
 held-fits s vs known =
     let server = known .1 .1 .1 .0 in
-    let files = server .1 .1 .0 .1 .1 .0 in
+    let table = server .1 .1 .0 .1 .1 in
+    let files = table .0 in
+    let embargoed = table .1 .1 .1 .0 in
     let blocks = server .1 .1 .1 .0 in
     let entry : (f : ℕ) → f < maxFiles → (u : Val) × Is (row entryType.the-type) (entryAt s f) (u ∷ []) =
     one entryType.the-type (tableIn s .files) maxFiles (files .0) (files .1 .0 .1) (files .1 .1) noEntry in
     record {
       entries = long entryType.the-type (tableIn s .files) maxFiles (files .0) (files .1 .0 .1) (files .1 .1);
       places = length-unmapped ℕ (s .server .blocks) maxPlaces (blocks .1 .0 .1);
+      embargoes = length-unmapped Bool (tableIn s .embargoed) maxClients (embargoed .1 .0 .1);
       records = λ f hf. entry-records (entryAt s f) _ (entry f hf .1);
       version = λ f hf. entry-version (entryAt s f) _ (entry f hf .1);
       last = λ f hf. entry-last (entryAt s f) _ (entry f hf .1);

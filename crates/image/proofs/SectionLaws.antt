@@ -13,12 +13,13 @@ use Rattle.sizes.specs.declared.sizes.Sizes.{Sizes}
 use Rattle.sizes.specs.Sizes.{place}
 use Rattle.protocol.specs.declared.entry.Entry.{Entry}
 use Rattle.protocol.specs.Entry.{recordAt}
-use Rattle.table.specs.TableStep.{entryOf}
+use Rattle.table.specs.TableStep.{entryOf, isEmbargoed}
 use Rattle.writer.specs.Buffer.{written, Wrote}
 use Rattle.writer.proofs.Buffers.{written-before}
 use Rattle.image.specs.Bytes.{low, below, entryIf, flat, section}
 use Rattle.image.specs.Image.{isListed, fileBytes, fileEntry, fileEntries, openBytes, openEntry, fileOpens}
-use Rattle.image.specs.Image.{openEntries, blockBytes, blockEntry, fileBlocks, blockEntries}
+use Rattle.image.specs.Image.{openEntries, blockBytes, blockEntry, fileBlocks, blockEntries, embargoBytes}
+use Rattle.image.specs.Image.{embargoEntry, embargoEntries}
 
 -- one more of the numbers below n
 pub below-next {ℓ} : {A : Type ℓ} (n : ℕ) (x : ℕ → List A) → below (n + 1) x ≡ below n x ++ x n
@@ -84,6 +85,11 @@ wide-blocks z blocks =
     (λ f.
     wide-below 10 (z .blocks) (λ b. blockEntry f b (getD blocks (place f b) 0))
     (λ b. let v = getD blocks (place f b) 0 in wide-if 10 (not (eqb v 0)) (blockBytes f b v) refl))
+
+pub wide-embargoes : (z : Sizes) (embargoed : List Bool) → Wide 1 (embargoEntries z embargoed)
+wide-embargoes z embargoed =
+    wide-below 1 (z .clients) (λ i. embargoEntry i (isEmbargoed embargoed i))
+    (λ i. wide-if 1 (isEmbargoed embargoed i) (embargoBytes i) refl)
 
 pub length-flat : (w : ℕ) (es : List (List ℕ)) → Wide w es → length (flat es) ≡ w * length es
 unfolding flat

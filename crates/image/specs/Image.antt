@@ -12,7 +12,7 @@ use Rattle.sizes.specs.declared.sizes.Sizes.{Sizes}
 use Rattle.sizes.specs.Sizes.{place, nobody}
 use Rattle.protocol.specs.declared.entry.Entry.{Entry}
 use Rattle.protocol.specs.Entry.{recordAt}
-use Rattle.table.specs.TableStep.{entryOf}
+use Rattle.table.specs.TableStep.{entryOf, isEmbargoed}
 use Rattle.service.specs.declared.service.Service.{Service}
 use Rattle.service.specs.Contents.{sizesOf, tableIn}
 use Rattle.image.specs.Bytes.{low, below, entryIf, section}
@@ -67,16 +67,27 @@ fileBlocks n f blocks = below n (λ b. blockEntry f b (getD blocks (place f b) 0
 abbrev pub blockEntries : Sizes → List ℕ → List (List ℕ)
 blockEntries z blocks = below (z .files) (λ f. fileBlocks (z .blocks) f blocks)
 
--- the image of a table's entries and of the blocks
-unfoldable pub imageBytes : Sizes → List Entry → List ℕ → List ℕ
-imageBytes z entries blocks =
+-- "a last section of embargoed stations, ascending" (Wish 9)
+abbrev pub embargoBytes : ℕ → List ℕ
+embargoBytes i = i ∷ []
+
+abbrev pub embargoEntry : ℕ → Bool → List (List ℕ)
+embargoEntry i t = entryIf t (embargoBytes i)
+
+abbrev pub embargoEntries : Sizes → List Bool → List (List ℕ)
+embargoEntries z embargoed = below (z .clients) (λ i. embargoEntry i (isEmbargoed embargoed i))
+
+-- the image of a table's entries, of the blocks and of the embargoes
+unfoldable pub imageBytes : Sizes → List Entry → List ℕ → List Bool → List ℕ
+imageBytes z entries blocks embargoed =
     sizeBytes z
-    ++ (section (fileEntries z entries) ++ (section (openEntries z entries) ++ section (blockEntries z blocks)))
+    ++ (section (fileEntries z entries)
+    ++ (section (openEntries z entries) ++ (section (blockEntries z blocks) ++ section (embargoEntries z embargoed))))
 
 -- of any service, hand-made ones included
 abbrev pub imageOf : Service → List ℕ
-imageOf s = imageBytes (sizesOf s) (tableIn s .files) (s .server .blocks)
+imageOf s = imageBytes (sizesOf s) (tableIn s .files) (s .server .blocks) (tableIn s .embargoed)
 
--- the longest image: 64 files, 512 opens and 512 blocks
+-- the longest image: 64 files, 512 opens, 512 blocks and 8 embargoes
 abbrev pub imageRoom : ℕ
-imageRoom = 8073
+imageRoom = 8083

@@ -1,4 +1,4 @@
-// The entries of the three sections, each written only if it is listed.
+// The entries of the four sections, each written only if it is listed.
 ghost use Prim.Native.Nat.{_+_, _≤_, _<_};
 ghost use mathlib.Core.Path.{_≡_};
 ghost use mathlib.Core.Bool.{cond};
@@ -6,7 +6,7 @@ ghost use mathlib.Core.List.{[], _∷_, _++_};
 ghost use lib.ListN.{length};
 ghost use Rattle.writer.specs.Buffer.{Wrote};
 ghost use Rattle.image.specs.Bytes.{low, flat};
-ghost use Rattle.image.specs.Image.{lastRead, fileEntry, openBytes, openEntry, blockEntry};
+ghost use Rattle.image.specs.Image.{lastRead, fileEntry, openBytes, openEntry, blockEntry, embargoEntry};
 use crate::numbers::put_eight;
 use crate::numbers::put_four;
 use protocol::Entry;
@@ -108,4 +108,18 @@ pub fn put_block(out: &mut [u8], at: usize, file: usize, block: usize, value: u6
     let second = put_byte(out, at, file as u8);
     let third = put_byte(out, second, block as u8);
     put_eight(out, third, value)
+}
+
+// A client that is not under embargo is not listed.
+pub fn put_embargo(out: &mut [u8], at: usize, client: usize, embargoed: bool) -> usize
+    requires { ⌜ client < 256 ⌝ }
+    requires { ⌜ at + 1 ≤ length (now out) ⌝ }
+    ensures { λ r. ⌜ Wrote (now (out .entry)) at (flat (embargoEntry client embargoed)) (now (out .exit)) r ⌝ }
+    ensures { λ r. ⌜ r ≤ at + 1 ⌝ }
+{
+    if embargoed {
+        put_byte(out, at, client as u8)
+    } else {
+        at
+    }
 }

@@ -1,24 +1,26 @@
-// The three sections, and the whole image. A section's entries are written first, and then their count before them.
+// The four sections, and the whole image. A section's entries are written first, and then their count before them.
 ghost use Prim.Native.Nat.{_+_, _≤_, _<_};
 ghost use lib.ListN.{length};
 ghost use Rattle.sizes.specs.Sizes.{maxClients, maxFiles, maxBlocks, Permitted};
 ghost use Rattle.writer.specs.Buffer.{Wrote};
 ghost use Rattle.image.specs.Bytes.{flat, section};
 ghost use Rattle.image.specs.Image.{sizeBytes, fileEntries, fileOpens, openEntries, fileBlocks, blockEntries};
-ghost use Rattle.image.specs.Image.{imageBytes, imageRoom};
+ghost use Rattle.image.specs.Image.{embargoEntries, imageBytes, imageRoom};
 use crate::entries::put_block;
+use crate::entries::put_embargo;
 use crate::entries::put_file;
 use crate::entries::put_open;
 use crate::numbers::put_count;
 use protocol::Entry;
 use sizes::MAX_BLOCKS;
+use sizes::MAX_CLIENTS;
 use sizes::MAX_FILES;
 use sizes::MAX_PLACES;
 use sizes::Sizes;
 use writer::put_byte;
 
 // The longest image.
-pub const IMAGE_ROOM: usize = 8073;
+pub const IMAGE_ROOM: usize = 8083;
 
 fn put_files(out: &mut [u8], at: usize, sizes: Sizes, files: [Entry; MAX_FILES]) -> usize
     requires { ⌜ Permitted sizes ⌝ }
@@ -110,6 +112,21 @@ fn put_blocks(out: &mut [u8], at: usize, sizes: Sizes, blocks: &[u64; MAX_PLACES
     next
 }
 
+fn put_embargoes(out: &mut [u8], at: usize, sizes: Sizes, embargoed: [bool; MAX_CLIENTS]) -> usize
+    requires { ⌜ Permitted sizes ⌝ }
+    requires { ⌜ at + 8 ≤ length (now out) ⌝ }
+    ensures { λ r. ⌜ Wrote (now (out .entry)) at (flat (embargoEntries sizes embargoed)) (now (out .exit)) r ⌝ }
+    ensures { λ r. ⌜ r ≤ at + 8 ⌝ }
+{
+    let mut next = at;
+    let mut client: usize = 0;
+    while client < sizes.clients {
+        next = put_embargo(out, next, client, embargoed[client]);
+        client += 1;
+    }
+    next
+}
+
 fn put_file_section(out: &mut [u8], at: usize, sizes: Sizes, files: [Entry; MAX_FILES]) -> usize
     requires { ⌜ Permitted sizes ⌝ }
     requires { ⌜ at + 386 ≤ length (now out) ⌝ }
@@ -144,6 +161,22 @@ fn put_block_section(out: &mut [u8], at: usize, sizes: Sizes, blocks: &[u64; MAX
     past
 }
 
+fn put_embargo_section(
+    out: &mut [u8],
+    at: usize,
+    sizes: Sizes,
+    embargoed: [bool; MAX_CLIENTS],
+) -> usize
+    requires { ⌜ Permitted sizes ⌝ }
+    requires { ⌜ at + 10 ≤ length (now out) ⌝ }
+    ensures { λ r. ⌜ Wrote (now (out .entry)) at (section (embargoEntries sizes embargoed)) (now (out .exit)) r ⌝ }
+    ensures { λ r. ⌜ r ≤ at + 10 ⌝ }
+{
+    let past = put_embargoes(out, at + 2, sizes, embargoed);
+    put_count(out, at, past - (at + 2));
+    past
+}
+
 // The three sizes, at the start of the buffer.
 fn put_sizes(out: &mut [u8], sizes: Sizes) -> usize
     requires { ⌜ Permitted sizes ⌝ }
@@ -162,14 +195,17 @@ pub fn put_image(
     sizes: Sizes,
     files: [Entry; MAX_FILES],
     blocks: &[u64; MAX_PLACES],
+    embargoed: [bool; MAX_CLIENTS],
 ) -> usize
     requires { ⌜ Permitted sizes ⌝ }
     requires { ⌜ imageRoom ≤ length (now out) ⌝ }
-    ensures { λ r. ⌜ Wrote (now (out .entry)) 0 (imageBytes sizes files (now (blocks .entry))) (now (out .exit)) r ⌝ }
+    ensures { λ r. ⌜ Wrote (now (out .entry)) 0
+        (imageBytes sizes files (now (blocks .entry)) embargoed) (now (out .exit)) r ⌝ }
     ensures { λ r. ⌜ r ≤ imageRoom ⌝ }
 {
     let first = put_sizes(out, sizes);
     let second = put_file_section(out, first, sizes, files);
     let third = put_open_section(out, second, sizes, files);
-    put_block_section(out, third, sizes, blocks)
+    let fourth = put_block_section(out, third, sizes, blocks);
+    put_embargo_section(out, fourth, sizes, embargoed)
 }

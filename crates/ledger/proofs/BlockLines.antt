@@ -9,24 +9,25 @@ use lib.Dec.{eqb}
 use lib.ListN.{length, getD, set, length-set}
 use lib.Seq.{getD-set-other}
 use borrow.Author.Tests.{eqb-true, eqb-false, eq-eqb, ne-eqb}
-use Rattle.sizes.specs.Sizes.{maxFiles, maxPlaces, maxCells}
+use Rattle.sizes.specs.Sizes.{maxPlaces, maxCells}
 use Rattle.service.proofs.Tests.{split}
 use Rattle.service.proofs.Lists.{getD-set}
 use Rattle.ledger.specs.declared.ledger.Ledger.{Ledger}
 use Rattle.ledger.specs.declared.lines.Lines.{Lines}
-use Rattle.ledger.specs.Ledger.{notes, linesIn, withLines, cameLines, lostLines, cameFrom, lostBelow}
+use Rattle.ledger.specs.Ledger.{notes, beginnings, linesIn, withLines, cameLines, lostLines, cameFrom}
+use Rattle.ledger.specs.Ledger.{lostBelow}
 
 -- the lists of a ledger have the lengths of their arrays
 pub record Ruled (l : Ledger) : Type 0 where
   pub written : length (l .written) ≡ notes
   pub writers : length (l .writers) ≡ notes
   pub copied : length (l .copied) ≡ maxCells
-  pub waiting : length (l .waiting) ≡ maxFiles
+  pub since : length (l .since) ≡ beginnings
 
--- the lines of copies and waits stay
+-- the lines of copies, waits and embargoes stay
 pub record Rest (l m : Ledger) : Type 0 where
   pub copied : m .copied ≡ l .copied
-  pub waiting : m .waiting ≡ l .waiting
+  pub since : m .since ≡ l .since
 
 -- ---- other lines at place p, read at place q
 
@@ -114,7 +115,7 @@ module _ (x : Lines) (p : ℕ) (hp : p < maxPlaces) (l : Ledger) (ruled : Ruled 
         written = third-long p p hp hp (l .written) (ruled .written) (x .safe) (x .risk) (x .lost);
         writers = third-long p p hp hp (l .writers) (ruled .writers) (x .saver) (x .risker) (x .loser);
         copied = ruled .copied;
-        waiting = ruled .waiting;
+        since = ruled .since;
       }
 
 -- ---- a sweep from place p on: after k turns T k is left, and each turn changes the lines of its place by h
@@ -134,10 +135,10 @@ module _
       (ruled-with (h (linesIn (T k) (p + k))) (p + k) (omega (arith, most)) (T k) (swept-ruled k (omega (arith, most))))
 
   pub swept-rest : (k : ℕ) → Rest l (T k)
-  swept-rest zero = subst (Rest l) (sym begins) (record { copied = refl; waiting = refl })
+  swept-rest zero = subst (Rest l) (sym begins) (record { copied = refl; since = refl })
   swept-rest (suc k) =
       let h = swept-rest k in
-      subst (Rest l) (sym (goes k)) (record { copied = h .copied; waiting = h .waiting })
+      subst (Rest l) (sym (goes k)) (record { copied = h .copied; since = h .since })
 
   module _ (q : ℕ) (hq : q < maxPlaces) where
     turn :

@@ -7,7 +7,7 @@ use mathlib.Core.Bool.{Bool, true, false, cond, not, _&&_}
 use mathlib.Core.List.{List}
 use lib.Arith.{digits-lt}
 use lib.Dec.{eqb}
-use lib.ListN.{length, getD, set}
+use lib.ListN.{length, getD, set, length-set}
 use lib.Seq.{getD-set-other}
 use borrow.Author.Tests.{eqb-true, eqb-false, ne-eqb, leb-false}
 use Rattle.sizes.specs.declared.sizes.Sizes.{Sizes}
@@ -15,14 +15,14 @@ use Rattle.sizes.specs.Sizes.{maxFiles, maxBlocks, maxPlaces, maxCells, Permitt
 use Rattle.sizes.proofs.InForce.{client-fits, file-fits, block-fits}
 use Rattle.protocol.specs.declared.step.Step.{Step}
 use Rattle.protocol.specs.declared.step.Step.the-variants.{Open, Close, Read, Write, Flush, Answer, Crash, Report, End}
-use Rattle.protocol.specs.declared.step.Step.the-variants.{Restart}
+use Rattle.protocol.specs.declared.step.Step.the-variants.{Restart, Embargo, Lift}
 use Rattle.protocol.specs.declared.reply.Reply.{Reply}
 use Rattle.protocol.specs.declared.reply.Reply.the-variants.{Granted, Waiting, Value, Refused, Answered}
 use Rattle.protocol.specs.declared.reply.Reply.the-variants.{AnsweredGrant, Done}
 use Rattle.protocol.specs.Reply.{isRefused}
 use Rattle.protocol.specs.Step.{clientOf, fileOf, blockOf}
 use Rattle.service.specs.declared.service.Service.{Service}
-use Rattle.service.specs.Contents.{sizesOf, clientAt, heldAt}
+use Rattle.service.specs.Contents.{sizesOf, embargoedAt, clientAt, heldAt}
 use Rattle.service.specs.Step.{stepOf}
 use Rattle.service.specs.Demand3.{refused, delays}
 use Rattle.service.proofs.Tests.{split, conflict, either, cond-ap, and-true, and-false, both}
@@ -33,7 +33,7 @@ use Rattle.ledger.specs.declared.ledger.Ledger.{Ledger}
 use Rattle.ledger.specs.declared.lines.Lines.{Lines}
 use Rattle.ledger.specs.Ledger.{linesIn, linesAt, copiedAt, waitingSince, isWaiting, fetches, writesCopy}
 use Rattle.ledger.specs.Ledger.{copyNoted, wroteLines, cameLines, lostLines, writeNoted, cameFrom, lostBelow}
-use Rattle.ledger.specs.Ledger.{ledgerAfter}
+use Rattle.ledger.specs.Ledger.{embargoNoted, ledgerAfter}
 use Rattle.ledger.specs.Provenance.{copies, beginsWait}
 use Rattle.ledger.proofs.BlockLines.{Ruled, Rest, lines-with, ruled-with, came-ruled, came-rest, came-past}
 use Rattle.ledger.proofs.BlockLines.{came-at, lost-ruled, lost-rest, lost-at}
@@ -73,7 +73,7 @@ accepted-reply (Answered n) e = conflict e refl
 accepted-reply (AnsweredGrant n i g) e = conflict e refl
 accepted-reply Done e = conflict e refl
 
-not-true : (b : Bool) → not b ≡ true → b ≡ false
+pub not-true : (b : Bool) → not b ≡ true → b ≡ false
 not-true true e = conflict e refl
 not-true false e = refl
 
@@ -116,6 +116,12 @@ module _ {z : Sizes} (most : Permitted z) (s : Service) (size : sizesOf s ≡ z)
   names-there (Restart i) a =
       let (client, _) = when-accepted s (Restart i) size a .0 in
       (leb-false (z .clients) i client, most .someFile, most .someBlock)
+  names-there (Embargo i f) a =
+      let (client, (file, _)) = when-accepted s (Embargo i f) size a .0 in
+      (leb-false (z .clients) i client, leb-false (z .files) f file, most .someBlock)
+  names-there (Lift i) a =
+      let (client, _) = when-accepted s (Lift i) size a .0 in
+      (leb-false (z .clients) i client, most .someFile, most .someBlock)
 
   -- an accepted step's place, and its file's
   pub step-place : (x : Step) → refused s x ≡ false → place (fileOf x) (blockOf x) < maxPlaces
@@ -130,10 +136,20 @@ module _ {z : Sizes} (most : Permitted z) (s : Service) (size : sizesOf s ≡ z)
 -- a change is made unless the step is refused
 module _ (r : Bool) (l m : Ledger) where
   rest-unless : Rest l m → Rest l (cond r l m)
-  rest-unless h = either (Rest l) r (λ _. record { copied = refl; waiting = refl }) (λ _. h)
+  rest-unless h = either (Rest l) r (λ _. record { copied = refl; since = refl }) (λ _. h)
 
   ruled-unless : Ruled l → (r ≡ false → Ruled m) → Ruled (cond r l m)
   ruled-unless h k = either Ruled r (λ _. h) k
+
+-- an embargo is noted, or that there is none any more
+embargo-ruled : (n i : ℕ) (l : Ledger) → Ruled l → Ruled (embargoNoted n i l)
+embargo-ruled n i l h =
+    record {
+      written = h .written;
+      writers = h .writers;
+      copied = h .copied;
+      since = length-set (l .since) (maxFiles + i) n ∙ h .since;
+    }
 
 copy-ruled : (test : Bool) (n i f b : ℕ) (l : Ledger) → Ruled l → Ruled (copyNoted test n i f b l)
 copy-ruled test n i f b l h =
@@ -141,7 +157,7 @@ copy-ruled test n i f b l h =
       written = h .written;
       writers = h .writers;
       copied = length-put (l .copied) (cell i f b) n test ∙ h .copied;
-      waiting = h .waiting;
+      since = h .since;
     }
 
 -- The sizes in force are permitted, and the ledger has its lengths.
@@ -153,23 +169,43 @@ module _
     (size : sizesOf s ≡ z)
     (l : Ledger)
     (ruled : Ruled l) where
-  written-rest :
-      (i f b v : ℕ) → Rest l (cond (refused s (Write i f b v)) l (writeNoted n i (place f b) (delays s i f) l))
+  pub written-rest :
+      (i f b v : ℕ) → Rest l (cond (refused s (Write i f b v)) l (writeNoted n i (place f b) (embargoedAt s i) (delays s i f) l))
   written-rest i f b v =
-      rest-unless (refused s (Write i f b v)) l (writeNoted n i (place f b) (delays s i f) l)
-      (record { copied = refl; waiting = refl })
+      rest-unless (refused s (Write i f b v)) l (writeNoted n i (place f b) (embargoedAt s i) (delays s i f) l)
+      (record { copied = refl; since = refl })
 
-  flushed-rest : (i f b : ℕ) → Rest l (cond (refused s (Flush i f b)) l (cameFrom i (place f b) 1 l))
+  pub flushed-rest : (i f b : ℕ) → Rest l (cond (refused s (Flush i f b)) l (cameFrom i (place f b) 1 l))
   flushed-rest i f b =
       rest-unless (refused s (Flush i f b)) l (cameFrom i (place f b) 1 l) (came-rest i (place f b) l ruled 1)
 
-  answered-rest : (i f : ℕ) → Rest l (cond (refused s (Answer i f)) l (cameFrom i (place f 0) maxBlocks l))
+  pub answered-rest : (i f : ℕ) → Rest l (cond (refused s (Answer i f)) l (cameFrom i (place f 0) maxBlocks l))
   answered-rest i f =
       rest-unless (refused s (Answer i f)) l (cameFrom i (place f 0) maxBlocks l)
       (came-rest i (place f 0) l ruled maxBlocks)
 
-  restarted-rest : (i : ℕ) → Rest l (cond (refused s (Restart i)) l (lostBelow i maxPlaces l))
-  restarted-rest i = rest-unless (refused s (Restart i)) l (lostBelow i maxPlaces l) (lost-rest i l ruled)
+  -- what is lost at a restart or an embargo, and what is noted of an embargo, unless the step is refused
+  forgotten-copied :
+      (r : Bool) (n′ i : ℕ) → cond r l (embargoNoted n′ i (lostBelow i maxPlaces l)) .copied ≡ l .copied
+  forgotten-copied true n′ i = refl
+  forgotten-copied false n′ i = lost-rest i l ruled .copied
+
+  lifted-copied : (r : Bool) (i : ℕ) → cond r l (embargoNoted 0 i l) .copied ≡ l .copied
+  lifted-copied true i = refl
+  lifted-copied false i = refl
+
+  pub forgotten-since :
+      (r : Bool) (n′ i : ℕ)
+      → cond r l (embargoNoted n′ i (lostBelow i maxPlaces l)) .since
+      ≡ cond (not r) (set (l .since) (maxFiles + i) n′) (l .since)
+  forgotten-since true n′ i = refl
+  forgotten-since false n′ i = ap (λ k. set k (maxFiles + i) n′) (lost-rest i l ruled .since)
+
+  pub lifted-since :
+      (r : Bool) (i : ℕ)
+      → cond r l (embargoNoted 0 i l) .since ≡ cond (not r) (set (l .since) (maxFiles + i) 0) (l .since)
+  lifted-since true i = refl
+  lifted-since false i = refl
 
   pub ruled-after : (x : Step) → Ruled (ledgerAfter n s x l)
   unfolding ledgerAfter
@@ -178,7 +214,7 @@ module _
         written = ruled .written;
         writers = ruled .writers;
         copied = ruled .copied;
-        waiting = length-put (l .waiting) f n (isWaiting (stepOf s (Open m i f) .reply)) ∙ ruled .waiting;
+        since = length-put (l .since) f n (isWaiting (stepOf s (Open m i f) .reply)) ∙ ruled .since;
       }
   ruled-after (Close m i f) = ruled
   ruled-after (Read i f b) =
@@ -187,10 +223,10 @@ module _
   ruled-after (Write i f b v) =
       let x = Write i f b v in
       copy-ruled (writesCopy (delays s i f) (stepOf s x .reply)) n i f b
-      (cond (refused s x) l (writeNoted n i (place f b) (delays s i f) l))
-      (ruled-unless (refused s x) l (writeNoted n i (place f b) (delays s i f) l) ruled
+      (cond (refused s x) l (writeNoted n i (place f b) (embargoedAt s i) (delays s i f) l))
+      (ruled-unless (refused s x) l (writeNoted n i (place f b) (embargoedAt s i) (delays s i f) l) ruled
       (λ a.
-      ruled-with (wroteLines n i (delays s i f) (linesAt l f b)) (place f b) (step-place most s size x a) l ruled))
+      ruled-with (wroteLines n i (embargoedAt s i) (delays s i f) (linesAt l f b)) (place f b) (step-place most s size x a) l ruled))
   ruled-after (Flush i f b) =
       let x = Flush i f b in
       ruled-unless (refused s x) l (cameFrom i (place f b) 1 l) ruled
@@ -202,26 +238,47 @@ module _
   ruled-after (Report i) = ruled
   ruled-after End = ruled
   ruled-after (Restart i) =
-      ruled-unless (refused s (Restart i)) l (lostBelow i maxPlaces l) ruled (λ _. lost-ruled i l ruled)
+      ruled-unless (refused s (Restart i)) l (embargoNoted 0 i (lostBelow i maxPlaces l)) ruled
+      (λ _. embargo-ruled 0 i (lostBelow i maxPlaces l) (lost-ruled i l ruled))
+  ruled-after (Embargo i f) =
+      ruled-unless (refused s (Embargo i f)) l (embargoNoted n i (lostBelow i maxPlaces l)) ruled
+      (λ _. embargo-ruled n i (lostBelow i maxPlaces l) (lost-ruled i l ruled))
+  ruled-after (Lift i) =
+      ruled-unless (refused s (Lift i)) l (embargoNoted 0 i l) ruled (λ _. embargo-ruled 0 i l ruled)
 
   -- File f is one.
   module _ (f : ℕ) (hf : f < z .files) where
+    -- what is noted of an embargo is noted past the files
+    not-a-file :
+        (n′ i : ℕ) (r : Bool)
+        → getD (cond (not r) (set (l .since) (maxFiles + i) n′) (l .since)) f 0 ≡ getD (l .since) f 0
+    not-a-file n′ i true = refl
+    not-a-file n′ i false =
+        let small = file-fits most hf in
+        getD-set-other (l .since) (maxFiles + i) f n′ 0 (λ e. omega (arith, e, small))
+
     pub wait-after : (x : Step) → waitingSince (ledgerAfter n s x l) f ≡ cond (beginsWait f s x) n (waitingSince l f)
     unfolding ledgerAfter
     wait-after (Open m i f′) =
-        getD-noted (l .waiting) f′ f n 0 (eqb f f′) (isWaiting (stepOf s (Open m i f′) .reply))
+        getD-noted (l .since) f′ f n 0 (eqb f f′) (isWaiting (stepOf s (Open m i f′) .reply))
         (λ e.
         let (_, file, _) = names-there most s size (Open m i f′) (accepted-reply (stepOf s (Open m i f′) .reply) e) in
-        (rw (ruled .waiting) (file-fits most file), refl))
+        (let small = file-fits most file in omega (arith, ruled .since, small), refl))
     wait-after (Close m i f′) = refl
     wait-after (Read i f′ b) = refl
-    wait-after (Write i f′ b v) = ap (λ k. getD k f 0) (written-rest i f′ b v .waiting)
-    wait-after (Flush i f′ b) = ap (λ k. getD k f 0) (flushed-rest i f′ b .waiting)
-    wait-after (Answer i f′) = ap (λ k. getD k f 0) (answered-rest i f′ .waiting)
+    wait-after (Write i f′ b v) = ap (λ k. getD k f 0) (written-rest i f′ b v .since)
+    wait-after (Flush i f′ b) = ap (λ k. getD k f 0) (flushed-rest i f′ b .since)
+    wait-after (Answer i f′) = ap (λ k. getD k f 0) (answered-rest i f′ .since)
     wait-after Crash = refl
     wait-after (Report i) = refl
     wait-after End = refl
-    wait-after (Restart i) = ap (λ k. getD k f 0) (restarted-rest i .waiting)
+    wait-after (Restart i) =
+        ap (λ k. getD k f 0) (forgotten-since (refused s (Restart i)) 0 i) ∙ not-a-file 0 i (refused s (Restart i))
+    wait-after (Embargo i f′) =
+        ap (λ k. getD k f 0) (forgotten-since (refused s (Embargo i f′)) n i)
+        ∙ not-a-file n i (refused s (Embargo i f′))
+    wait-after (Lift i) =
+        ap (λ k. getD k f 0) (lifted-since (refused s (Lift i)) i) ∙ not-a-file 0 i (refused s (Lift i))
 
     -- Block b is one.
     module _ (b : ℕ) (hb : b < z .blocks) where
@@ -268,4 +325,7 @@ module _
         copy-after Crash = refl
         copy-after (Report i′) = refl
         copy-after End = refl
-        copy-after (Restart i′) = ap (λ k. getD k (cell i f b) 0) (restarted-rest i′ .copied)
+        copy-after (Restart i′) = ap (λ k. getD k (cell i f b) 0) (forgotten-copied (refused s (Restart i′)) 0 i′)
+        copy-after (Embargo i′ f′) =
+            ap (λ k. getD k (cell i f b) 0) (forgotten-copied (refused s (Embargo i′ f′)) n i′)
+        copy-after (Lift i′) = ap (λ k. getD k (cell i f b) 0) (lifted-copied (refused s (Lift i′)) i′)

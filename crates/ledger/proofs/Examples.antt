@@ -1,5 +1,5 @@
 -- What is told of reads of the two mornings of the README, of a block that nobody wrote, and of writes that a restart
--- lost, from the definitions by evaluation. Assumes nothing.
+-- or an embargo lost, from the definitions by evaluation. Assumes nothing.
 use Prim.Native.Nat.{ℕ, _+_}
 use mathlib.Core.Path.{_≡_, refl}
 use mathlib.Core.Bool.{Bool, true, false}
@@ -8,20 +8,20 @@ use Rattle.decision.specs.Lists.{count, stored}
 use Rattle.decision.specs.State.{stateOf}
 use Rattle.decision.specs.Permission.{permissionAtGrant}
 use Rattle.protocol.specs.declared.step.Step.{Step}
-use Rattle.file.specs.FileStep.{fileStep, afterRestart}
+use Rattle.file.specs.FileStep.{fileStep, afterForgetting, afterDropping}
 use Rattle.access.specs.BlockStep.{blockStep}
 use Rattle.table.specs.TableStep.{tableStep}
 use Rattle.service.specs.declared.service.Service.{Service}
-use Rattle.service.specs.Restart.{restartedBelow, allStep}
+use Rattle.service.specs.Embargo.{forgottenBelow, grantsBelow, droppedBelow, allStep}
 use Rattle.service.specs.Step.{stepOf}
 use Rattle.service.specs.Fresh.{fresh}
 use Rattle.service.specs.Demand3.{after}
-use Rattle.service.proofs.Run.{freshDefault, OR, OW, CR, CW, RD, WR, FL, AN, BT}
+use Rattle.service.proofs.Run.{freshDefault, OR, OW, CR, CW, RD, WR, FL, AN, BT, EM, LF}
 use Rattle.ledger.specs.declared.told.Told.{Told}
 use Rattle.ledger.specs.declared.ledger.Ledger.{Ledger}
 use Rattle.ledger.specs.declared.lines.Lines.{Lines}
-use Rattle.ledger.specs.Ledger.{emptyLedger, linesAt, waitingSince, risksIn, cameFrom, lostBelow, ledgerAfter}
-use Rattle.ledger.specs.Ledger.{readTold}
+use Rattle.ledger.specs.Ledger.{emptyLedger, linesAt, waitingSince, embargoedSince, risksIn, cameFrom, lostBelow}
+use Rattle.ledger.specs.Ledger.{ledgerAfter, readTold}
 
 -- the latest write is lost
 abbrev losing : Bool → Bool → ℕ → ℕ → ℕ → ℕ → ℕ → Told
@@ -136,20 +136,55 @@ examples =
 
 -- the write of line 4 is lost with client 2's restart: line 2 wrote what is read, and the loss is told
 pub lost-told : first (again ++ BT 2 ∷ OR 5 3 ∷ []) 5 3 ≡ losing false false 0 2 2 4 2
-unfolding fresh emptyLedger ledgerAfter cameFrom lostBelow stepOf fileStep blockStep tableStep allStep afterRestart restartedBelow stateOf permissionAtGrant count stored
+unfolding fresh emptyLedger ledgerAfter cameFrom lostBelow stepOf fileStep blockStep tableStep allStep afterForgetting afterDropping forgottenBelow grantsBelow droppedBelow stateOf permissionAtGrant count stored
 lost-told = refl
 
 -- no write is left
 pub first-lost : first (OW 2 3 ∷ WR 2 3 0 23900 ∷ BT 2 ∷ OR 5 3 ∷ []) 5 3 ≡ losing false false 0 0 0 2 2
-unfolding fresh emptyLedger ledgerAfter cameFrom lostBelow stepOf fileStep blockStep tableStep allStep afterRestart restartedBelow stateOf permissionAtGrant count stored
+unfolding fresh emptyLedger ledgerAfter cameFrom lostBelow stepOf fileStep blockStep tableStep allStep afterForgetting afterDropping forgottenBelow grantsBelow droppedBelow stateOf permissionAtGrant count stored
 first-lost = refl
 
 -- the next write ends it
 pub lost-no-more : first (again ++ BT 2 ∷ OW 5 3 ∷ WR 5 3 0 7 ∷ []) 5 3 ≡ told true true 7 7 5
-unfolding fresh emptyLedger ledgerAfter cameFrom lostBelow stepOf fileStep blockStep tableStep allStep afterRestart restartedBelow stateOf permissionAtGrant count stored
+unfolding fresh emptyLedger ledgerAfter cameFrom lostBelow stepOf fileStep blockStep tableStep allStep afterForgetting afterDropping forgottenBelow grantsBelow droppedBelow stateOf permissionAtGrant count stored
 lost-no-more = refl
 
 -- a restart of another client loses nothing
 pub nothing-lost : first (again ++ BT 5 ∷ OR 5 3 ∷ AN 2 3 ∷ []) 5 3 ≡ told false false 0 4 2
-unfolding fresh emptyLedger ledgerAfter cameFrom lostBelow stepOf fileStep blockStep tableStep allStep afterRestart restartedBelow stateOf permissionAtGrant count stored
+unfolding fresh emptyLedger ledgerAfter cameFrom lostBelow stepOf fileStep blockStep tableStep allStep afterForgetting afterDropping forgottenBelow grantsBelow droppedBelow stateOf permissionAtGrant count stored
 nothing-lost = refl
+
+-- ---- under embargo
+
+-- since which line client i is under embargo after the steps
+abbrev asideAfter : Service → Ledger → ℕ → List Step → ℕ → ℕ
+asideAfter s l n [] i = embargoedSince l i
+asideAfter s l n (x ∷ xs) i = asideAfter (after s x) (ledgerAfter n s x l) (n + 1) xs i
+
+abbrev aside : List Step → ℕ → ℕ
+aside = asideAfter freshDefault emptyLedger 1
+
+-- the open of line 5 calls client 2, which does not answer
+abbrev silent : List Step
+silent = again ++ OR 5 3 ∷ EM 2 3 ∷ []
+
+-- the write of line 4 is lost; what client 2 still writes is lost at once, and is then the latest
+pub more-lost : first (silent ++ WR 2 3 0 25000 ∷ []) 5 3 ≡ losing false false 0 2 2 7 2
+unfolding fresh emptyLedger ledgerAfter cameFrom lostBelow stepOf fileStep blockStep tableStep allStep afterForgetting afterDropping forgottenBelow grantsBelow droppedBelow stateOf permissionAtGrant count stored
+more-lost = refl
+
+-- client 5 has a write at risk and restarts: client 2's is the later one
+pub latest-loss :
+    noted (silent ++ OW 5 3 ∷ WR 5 3 0 7 ∷ WR 2 3 0 25000 ∷ BT 5 ∷ []) 3 0
+    ≡ record { safe = 2; saver = 2; risk = 0; risker = 0; lost = 9; loser = 2 }
+unfolding fresh emptyLedger ledgerAfter cameFrom lostBelow stepOf fileStep blockStep tableStep allStep afterForgetting afterDropping forgottenBelow grantsBelow droppedBelow stateOf permissionAtGrant count stored
+latest-loss = refl
+
+-- the line of an embargo, until its client is told or restarts
+pub aside-since : aside silent 2 ≡ 6
+unfolding fresh emptyLedger ledgerAfter cameFrom lostBelow stepOf fileStep blockStep tableStep allStep afterForgetting afterDropping forgottenBelow grantsBelow droppedBelow stateOf permissionAtGrant count stored
+aside-since = refl
+
+pub aside-no-more : aside (silent ++ LF 2 ∷ []) 2 ≡ 0
+unfolding fresh emptyLedger ledgerAfter cameFrom lostBelow stepOf fileStep blockStep tableStep allStep afterForgetting afterDropping forgottenBelow grantsBelow droppedBelow stateOf permissionAtGrant count stored
+aside-no-more = refl

@@ -7,22 +7,22 @@ use lib.Dec.{eqb}
 use lib.ListN.{getD, set}
 use Rattle.sizes.specs.declared.sizes.Sizes.{Sizes}
 use Rattle.sizes.specs.Sizes.{Permitted, cell, firstCell}
-use Rattle.decision.specs.Lists.{firstOf, stored}
-use Rattle.decision.specs.Callback.{invalidates}
+use Rattle.decision.specs.Lists.{stored}
+use Rattle.decision.specs.Callback.{asksNothing, invalidates}
 use Rattle.sizes.proofs.InForce.{client-fits, block-fits}
 use Rattle.protocol.specs.declared.step.Step.{Step}
 use Rattle.protocol.specs.declared.step.Step.the-variants.{Open, Close, Read, Write, Flush, Answer, Crash, Report, End}
-use Rattle.protocol.specs.declared.step.Step.the-variants.{Restart}
+use Rattle.protocol.specs.declared.step.Step.the-variants.{Restart, Embargo, Lift}
+use Rattle.protocol.specs.declared.reply.Granting.{Granting}
 use Rattle.protocol.specs.declared.shared.SharedFile.{SharedFile}
-use Rattle.protocol.specs.Refusal.{answerTests}
 use Rattle.protocol.specs.Client.{kept, keepsBlocks, sideOf}
-use Rattle.protocol.specs.Entry.{callTo, callsFor, callsOut, grantOf}
+use Rattle.protocol.specs.Entry.{callTo, callsFor, callsOut, grantOf, answeredEntry, forgottenEntry}
 use Rattle.blocks.specs.Stores.{Stores, heldIn, droppedUnless, answeredStores}
-use Rattle.file.specs.FileStep.{FileAfter, answered, afterAnswer, forgotten, afterRestart}
+use Rattle.file.specs.FileStep.{FileAfter, answered, afterAnswer, withEntry, afterForgetting, afterDropping}
 use Rattle.service.specs.declared.service.Service.{Service}
 use Rattle.service.specs.declared.outcome.Outcome.{Outcome}
 use Rattle.service.specs.Contents.{sizesOf, entryAt, fileAt, storesOf, clientAt, heldAt}
-use Rattle.service.specs.Restart.{restartedBelow}
+use Rattle.service.specs.Embargo.{forgottenBelow, marked, putAside, grantsAside, droppedBelow, answering}
 use Rattle.service.specs.Demand3.{refused, after}
 use Rattle.service.proofs.Tests.{split, conflict, either}
 use Rattle.service.proofs.Contents.{cell-same}
@@ -94,25 +94,49 @@ module _
       (λ _ h. answered-held kind j g a (granted-held keep opener g (o .stores) h))
       (λ _ h. answered-held kind j g a h)
 
-  -- what a restart leaves, file by file
-  restart-held :
+  -- what the server's forgetting of a client leaves, file by file, and what the client's dropping leaves
+  forgetting-held :
       (x : SharedFile) (a : Stores) (j g : ℕ)
-      → heldIn (afterRestart z g x a j .stores) i f b ≡ true
+      → heldIn (afterForgetting z g x a j .stores) i f b ≡ true
       → heldIn a i f b ≡ true
-  unfolding afterRestart
-  restart-held x a j g =
-      let o : FileAfter = forgotten z g x a j in
+  unfolding afterForgetting
+  forgetting-held x a j g =
+      let e = forgottenEntry (z .clients) (x .entry) j in
+      let kind = callTo (z .clients) e j in
+      let y = withEntry x (answeredEntry e j kind) in
+      let opener = y .entry .waiter in
+      let mode = y .entry .mode in
+      let keep = keepsBlocks mode (grantOf (z .clients) (y .entry) opener mode) (sideOf (y .sides) opener) in
+      either (λ (o : FileAfter). heldIn (o .stores) i f b ≡ true → heldIn a i f b ≡ true) (asksNothing kind)
+      (λ _ h. h)
+      (λ _.
       either (λ (o : FileAfter). heldIn (o .stores) i f b ≡ true → heldIn a i f b ≡ true)
-      (eqb (firstOf (answerTests z false (o .file .entry) j g)) 0)
-      (λ _ h. granted-held false j g a (answer-held (o .file) (o .stores) j g h))
-      (λ _ h. granted-held false j g a h)
+      (eqb (callsOut (z .clients) (y .entry)) 0)
+      (λ _ h. granted-held keep opener g a h)
+      (λ _ h. h))
 
-  restarted-held : (j k : ℕ) → heldAt (restartedBelow z j k s) i f b ≡ true → heldAt s i f b ≡ true
-  unfolding restartedBelow
-  restarted-held j zero h = h
-  restarted-held j (suc k) h =
-      let t = restartedBelow z j k s in
-      restarted-held j k (restart-held (fileAt t k) (storesOf t) j k h)
+  forgotten-held :
+      (j k : ℕ) (t : Service) → heldAt (forgottenBelow z j k t) i f b ≡ true → heldAt t i f b ≡ true
+  unfolding forgottenBelow
+  forgotten-held j zero t h = h
+  forgotten-held j (suc k) t h =
+      let u = forgottenBelow z j k t in
+      forgotten-held j k t (forgetting-held (fileAt u k) (storesOf u) j k h)
+
+  dropped-held : (j k : ℕ) (t : Service) → heldAt (droppedBelow z j k t) i f b ≡ true → heldAt t i f b ≡ true
+  unfolding droppedBelow afterDropping
+  dropped-held j zero t h = h
+  dropped-held j (suc k) t h =
+      let u = droppedBelow z j k t in
+      dropped-held j k t (granted-held false j k (storesOf u) h)
+
+  -- an embargo, and what its client is told
+  aside-held : (j : ℕ) → heldAt (putAside z s j) i f b ≡ true → heldAt s i f b ≡ true
+  aside-held j = forgotten-held j (z .files) (marked s j)
+
+  answering-held : (t : Service) (gs : List Granting) → heldAt (answering t gs .service) i f b ≡ heldAt t i f b
+  answering-held t [] = refl
+  answering-held t (g ∷ gs) = refl
 
   -- a step that stores the flag of one copy, if a test holds
   put-held :
@@ -153,7 +177,9 @@ module _
   done-held Crash a miss = λ h. h
   done-held (Report j) a miss = λ h. h
   done-held End a miss = λ h. h
-  done-held (Restart j) a miss = restarted-held j (z .files)
+  done-held (Restart j) a miss = λ h. aside-held j (dropped-held j (z .files) (putAside z s j) h)
+  done-held (Embargo j g) a miss = λ h. aside-held j (sym (answering-held (putAside z s j) (grantsAside z s j)) ∙ h)
+  done-held (Lift j) a miss = dropped-held j (z .files) s
 
   pub held-before :
       (x : Step) → copies i f b s x ≡ false → heldAt (after s x) i f b ≡ true → heldAt s i f b ≡ true

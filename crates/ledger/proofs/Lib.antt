@@ -8,6 +8,7 @@ pub mod LinesAfter
 pub mod Naming
 pub mod Wrapping
 pub mod Holding
+pub mod Aside
 pub mod AllBooked
 pub mod Provenance
 pub mod Examples

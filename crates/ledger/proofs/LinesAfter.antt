@@ -10,17 +10,17 @@ use Rattle.sizes.specs.Sizes.{maxBlocks, maxPlaces, Permitted, place}
 use Rattle.sizes.proofs.InForce.{file-fits, block-fits}
 use Rattle.protocol.specs.declared.step.Step.{Step}
 use Rattle.protocol.specs.declared.step.Step.the-variants.{Open, Close, Read, Write, Flush, Answer, Crash, Report, End}
-use Rattle.protocol.specs.declared.step.Step.the-variants.{Restart}
+use Rattle.protocol.specs.declared.step.Step.the-variants.{Restart, Embargo, Lift}
 use Rattle.protocol.specs.Step.{fileOf, blockOf}
 use Rattle.service.specs.declared.service.Service.{Service}
-use Rattle.service.specs.Contents.{sizesOf}
+use Rattle.service.specs.Contents.{sizesOf, embargoedAt}
 use Rattle.service.specs.Demand3.{refused, delays}
 use Rattle.service.proofs.Tests.{cond-ap, and-true, and-false}
 use Rattle.service.proofs.Contents.{place-same}
 use Rattle.ledger.specs.declared.ledger.Ledger.{Ledger}
 use Rattle.ledger.specs.declared.lines.Lines.{Lines}
 use Rattle.ledger.specs.Ledger.{linesIn, linesAt, wroteLines, cameLines, lostLines, writeNoted, cameFrom}
-use Rattle.ledger.specs.Ledger.{lostBelow, ledgerAfter}
+use Rattle.ledger.specs.Ledger.{lostBelow, embargoNoted, ledgerAfter}
 use Rattle.ledger.proofs.BlockLines.{Ruled, lines-with, came-past, came-at, lost-at}
 use Rattle.ledger.proofs.Entries.{names-there, place-fits, step-place, step-file}
 
@@ -30,13 +30,15 @@ linesAfter f b n s (Open m i f′) refusal x = x
 linesAfter f b n s (Close m i f′) refusal x = x
 linesAfter f b n s (Read i f′ b′) refusal x = x
 linesAfter f b n s (Write i f′ b′ v) refusal x =
-    cond (eqb f f′ && eqb b b′ && not refusal) (wroteLines n i (delays s i f′) x) x
+    cond (eqb f f′ && eqb b b′ && not refusal) (wroteLines n i (embargoedAt s i) (delays s i f′) x) x
 linesAfter f b n s (Flush i f′ b′) refusal x = cond (eqb f f′ && eqb b b′ && not refusal) (cameLines i x) x
 linesAfter f b n s (Answer i f′) refusal x = cond (eqb f f′ && not refusal) (cameLines i x) x
 linesAfter f b n s Crash refusal x = x
 linesAfter f b n s (Report i) refusal x = x
 linesAfter f b n s End refusal x = x
 linesAfter f b n s (Restart i) refusal x = cond refusal x (lostLines i x)
+linesAfter f b n s (Embargo i f′) refusal x = cond refusal x (lostLines i x)
+linesAfter f b n s (Lift i) refusal x = x
 
 -- The sizes in force are permitted, the ledger has its lengths, and block b of file f is one.
 module _
@@ -84,6 +86,14 @@ module _
       (λ j first. ne-eqb (place f b) (p + j)
       (λ same. let other = eqb-false (place f b) p e in other (omega (arith, same, first))))
 
+  -- what a restart or an embargo loses
+  forgotten-lines :
+      (i n′ : ℕ) (r : Bool)
+      → linesAt (cond r l (embargoNoted n′ i (lostBelow i maxPlaces l))) f b
+      ≡ cond r (linesAt l f b) (lostLines i (linesAt l f b))
+  forgotten-lines i n′ true = refl
+  forgotten-lines i n′ false = lost-at i l ruled (place f b) inside
+
   answered-lines :
       (i f′ : ℕ) (t : Bool)
       → place f′ 0 + maxBlocks ≤ maxPlaces
@@ -109,10 +119,10 @@ module _
   lines-after (Read i f′ b′) = refl
   lines-after (Write i f′ b′ v) =
       let x = Write i f′ b′ v in
-      let y = wroteLines n i (delays s i f′) (linesAt l f b) in
-      hit (eqb f f′ && eqb b b′) (refused s x) (writeNoted n i (place f′ b′) (delays s i f′) l) y
+      let y = wroteLines n i (embargoedAt s i) (delays s i f′) (linesAt l f b) in
+      hit (eqb f f′ && eqb b b′) (refused s x) (writeNoted n i (place f′ b′) (embargoedAt s i) (delays s i f′) l) y
       (λ a.
-      lines-with (wroteLines n i (delays s i f′) (linesAt l f′ b′)) (place f′ b′) (step-place most s size x a) l ruled
+      lines-with (wroteLines n i (embargoedAt s i) (delays s i f′) (linesAt l f′ b′)) (place f′ b′) (step-place most s size x a) l ruled
       (place f b) inside
       ∙ written-here i f′ b′ (eqb (place f b) (place f′ b′)) refl
       ∙ ap (λ t. cond t y (linesAt l f b)) (here x a))
@@ -121,10 +131,10 @@ module _
       written-here :
           (i f′ b′ : ℕ) (t : Bool)
           → eqb (place f b) (place f′ b′) ≡ t
-          → cond t (wroteLines n i (delays s i f′) (linesAt l f′ b′)) (linesAt l f b)
-          ≡ cond t (wroteLines n i (delays s i f′) (linesAt l f b)) (linesAt l f b)
+          → cond t (wroteLines n i (embargoedAt s i) (delays s i f′) (linesAt l f′ b′)) (linesAt l f b)
+          ≡ cond t (wroteLines n i (embargoedAt s i) (delays s i f′) (linesAt l f b)) (linesAt l f b)
       written-here i f′ b′ true e =
-          ap (λ p. wroteLines n i (delays s i f′) (linesIn l p)) (sym (eqb-true (place f b) (place f′ b′) e))
+          ap (λ p. wroteLines n i (embargoedAt s i) (delays s i f′) (linesIn l p)) (sym (eqb-true (place f b) (place f′ b′) e))
       written-here i f′ b′ false e = refl
   lines-after (Flush i f′ b′) =
       let x = Flush i f′ b′ in
@@ -137,6 +147,11 @@ module _
   lines-after Crash = refl
   lines-after (Report i) = refl
   lines-after End = refl
-  lines-after (Restart i) =
-      cond-ap (λ m. linesAt m f b) (refused s (Restart i)) l (lostBelow i maxPlaces l)
-      ∙ ap (λ x. cond (refused s (Restart i)) (linesAt l f b) x) (lost-at i l ruled (place f b) inside)
+  lines-after (Restart i) = forgotten-lines i 0 (refused s (Restart i))
+  lines-after (Embargo i f′) = forgotten-lines i n (refused s (Embargo i f′))
+  lines-after (Lift i) =
+      cond-ap (λ m. linesAt m f b) (refused s (Lift i)) l (embargoNoted 0 i l) ∙ either-same (refused s (Lift i))
+    where
+      either-same : (r : Bool) → cond r (linesAt l f b) (linesAt l f b) ≡ linesAt l f b
+      either-same true = refl
+      either-same false = refl

@@ -11,16 +11,17 @@ use lib.Dec.{eqb}
 use borrow.Author.Tests.{ne-eqb}
 use Rattle.protocol.specs.declared.step.Step.{Step}
 use Rattle.protocol.specs.declared.step.Step.the-variants.{Open, Close, Read, Write, Flush, Answer, Crash, Report, End}
-use Rattle.protocol.specs.declared.step.Step.the-variants.{Restart}
+use Rattle.protocol.specs.declared.step.Step.the-variants.{Restart, Embargo, Lift}
 use Rattle.protocol.specs.Book.{Written, HistoryOf, History, wrote, came, lost, riskedBy, Named, none, by, firstOf}
 use Rattle.protocol.proofs.Invariant.{AllSafe, Risks}
 use Rattle.protocol.proofs.Invariant.Summary.{Summary, riskOf, summary, came-summary, lost-summary}
 use Rattle.service.specs.declared.service.Service.{Service}
+use Rattle.service.specs.Contents.{embargoedAt}
 use Rattle.service.specs.Demand3.{Memory, delays, fed}
 use Rattle.service.proofs.Tests.{conflict, cond-ap}
 use Rattle.ledger.specs.declared.lines.Lines.{Lines}
 use Rattle.ledger.specs.Ledger.{wroteLines, risksIn, cameLines, lostLines}
-use Rattle.ledger.specs.Provenance.{Noted, historyAfter, lossAfter}
+use Rattle.ledger.specs.Provenance.{Noted, historyAfter, lostWrite, earlierLoss, lossAfter}
 use Rattle.ledger.proofs.LinesAfter.{linesAfter}
 
 -- the line and its client are those of the write, and the line is above 0; or there is none, and the line is 0
@@ -64,13 +65,18 @@ first-risked i (w ∷ ws) e = at (w .safe) e
 
 -- ---- what a step makes of the lines and of the history
 
+-- a write where t holds, unless it is refused; under embargo it is not in the history
 notes-wrote :
-    (n i v : ℕ) (delayed : Bool) (x : Lines) (k : HistoryOf Noted)
+    (t refusal aside : Bool) (n i v : ℕ) (delayed : Bool) (x : Lines) (k : HistoryOf Noted)
     → 0 < n
     → Notes x (summary k)
-    → Notes (wroteLines n i delayed x) (summary (wrote i (record { line = n; value = v }) delayed k))
-notes-wrote n i v true x k some h = record { risk = (some, refl, refl); safe = h .safe }
-notes-wrote n i v false x k some h = record { risk = refl; safe = (some, refl, refl) }
+    → Notes (cond (t && not refusal) (wroteLines n i aside delayed x) x)
+    (summary (cond (t && not (refusal || aside)) (wrote i (record { line = n; value = v }) delayed k) k))
+notes-wrote false refusal aside n i v delayed x k some h = h
+notes-wrote true true aside n i v delayed x k some h = h
+notes-wrote true false true n i v delayed x k some h = record { risk = h .risk; safe = h .safe }
+notes-wrote true false false n i v true x k some h = record { risk = (some, refl, refl); safe = h .safe }
+notes-wrote true false false n i v false x k some h = record { risk = refl; safe = (some, refl, refl) }
 
 module _ (i j : ℕ) (x : Lines) (k : HistoryOf Noted) (shape : Risks j k) (h : Notes x (summary k)) where
   notes-came : Notes (cameLines i x) (summary (came i k))
@@ -93,7 +99,15 @@ module _ (i j : ℕ) (x : Lines) (k : HistoryOf Noted) (shape : Risks j k) (h : 
       (subst⁻¹ (Notes (cond (riskedBy i k) gone x)) (lost-summary i j k shape) (at (riskedBy i k)))
     where
       gone : Lines
-      gone = record { safe = x .safe; saver = x .saver; risk = 0; risker = 0; lost = x .risk; loser = x .risker }
+      gone =
+          record {
+            safe = x .safe;
+            saver = x .saver;
+            risk = 0;
+            risker = 0;
+            lost = cond (eqb (x .lost) 0) (x .risk) (x .lost);
+            loser = cond (eqb (x .lost) 0) (x .risker) (x .loser);
+          }
 
       at : (t : Bool)
           → Notes (cond t gone x) (cond t (record { risk = none; safe = summary k .safe }) (summary k))
@@ -119,9 +133,7 @@ notes-after f b n s (Open m i f′) refusal y j k some shape h = h
 notes-after f b n s (Close m i f′) refusal y j k some shape h = h
 notes-after f b n s (Read i f′ b′) refusal y j k some shape h = h
 notes-after f b n s (Write i f′ b′ v) refusal y j k some shape h =
-    choose (eqb f f′ && eqb b b′ && not refusal) (wroteLines n i (delays s i f′) y) y
-    (wrote i (record { line = n; value = v }) (delays s i f′) k) k
-    (notes-wrote n i v (delays s i f′) y k some h) h
+    notes-wrote (eqb f f′ && eqb b b′) refusal (embargoedAt s i) n i v (delays s i f′) y k some h
 notes-after f b n s (Flush i f′ b′) refusal y j k some shape h =
     choose (eqb f f′ && eqb b b′ && not refusal) (cameLines i y) y (came i k) k (notes-came i j y k shape h) h
 notes-after f b n s (Answer i f′) refusal y j k some shape h =
@@ -131,15 +143,22 @@ notes-after f b n s (Report i) refusal y j k some shape h = h
 notes-after f b n s End refusal y j k some shape h = h
 notes-after f b n s (Restart i) refusal y j k some shape h =
     choose refusal y (lostLines i y) k (lost i k) h (notes-lost i j y k shape h)
+notes-after f b n s (Embargo i f′) refusal y j k some shape h =
+    choose refusal y (lostLines i y) k (lost i k) h (notes-lost i j y k shape h)
+notes-after f b n s (Lift i) refusal y j k some shape h = h
 
 -- ---- the loss
 
 abbrev pub NamesLost : Lines → Named Noted → Type 0
 NamesLost x o = Names (x .lost) (x .loser) o
 
-loss-wrote : (n i : ℕ) (delayed : Bool) (x : Lines) → NamesLost (wroteLines n i delayed x) none
-loss-wrote n i true x = refl
-loss-wrote n i false x = refl
+loss-wrote :
+    (n i v : ℕ) (aside delayed : Bool) (x : Lines)
+    → 0 < n
+    → NamesLost (wroteLines n i aside delayed x) (lostWrite aside i (record { line = n; value = v }))
+loss-wrote n i v true delayed x some = (some, refl, refl)
+loss-wrote n i v false true x some = refl
+loss-wrote n i v false false x some = refl
 
 loss-came : (i : ℕ) (x : Lines) (o : Named Noted) → NamesLost x o → NamesLost (cameLines i x) o
 loss-came i x o h = at (risksIn i x)
@@ -153,20 +172,42 @@ loss-came i x o h = at (risksIn i x)
     at true = h
     at false = h
 
+-- the loss before, if there is one, else the write that is lost now
+loss-kept :
+    (line client now by′ : ℕ) (o p : Named Noted)
+    → Names line client o
+    → Names now by′ p
+    → Names (cond (eqb line 0) now line) (cond (eqb line 0) by′ client) (earlierLoss o p)
+loss-kept line client now by′ none p h h′ =
+    subst⁻¹ (λ t. Names (cond t now line) (cond t by′ client) p) (ap (λ r. eqb r 0) h) h′
+loss-kept line client now by′ (by i w) p (some, is, who) h′ =
+    subst⁻¹ (λ t. Names (cond t now line) (cond t by′ client) (by i w)) (named-line line (w .line) some is)
+    (some, is, who)
+
 loss-lost :
     (i : ℕ) (x : Lines) (k : HistoryOf Noted) (o : Named Noted)
     → Notes x (summary k)
     → NamesLost x o
-    → NamesLost (lostLines i x) (cond (riskedBy i k) (firstOf k) o)
+    → NamesLost (lostLines i x) (cond (riskedBy i k) (earlierLoss o (firstOf k)) o)
 loss-lost i x k o notes h =
-    subst⁻¹ (λ t. NamesLost (cond t gone x) (cond (riskedBy i k) (firstOf k) o)) (risks-is i x k notes)
+    subst⁻¹ (λ t. NamesLost (cond t gone x) (cond (riskedBy i k) (earlierLoss o (firstOf k)) o)) (risks-is i x k notes)
     (at (riskedBy i k) refl)
   where
     gone : Lines
-    gone = record { safe = x .safe; saver = x .saver; risk = 0; risker = 0; lost = x .risk; loser = x .risker }
+    gone =
+        record {
+          safe = x .safe;
+          saver = x .saver;
+          risk = 0;
+          risker = 0;
+          lost = cond (eqb (x .lost) 0) (x .risk) (x .lost);
+          loser = cond (eqb (x .lost) 0) (x .risker) (x .loser);
+        }
 
-    at : (t : Bool) → riskedBy i k ≡ t → NamesLost (cond t gone x) (cond t (firstOf k) o)
-    at true e = subst (Names (x .risk) (x .risker)) (first-risked i k e) (notes .risk)
+    at : (t : Bool) → riskedBy i k ≡ t → NamesLost (cond t gone x) (cond t (earlierLoss o (firstOf k)) o)
+    at true e =
+        loss-kept (x .lost) (x .loser) (x .risk) (x .risker) o (firstOf k) h
+        (subst (Names (x .risk) (x .risker)) (first-risked i k e) (notes .risk))
     at false e = h
 
 choose-loss :
@@ -184,24 +225,29 @@ choose-same false y x o p h = h
 
 pub loss-after :
     (f b n : ℕ) (s : Service) (x : Step) (refusal : Bool) (y : Lines) (k : HistoryOf Noted) (o : Named Noted)
+    → 0 < n
     → Notes y (summary k)
     → NamesLost y o
-    → NamesLost (linesAfter f b n s x refusal y) (lossAfter f b x refusal k o)
-loss-after f b n s (Open m i f′) refusal y k o notes h = h
-loss-after f b n s (Close m i f′) refusal y k o notes h = h
-loss-after f b n s (Read i f′ b′) refusal y k o notes h = h
-loss-after f b n s (Write i f′ b′ v) refusal y k o notes h =
-    choose-loss (eqb f f′ && eqb b b′ && not refusal) (wroteLines n i (delays s i f′) y) y none o
-    (loss-wrote n i (delays s i f′) y) h
-loss-after f b n s (Flush i f′ b′) refusal y k o notes h =
+    → NamesLost (linesAfter f b n s x refusal y) (lossAfter f b n s x refusal k o)
+loss-after f b n s (Open m i f′) refusal y k o some notes h = h
+loss-after f b n s (Close m i f′) refusal y k o some notes h = h
+loss-after f b n s (Read i f′ b′) refusal y k o some notes h = h
+loss-after f b n s (Write i f′ b′ v) refusal y k o some notes h =
+    choose-loss (eqb f f′ && eqb b b′ && not refusal) (wroteLines n i (embargoedAt s i) (delays s i f′) y) y
+    (lostWrite (embargoedAt s i) i (record { line = n; value = v })) o
+    (loss-wrote n i v (embargoedAt s i) (delays s i f′) y some) h
+loss-after f b n s (Flush i f′ b′) refusal y k o some notes h =
     choose-same (eqb f f′ && eqb b b′ && not refusal) (cameLines i y) y o (loss-came i y o h) h
-loss-after f b n s (Answer i f′) refusal y k o notes h =
+loss-after f b n s (Answer i f′) refusal y k o some notes h =
     choose-same (eqb f f′ && not refusal) (cameLines i y) y o (loss-came i y o h) h
-loss-after f b n s Crash refusal y k o notes h = h
-loss-after f b n s (Report i) refusal y k o notes h = h
-loss-after f b n s End refusal y k o notes h = h
-loss-after f b n s (Restart i) true y k o notes h = h
-loss-after f b n s (Restart i) false y k o notes h = loss-lost i y k o notes h
+loss-after f b n s Crash refusal y k o some notes h = h
+loss-after f b n s (Report i) refusal y k o some notes h = h
+loss-after f b n s End refusal y k o some notes h = h
+loss-after f b n s (Restart i) true y k o some notes h = h
+loss-after f b n s (Restart i) false y k o some notes h = loss-lost i y k o notes h
+loss-after f b n s (Embargo i f′) true y k o some notes h = h
+loss-after f b n s (Embargo i f′) false y k o some notes h = loss-lost i y k o notes h
+loss-after f b n s (Lift i) refusal y k o some notes h = h
 
 -- ---- the reference memory's history
 
@@ -257,13 +303,13 @@ changed false false k k′ e e′ = e
 pub memory-after :
     (m : Memory) (n : ℕ) (s : Service) (x : Step) (refusal : Bool) (f b : ℕ) (k : HistoryOf Noted)
     → m f b ≡ valuesOf k
-    → fed m x refusal (delays s) f b ≡ valuesOf (historyAfter f b n s x refusal k)
+    → fed m x refusal (delays s) (embargoedAt s) f b ≡ valuesOf (historyAfter f b n s x refusal k)
 memory-after m n s (Open mode i f′) refusal f b k e = e
 memory-after m n s (Close mode i f′) refusal f b k e = e
 memory-after m n s (Read i f′ b′) refusal f b k e = e
 memory-after m n s (Write i f′ b′ v) refusal f b k e =
-    cond-ap (λ (m : Memory). m f b) refusal m _
-    ∙ changed (eqb f f′ && eqb b b′) refusal k (wrote i (record { line = n; value = v }) (delays s i f′) k) e
+    cond-ap (λ (m : Memory). m f b) (refusal || embargoedAt s i) m _
+    ∙ changed (eqb f f′ && eqb b b′) (refusal || embargoedAt s i) k (wrote i (record { line = n; value = v }) (delays s i f′) k) e
     (ap (wrote i v (delays s i f′)) e)
 memory-after m n s (Flush i f′ b′) refusal f b k e =
     cond-ap (λ (m : Memory). m f b) refusal m _
@@ -276,3 +322,6 @@ memory-after m n s (Report i) refusal f b k e = e
 memory-after m n s End refusal f b k e = e
 memory-after m n s (Restart i) true f b k e = e
 memory-after m n s (Restart i) false f b k e = ap (lost i) e ∙ sym (values-lost i k)
+memory-after m n s (Embargo i f′) true f b k e = e
+memory-after m n s (Embargo i f′) false f b k e = ap (lost i) e ∙ sym (values-lost i k)
+memory-after m n s (Lift i) refusal f b k e = e

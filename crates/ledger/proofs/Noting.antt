@@ -6,16 +6,17 @@ use native.Mathlib.Numerals.{add-one}
 use mathlib.Core.Path.{_≡_, refl, sym, ap, _∙_}
 use mathlib.Core.Bool.{Bool, true, false, cond, not, _&&_}
 use mathlib.Core.List.{List, [], _∷_}
+use lib.Dec.{eqb}
 use lib.ListN.{getD, set}
 use types.Run.{OneOf}
 use denote.Enum.Declared.{tagOf}
-use Rattle.sizes.specs.Sizes.{maxPlaces, firstPlace, place, cell}
-use Rattle.sizes.proofs.Choosing.{when}
+use Rattle.sizes.specs.Sizes.{maxFiles, maxPlaces, firstPlace, place, cell}
+use Rattle.sizes.proofs.Choosing.{when, unless}
 use Rattle.blocks.specs.Stores.{Stores}
 use Rattle.protocol.specs.declared.reply.Reply.{Reply}
 use Rattle.protocol.specs.declared.step.Step.{Step}
 use Rattle.protocol.specs.declared.step.Step.the-variants.{Open, Close, Read, Write, Flush, Answer, Crash, Report, End}
-use Rattle.protocol.specs.declared.step.Step.the-variants.{Restart}
+use Rattle.protocol.specs.declared.step.Step.the-variants.{Restart, Embargo, Lift}
 use Rattle.protocol.specs.Reply.{isRefused}
 use Rattle.protocol.proofs.OtherKinds.{not-among}
 use Rattle.protocol.proofs.step.Step.{the-type}
@@ -24,7 +25,7 @@ use Rattle.ledger.specs.declared.lines.Lines.{Lines}
 use Rattle.ledger.specs.declared.told.Told.{Told}
 use Rattle.ledger.specs.Ledger.{entered, isWaiting, fetches, writesCopy, waitNoted, copyNoted, writeNoted}
 use Rattle.ledger.specs.Ledger.{linesIn, linesAt, withLines, cameAt, cameFrom, lostAt, lostBelow, noted}
-use Rattle.ledger.specs.Ledger.{latestIn, toldOf}
+use Rattle.ledger.specs.Ledger.{risksIn, lostLines, embargoNoted, latestIn, toldOf}
 use Rattle.ledger.specs.Wrapped.{wrappedStep}
 
 module _ (w r c a : List ℕ) where
@@ -72,23 +73,23 @@ module _ (w r c a : List ℕ) where
     read-noted i f b caching held rejected c′ t e = rw (e, t)
 
     pub write-noted :
-        (i f b at p : ℕ) (caching rejected : Bool) (w′ r′ c′ : List ℕ)
+        (i f b at p : ℕ) (aside caching rejected : Bool) (w′ r′ c′ : List ℕ)
         → at % maxPlaces ≡ p
         → rejected ≡ isRefused reply
-        → entered w′ r′ [] [] ≡ cond (not rejected) (writeNoted n i (at % maxPlaces) caching both) both
+        → entered w′ r′ [] [] ≡ cond (not rejected) (writeNoted n i (at % maxPlaces) aside caching both) both
         → c′ ≡ cond (not rejected && caching) (set c (cell i f b) n) c
         → entered w′ r′ c′ a
         ≡ copyNoted (writesCopy caching reply) n i f b
-        (cond (isRefused reply) (entered w r c a) (writeNoted n i p caching (entered w r c a)))
-    write-noted i f b at p caching rejected w′ r′ c′ same t e ec =
+        (cond (isRefused reply) (entered w r c a) (writeNoted n i p aside caching (entered w r c a)))
+    write-noted i f b at p aside caching rejected w′ r′ c′ same t e ec =
         ap (λ x. entered w′ r′ x a) ec
         ∙ ap (copyNoted (not rejected && caching) n i f b)
-        (changed (writeNoted n i (at % maxPlaces) caching) refl rejected w′ r′ e
-        ∙ ap (λ q. cond rejected (entered w r c a) (writeNoted n i q caching (entered w r c a))) same)
+        (changed (writeNoted n i (at % maxPlaces) aside caching) refl rejected w′ r′ e
+        ∙ ap (λ q. cond rejected (entered w r c a) (writeNoted n i q aside caching (entered w r c a))) same)
         ∙ ap
         (λ x.
         copyNoted (not x && caching) n i f b
-        (cond x (entered w r c a) (writeNoted n i p caching (entered w r c a))))
+        (cond x (entered w r c a) (writeNoted n i p aside caching (entered w r c a))))
         t
 
     pub came-noted :
@@ -102,14 +103,41 @@ module _ (w r c a : List ℕ) where
         ∙ ap (λ x. cond x (entered w r c a) (cameFrom i at k (entered w r c a))) t
         ∙ ap (λ q. cond (isRefused reply) (entered w r c a) (cameFrom i q k (entered w r c a))) same
 
+    -- n′ is the line that is noted of the client i, or 0
     pub lost-noted :
-        (i k : ℕ) (rejected : Bool) (w′ r′ : List ℕ)
+        (i k n′ : ℕ) (rejected : Bool) (w′ r′ a′ : List ℕ)
         → rejected ≡ isRefused reply
         → entered w′ r′ [] [] ≡ cond (not rejected) (lostBelow i k both) both
-        → entered w′ r′ c a ≡ cond (isRefused reply) (entered w r c a) (lostBelow i k (entered w r c a))
-    lost-noted i k rejected w′ r′ t e =
-        changed (lostBelow i k) (lost-whole i k) rejected w′ r′ e
-        ∙ ap (λ x. cond x (entered w r c a) (lostBelow i k (entered w r c a))) t
+        → a′ ≡ cond (not rejected) (set a (maxFiles + i) n′) a
+        → entered w′ r′ c a′
+        ≡ cond (isRefused reply) (entered w r c a) (embargoNoted n′ i (lostBelow i k (entered w r c a)))
+    lost-noted i k n′ rejected w′ r′ a′ t e ea =
+        at rejected e ea
+        ∙ ap (λ x. cond x (entered w r c a) (embargoNoted n′ i (lostBelow i k (entered w r c a)))) t
+      where
+        at : (x : Bool)
+            → entered w′ r′ [] [] ≡ cond (not x) (lostBelow i k both) both
+            → a′ ≡ cond (not x) (set a (maxFiles + i) n′) a
+            → entered w′ r′ c a′
+            ≡ cond x (entered w r c a) (embargoNoted n′ i (lostBelow i k (entered w r c a)))
+        at true e ea = ap (λ y. entered w′ r′ c y) ea ∙ changed (lostBelow i k) (lost-whole i k) true w′ r′ e
+        at false e ea =
+            ap (λ y. entered w′ r′ c y) ea
+            ∙ ap (embargoNoted n′ i) (changed (lostBelow i k) (lost-whole i k) false w′ r′ e)
+
+    pub lift-noted :
+        (i : ℕ) (rejected : Bool) (a′ : List ℕ)
+        → rejected ≡ isRefused reply
+        → a′ ≡ cond (not rejected) (set a (maxFiles + i) 0) a
+        → entered w r c a′ ≡ cond (isRefused reply) (entered w r c a) (embargoNoted 0 i (entered w r c a))
+    lift-noted i rejected a′ t ea =
+        at rejected ea ∙ ap (λ x. cond x (entered w r c a) (embargoNoted 0 i (entered w r c a))) t
+      where
+        at : (x : Bool)
+            → a′ ≡ cond (not x) (set a (maxFiles + i) 0) a
+            → entered w r c a′ ≡ cond x (entered w r c a) (embargoNoted 0 i (entered w r c a))
+        at true ea = ap (λ y. entered w r c y) ea
+        at false ea = ap (λ y. entered w r c y) ea
 
 -- a file's first place is that of its block 0
 pub file-place : (f : ℕ) → firstPlace f ≡ place f 0
@@ -124,6 +152,53 @@ pub put-changed :
     → m ≡ withLines p y l
     → m ≡ withLines p (h (linesIn l p)) l
 put-changed p l m h x y found changed put = put ∙ ap (λ y. withLines p y l) (changed ∙ ap h found)
+
+-- the lines after a loss: the client risks none; the write at risk is the first that is lost; another was lost before
+module _ (i : ℕ) (x : Lines) where
+  pub lost-not : risksIn i x ≡ false → x ≡ lostLines i x
+  lost-not e = sym (unless _ _ e)
+
+  pub lost-first :
+      risksIn i x ≡ true
+      → eqb (x .lost) 0 ≡ true
+      → _≡_ {A = Lines}
+      (record { safe = x .safe; saver = x .saver; risk = 0; risker = 0; lost = x .risk; loser = x .risker })
+      (lostLines i x)
+  lost-first e none =
+      sym
+      (when _ _ e
+      ∙ ap
+      (λ t.
+      record {
+        safe = x .safe;
+        saver = x .saver;
+        risk = 0;
+        risker = 0;
+        lost = cond t (x .risk) (x .lost);
+        loser = cond t (x .risker) (x .loser);
+      })
+      none)
+
+  pub lost-later :
+      risksIn i x ≡ true
+      → eqb (x .lost) 0 ≡ false
+      → _≡_ {A = Lines}
+      (record { safe = x .safe; saver = x .saver; risk = 0; risker = 0; lost = x .lost; loser = x .loser })
+      (lostLines i x)
+  lost-later e some =
+      sym
+      (when _ _ e
+      ∙ ap
+      (λ t.
+      record {
+        safe = x .safe;
+        saver = x .saver;
+        risk = 0;
+        risker = 0;
+        lost = cond t (x .risk) (x .lost);
+        loser = cond t (x .risker) (x .loser);
+      })
+      some)
 
 -- a loop over places: none yet, one more, and all
 module _ (i p : ℕ) (l : Ledger) where
@@ -222,16 +297,18 @@ abbrev others : List ℕ
 others = 1 ∷ 6 ∷ 7 ∷ 8 ∷ []
 
 pub other-noted :
-    (n : ℕ) (x : Step) (reply : Reply) (caching held : Bool) (l : Ledger)
+    (n : ℕ) (x : Step) (reply : Reply) (caching held aside : Bool) (l : Ledger)
     → OneOf others (tagOf the-type x)
-    → l ≡ noted n (wrappedStep x) reply caching held l
-other-noted n (Open m i f) reply caching held l h = absurd (not-among others 0 refl h)
-other-noted n (Read i f b) reply caching held l h = absurd (not-among others 2 refl h)
-other-noted n (Write i f b v) reply caching held l h = absurd (not-among others 3 refl h)
-other-noted n (Flush i f b) reply caching held l h = absurd (not-among others 4 refl h)
-other-noted n (Answer i f) reply caching held l h = absurd (not-among others 5 refl h)
-other-noted n (Restart i) reply caching held l h = absurd (not-among others 9 refl h)
-other-noted n (Close m i f) reply caching held l h = refl
-other-noted n Crash reply caching held l h = refl
-other-noted n (Report i) reply caching held l h = refl
-other-noted n End reply caching held l h = refl
+    → l ≡ noted n (wrappedStep x) reply caching held aside l
+other-noted n (Open m i f) reply caching held aside l h = absurd (not-among others 0 refl h)
+other-noted n (Read i f b) reply caching held aside l h = absurd (not-among others 2 refl h)
+other-noted n (Write i f b v) reply caching held aside l h = absurd (not-among others 3 refl h)
+other-noted n (Flush i f b) reply caching held aside l h = absurd (not-among others 4 refl h)
+other-noted n (Answer i f) reply caching held aside l h = absurd (not-among others 5 refl h)
+other-noted n (Restart i) reply caching held aside l h = absurd (not-among others 9 refl h)
+other-noted n (Embargo i f) reply caching held aside l h = absurd (not-among others 10 refl h)
+other-noted n (Lift i) reply caching held aside l h = absurd (not-among others 11 refl h)
+other-noted n (Close m i f) reply caching held aside l h = refl
+other-noted n Crash reply caching held aside l h = refl
+other-noted n (Report i) reply caching held aside l h = refl
+other-noted n End reply caching held aside l h = refl

@@ -1,58 +1,69 @@
--- What is told of an accepted read and of a restart: the ledger says what the past says, and the reference memory is
--- the past's writes that are not lost, so Demand 3 gives the value and its invariant the dirty blocks. Crate history
--- has it for whole histories. Assumes nothing.
+-- What is told of an accepted read, of a restart and of an embargo: the ledger says what the past says, and the
+-- reference memory is the past's writes that are not lost, so Demand 3 gives the value and its invariant the dirty
+-- blocks. Crate history has it for whole histories. Assumes nothing.
 use Prim.Native.Nat.{ℕ, zero, suc, _+_, _*_, _<_}
 use mathlib.Core.Path.{_≡_, refl, sym, ap, _∙_, subst, subst⁻¹}
 use mathlib.Core.Bool.{Bool, true, false, cond, not, _&&_}
 use mathlib.Core.List.{List, [], _∷_}
+use mathlib.Core.Logic.{_⊎_, inl, inr}
 use lib.Dec.{eqb}
 use lib.ListN.{length-replicate}
 use borrow.Author.Tests.{eqb-true}
 use Rattle.sizes.specs.declared.sizes.Sizes.{Sizes}
-use Rattle.sizes.specs.Sizes.{maxFiles, maxPlaces, maxCells, inForce, Permitted, place, cell}
+use Rattle.sizes.specs.Sizes.{maxClients, maxPlaces, maxCells, inForce, Permitted, place, cell}
 use Rattle.decision.specs.Lists.{firstOf as firstTest}
 use Rattle.decision.proofs.Beyond.{getD-alike}
+use Rattle.protocol.specs.declared.reply.Granting.{Granting}
 use Rattle.protocol.specs.declared.reply.Reply.{Reply}
 use Rattle.protocol.specs.declared.reply.Reply.the-variants.{Value}
 use Rattle.protocol.specs.declared.step.Step.{Step}
 use Rattle.protocol.specs.declared.step.Step.the-variants.{Open, Close, Read, Write, Flush, Answer, Crash, Report, End}
-use Rattle.protocol.specs.declared.step.Step.the-variants.{Restart}
+use Rattle.protocol.specs.declared.step.Step.the-variants.{Restart, Embargo, Lift}
 use Rattle.protocol.specs.Book.{HistoryOf, latest, riskedBy, Named, none, by, firstOf}
-use Rattle.protocol.specs.Refusal.{restartTests}
+use Rattle.protocol.specs.Refusal.{restartTests, embargoTests, liftTests}
 use Rattle.protocol.proofs.Invariant.{Risks}
 use Rattle.protocol.proofs.Invariant.Summary.{safeOf, summary}
 use Rattle.service.specs.declared.service.Service.{Service}
 use Rattle.service.specs.declared.outcome.Outcome.{Outcome}
-use Rattle.service.specs.Contents.{sizesOf, clientAt, heldAt, dirtyAt}
-use Rattle.service.specs.Restart.{restartedBelow, allStep}
+use Rattle.service.specs.Contents.{sizesOf, tableIn, entryAt, embargoedAt, clientAt, heldAt, dirtyAt}
+use Rattle.service.specs.Embargo.{forgottenBelow, marked, putAside, grantsAside, droppedBelow, answering, allStep}
 use Rattle.service.specs.Step.{stepOf}
 use Rattle.service.specs.Fresh.{fresh}
-use Rattle.service.specs.Demand3.{refused, after, Memory, blank, delays, fed}
+use Rattle.service.specs.Demand3.{refused, after, Memory, blank, remembered, ReadIsLatest}
 use Rattle.service.proofs.Tests.{split, conflict, either}
-use Rattle.service.proofs.Views.{dirty-is}
 use Rattle.service.proofs.Accepted.{when-accepted}
 use Rattle.ledger.specs.declared.told.Told.{Told}
 use Rattle.ledger.specs.declared.ledger.Ledger.{Ledger}
 use Rattle.ledger.specs.declared.lines.Lines.{Lines}
-use Rattle.ledger.specs.Ledger.{notes, emptyLedger, linesAt, copiedAt, waitingSince, ledgerAfter, latestIn}
-use Rattle.ledger.specs.Ledger.{readTold}
+use Rattle.ledger.specs.Ledger.{notes, beginnings, emptyLedger, linesAt, copiedAt, waitingSince, embargoedSince}
+use Rattle.ledger.specs.Ledger.{ledgerAfter, latestIn, readTold}
 use Rattle.ledger.specs.Provenance.{Event, Noted, historyAfter, historyIn, lossAfter, lossIn, latestLine}
-use Rattle.ledger.specs.Provenance.{copies, beginsWait}
-use Rattle.ledger.specs.Provenance.{NamesWrite, NamesLoss, ReadIsTold, RestartIsTold, LineIsTold}
+use Rattle.ledger.specs.Provenance.{copies, beginsWait, embargoes}
+use Rattle.ledger.specs.Provenance.{NamesWrite, NamesLoss, ReadIsTold, CopyIsTold, LossIsTold, LineIsTold}
 use Rattle.ledger.proofs.BlockLines.{Ruled}
-use Rattle.ledger.proofs.AllBooked.{AllBooked}
+use Rattle.ledger.proofs.AllBooked.{AllBooked, shown-dirty}
 use Rattle.ledger.proofs.Entries.{ruled-after, wait-after, copy-after, names-there}
 use Rattle.ledger.proofs.LinesAfter.{lines-after}
 use Rattle.ledger.proofs.Naming.{Names, Notes, NamesLost, valuesOf, named-line, risks-is}
 use Rattle.ledger.proofs.Naming.{notes-after, loss-after, risks-values, risked-values, memory-after}
 use Rattle.ledger.proofs.Holding.{held-before}
+use Rattle.ledger.proofs.Aside.{releases, still-aside, aside-after}
 
 -- ---- the sizes stay
 
-restarted-sizes : (z : Sizes) (i k : ℕ) (s : Service) → sizesOf (restartedBelow z i k s) ≡ sizesOf s
-unfolding restartedBelow
-restarted-sizes z i zero s = refl
-restarted-sizes z i (suc k) s = restarted-sizes z i k s
+forgotten-sizes : (z : Sizes) (i k : ℕ) (s : Service) → sizesOf (forgottenBelow z i k s) ≡ sizesOf s
+unfolding forgottenBelow
+forgotten-sizes z i zero s = refl
+forgotten-sizes z i (suc k) s = forgotten-sizes z i k s
+
+dropped-sizes : (z : Sizes) (i k : ℕ) (s : Service) → sizesOf (droppedBelow z i k s) ≡ sizesOf s
+unfolding droppedBelow
+dropped-sizes z i zero s = refl
+dropped-sizes z i (suc k) s = dropped-sizes z i k s
+
+answering-sizes : (t : Service) (gs : List Granting) → sizesOf (answering t gs .service) ≡ sizesOf t
+answering-sizes t [] = refl
+answering-sizes t (g ∷ gs) = refl
 
 same-sizes : (s : Service) (x : Step) → sizesOf (after s x) ≡ sizesOf s
 unfolding stepOf allStep
@@ -66,11 +77,22 @@ same-sizes s Crash = refl
 same-sizes s (Report i) = refl
 same-sizes s End = refl
 same-sizes s (Restart i) =
-    either (λ (o : Outcome). sizesOf (o .service) ≡ sizesOf s) (eqb (firstTest (restartTests (sizesOf s) i)) 0)
-    (λ _. restarted-sizes (sizesOf s) i (sizesOf s .files) s) (λ _. refl)
+    let z = sizesOf s in
+    either (λ (o : Outcome). sizesOf (o .service) ≡ z) (eqb (firstTest (restartTests z i)) 0)
+    (λ _. dropped-sizes z i (z .files) (putAside z s i) ∙ forgotten-sizes z i (z .files) (marked s i)) (λ _. refl)
+same-sizes s (Embargo i f) =
+    let z = sizesOf s in
+    either (λ (o : Outcome). sizesOf (o .service) ≡ z)
+    (eqb (firstTest (embargoTests z (tableIn s .recovering) (entryAt s f) i f)) 0)
+    (λ _. answering-sizes (putAside z s i) (grantsAside z s i) ∙ forgotten-sizes z i (z .files) (marked s i))
+    (λ _. refl)
+same-sizes s (Lift i) =
+    let z = sizesOf s in
+    either (λ (o : Outcome). sizesOf (o .service) ≡ z) (eqb (firstTest (liftTests z (embargoedAt s i) i)) 0)
+    (λ _. dropped-sizes z i (z .files) s) (λ _. refl)
 
 -- The ledger says what the past says, of all that is in force; the reference memory is the past's writes that are not
--- lost; and a copy that is held was fetched or written at some line.
+-- lost; a copy that is held was fetched or written at some line; and a client under embargo was put there by one.
 pub record Agrees (z : Sizes) (s : Service) (m : Memory) (l : Ledger) (past : List Event) : Type 0 where
   pub sizes : sizesOf s ≡ z
   pub ruled : Ruled l
@@ -84,6 +106,11 @@ pub record Agrees (z : Sizes) (s : Service) (m : Memory) (l : Ledger) (past : Li
   pub waiting : (f : ℕ) → f < z .files → waitingSince l f ≡ latestLine (beginsWait f) past
   pub held :
       (i f b : ℕ) → i < z .clients → f < z .files → b < z .blocks → heldAt s i f b ≡ true → 0 < copiedAt l i f b
+  pub aside :
+      (i : ℕ)
+      → i < z .clients
+      → embargoedAt s i ≡ true
+      → (0 < embargoedSince l i) × (embargoedSince l i ≡ latestLine (embargoes i) past)
 
 -- ---- what the lines of a block name
 
@@ -145,7 +172,7 @@ module _ {z : Sizes} (most : Permitted z) where
       → 0 < n
       → AllBooked z s m
       → Agrees z s m l past
-      → Agrees z (after s x) (fed m x (refused s x) (delays s)) (ledgerAfter n s x l)
+      → Agrees z (after s x) (remembered s m x) (ledgerAfter n s x l)
       (record { line = n; step = x; before = s } ∷ past)
   unfolding historyIn lossIn latestLine
   agrees-after s m l past n x some booked h =
@@ -163,9 +190,9 @@ module _ {z : Sizes} (most : Permitted z) where
             (h .names f b hf hb));
         losses = λ f b hf hb.
             let k = historyIn f b past in
-            subst⁻¹ (λ y. NamesLost y (lossAfter f b x (refused s x) k (lossIn f b past)))
+            subst⁻¹ (λ y. NamesLost y (lossAfter f b n s x (refused s x) k (lossIn f b past)))
             (lines-after most n s size l (h .ruled) f hf b hb x)
-            (loss-after f b n s x (refused s x) (linesAt l f b) k (lossIn f b past) (h .names f b hf hb)
+            (loss-after f b n s x (refused s x) (linesAt l f b) k (lossIn f b past) some (h .names f b hf hb)
             (h .losses f b hf hb));
         memory = λ f b. memory-after m n s x (refused s x) f b (historyIn f b past) (h .memory f b);
         copied = λ i f b hi hf hb.
@@ -179,41 +206,79 @@ module _ {z : Sizes} (most : Permitted z) where
             (λ e. subst⁻¹ (λ t. 0 < cond t n (copiedAt l i f b)) e some)
             (λ e. subst⁻¹ (λ t. 0 < cond t n (copiedAt l i f b)) e
             (h .held i f b hi hf hb (held-before most s size i f b hi hb x e is))));
+        aside = λ i hi is. aside i hi is (embargoes i s x) refl;
       }
+    where
+      aside :
+          (i : ℕ)
+          → i < z .clients
+          → embargoedAt (after s x) i ≡ true
+          → (t : Bool)
+          → embargoes i s x ≡ t
+          → (0 < embargoedSince (ledgerAfter n s x l) i)
+          × (embargoedSince (ledgerAfter n s x l) i ≡ cond (embargoes i s x) n (latestLine (embargoes i) past))
+      aside i hi is t e =
+          let line = aside-after most n s (h .sizes) l (h .ruled) i hi x in
+          subst⁻¹ (λ k. (0 < k) × (k ≡ cond (embargoes i s x) n (latestLine (embargoes i) past))) line
+          (subst⁻¹
+          (λ t.
+          (0 < cond t n (cond (releases i s x) 0 (embargoedSince l i)))
+          × (cond t n (cond (releases i s x) 0 (embargoedSince l i)) ≡ cond t n (latestLine (embargoes i) past)))
+          e (at t e))
+        where
+          at : (t : Bool)
+              → embargoes i s x ≡ t
+              → (0 < cond t n (cond (releases i s x) 0 (embargoedSince l i)))
+              × (cond t n (cond (releases i s x) 0 (embargoedSince l i)) ≡ cond t n (latestLine (embargoes i) past))
+          at true e = (some, refl)
+          at false e =
+              let (free, was) = still-aside s (h .sizes) i x is e in
+              subst⁻¹
+              (λ t.
+              (0 < cond t 0 (embargoedSince l i)) × (cond t 0 (embargoedSince l i) ≡ latestLine (embargoes i) past))
+              free (h .aside i hi was)
 
   pub line-told :
       (s : Service) (m : Memory) (l : Ledger) (past : List Event) (x : Step)
       → AllBooked z s m
       → Agrees z s m l past
-      → ((i f b : ℕ) → x ≡ Read i f b → refused s x ≡ false → stepOf s x .reply ≡ Value (latest (m f b)))
+      → ReadIsLatest s m x
       → LineIsTold s l past x
   line-told s m l past x booked h right =
       record {
-        reads = λ i f b e.
-            let right′ = right i f b e in
-            read i f b
-            (subst (λ y. refused s y ≡ false → stepOf s y .reply ≡ Value (latest (m f b))) e right′) e;
-        restarts = λ i f b e a hf hb.
-            restart i f b (names-there most s (h .sizes) (Restart i) (subst (λ y. refused s y ≡ false) e a) .0)
+        reads = λ i f b e plain a.
+            let a′ = subst (λ y. refused s y ≡ false) e a in
+            let right′ = right i f b e plain a in
+            told i f b (subst (λ y. stepOf s y .reply ≡ Value (latest (m f b))) e right′) a′;
+        copied = λ i f b e a. copy i f b (subst (λ y. refused s y ≡ false) e a);
+        losses = λ i g f b e a hf hb.
+            loss i f b (there i g e a)
             (subst (λ (y : Sizes). f < y .files) (h .sizes) hf)
             (subst (λ (y : Sizes). b < y .blocks) (h .sizes) hb);
         waits = λ f hf. h .waiting f (subst (λ (y : Sizes). f < y .files) (h .sizes) hf);
+        aside = λ i hi. h .aside i (subst (λ (y : Sizes). i < y .clients) (h .sizes) hi);
       }
     where
       told :
           (i f b : ℕ)
-          → (refused s (Read i f b) ≡ false → stepOf s (Read i f b) .reply ≡ Value (latest (m f b)))
+          → stepOf s (Read i f b) .reply ≡ Value (latest (m f b))
           → refused s (Read i f b) ≡ false
           → ReadIsTold s l past i f b
       told i f b right a =
-          let (hi, hf, hb) = names-there most s (h .sizes) (Read i f b) a in
-          let (_, done) = when-accepted s (Read i f b) (h .sizes) a in
+          let (_, hf, hb) = names-there most s (h .sizes) (Read i f b) a in
           let t = readTold s l i f b in
           let k = historyIn f b past in
           record {
             origin = names-write t (stepOf s (Read i f b) .reply) (latest (m f b)) k
-                (named-latest (linesAt l f b) k (h .names f b hf hb)) (ap latest (h .memory f b)) (right a);
+                (named-latest (linesAt l f b) k (h .names f b hf hb)) (ap latest (h .memory f b)) right;
             loss = names-loss t (lossIn f b past) (h .losses f b hf hb);
+          }
+
+      copy : (i f b : ℕ) → refused s (Read i f b) ≡ false → CopyIsTold s l past i f b
+      copy i f b a =
+          let (hi, hf, hb) = names-there most s (h .sizes) (Read i f b) a in
+          let (_, done) = when-accepted s (Read i f b) (h .sizes) a in
+          record {
             copy = refl;
             source = ap (λ (o : Outcome). o .reply) done;
             since = h .copied i f b hi hf hb;
@@ -224,26 +289,23 @@ module _ {z : Sizes} (most : Permitted z) where
           holds true k e = e
           holds false k e = conflict e refl
 
-      read :
-          (i f b : ℕ)
-          → (refused s (Read i f b) ≡ false → stepOf s (Read i f b) .reply ≡ Value (latest (m f b)))
-          → x ≡ Read i f b
-          → refused s x ≡ false
-          → ReadIsTold s l past i f b
-      read i f b right e a = told i f b right (subst (λ y. refused s y ≡ false) e a)
+      -- the client of a restart or of an embargo
+      there : (i g : ℕ) → (x ≡ Restart i) ⊎ (x ≡ Embargo i g) → refused s x ≡ false → i < z .clients
+      there i g (inl e) a = names-there most s (h .sizes) (Restart i) (subst (λ y. refused s y ≡ false) e a) .0
+      there i g (inr e) a = names-there most s (h .sizes) (Embargo i g) (subst (λ y. refused s y ≡ false) e a) .0
 
-      -- a block is dirty where its latest write is at risk
+      -- a block is dirty, at a client without embargo, where its latest write is at risk
       at-risk :
           (i f b : ℕ) → i < z .clients → f < z .files → b < z .blocks
-          → dirtyAt s i f b ≡ riskedBy i (historyIn f b past)
+          → (dirtyAt s i f b && not (embargoedAt s i)) ≡ riskedBy i (historyIn f b past)
       at-risk i f b hi hf hb =
-          dirty-is z s f b hi
+          shown-dirty z s i f b hi
           ∙ booked f b hf hb .risk i
           ∙ ap (riskedBy i) (h .memory f b)
           ∙ risked-values i (historyIn f b past)
 
-      restart : (i f b : ℕ) → i < z .clients → f < z .files → b < z .blocks → RestartIsTold s l past i f b
-      restart i f b hi hf hb =
+      loss : (i f b : ℕ) → i < z .clients → f < z .files → b < z .blocks → LossIsTold s l past i f b
+      loss i f b hi hf hb =
           let k = historyIn f b past in
           let same = at-risk i f b hi hf hb in
           record {
@@ -263,13 +325,14 @@ fresh-agrees z =
             written = length-replicate {A = ℕ} notes 0;
             writers = length-replicate {A = ℕ} notes 0;
             copied = length-replicate {A = ℕ} maxCells 0;
-            waiting = length-replicate {A = ℕ} maxFiles 0;
+            since = length-replicate {A = ℕ} beginnings 0;
           };
       names = λ f b hf hb.
           record { risk = getD-alike notes 0 (maxPlaces + place f b); safe = getD-alike notes 0 (place f b) };
       losses = λ f b hf hb. getD-alike notes 0 (2 * maxPlaces + place f b);
       memory = λ f b. refl;
       copied = λ i f b hi hf hb. getD-alike maxCells 0 (cell i f b);
-      waiting = λ f hf. getD-alike maxFiles 0 f;
+      waiting = λ f hf. getD-alike beginnings 0 f;
       held = λ i f b hi hf hb e. conflict e (getD-alike maxCells false (cell i f b));
+      aside = λ i hi e. conflict e (getD-alike maxClients false i);
     }

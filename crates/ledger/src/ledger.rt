@@ -3,7 +3,11 @@ ghost use mathlib.Core.Path.{_≡_};
 ghost use Rattle.ledger.specs.Ledger.{emptyLedger};
 use crate::lines::NOTES;
 use sizes::MAX_CELLS;
+use sizes::MAX_CLIENTS;
 use sizes::MAX_FILES;
+
+// Since which line: first of each file, then of each client.
+pub const BEGINNINGS: usize = MAX_FILES + MAX_CLIENTS;
 
 // Lines have numbers from 1; 0 stands for none.
 pub struct Ledger {
@@ -12,8 +16,9 @@ pub struct Ledger {
     pub writers: [u8; NOTES],
     // Of each copy: the line at which it was fetched, or written there.
     pub copied: [u64; MAX_CELLS],
-    // Of each file: the line at which the latest open that waits, or waited, began to wait.
-    pub waiting: [u64; MAX_FILES],
+    // Of each file: the line at which the latest open that waits, or waited, began to wait. After them of each client:
+    // the line that put it under embargo.
+    pub since: [u64; BEGINNINGS],
 }
 
 impl Ledger {
@@ -25,7 +30,7 @@ impl Ledger {
             written: [0; NOTES],
             writers: [0; NOTES],
             copied: [0; MAX_CELLS],
-            waiting: [0; MAX_FILES],
+            since: [0; BEGINNINGS],
         }
     }
 }

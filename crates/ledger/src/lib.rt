@@ -7,6 +7,7 @@ mod refusals;
 mod told;
 
 pub use annotated::Annotated;
+pub use ledger::BEGINNINGS;
 pub use ledger::Ledger;
 pub use lines::Lines;
 pub use lines::NOTES;

@@ -21,11 +21,21 @@ pub struct Lines {
 }
 
 impl Lines {
-    // The client writes the block on this line: a delayed write is at risk, one that is sent at once is safe.
-    pub fn wrote(self, line: u64, client: u8, delayed: bool) -> Lines
-        ensures { λ r. ⌜ r ≡ wroteLines line client delayed self ⌝ }
+    // The client writes the block on this line: a delayed write is at risk, one that is sent at once is safe, and one
+    // of a client that is set aside, under embargo, is lost.
+    pub fn wrote(self, line: u64, client: u8, aside: bool, delayed: bool) -> Lines
+        ensures { λ r. ⌜ r ≡ wroteLines line client aside delayed self ⌝ }
     {
-        if delayed {
+        if aside {
+            Lines {
+                safe: self.safe,
+                saver: self.saver,
+                risk: self.risk,
+                risker: self.risker,
+                lost: line,
+                loser: client,
+            }
+        } else if delayed {
             Lines {
                 safe: self.safe,
                 saver: self.saver,
@@ -70,20 +80,19 @@ impl Lines {
         self
     }
 
-    // What the client had at risk is lost.
-    pub fn lost(self, client: u8) -> Lines
+    // What the client had at risk is lost. Where a later write was lost before, that one stays noted.
+    pub fn lost(mut self, client: u8) -> Lines
         ensures { λ r. ⌜ r ≡ lostLines client self ⌝ }
     {
-        if self.risks(client) {
-            return Lines {
-                safe: self.safe,
-                saver: self.saver,
-                risk: 0,
-                risker: 0,
-                lost: self.risk,
-                loser: self.risker,
-            };
+        if !self.risks(client) {
+            return self;
         }
+        if self.lost == 0 {
+            self.lost = self.risk;
+            self.loser = self.risker;
+        }
+        self.risk = 0;
+        self.risker = 0;
         self
     }
 

@@ -9,6 +9,7 @@ ghost use Rattle.protocol.specs.Reply.{isRefused};
 ghost use Rattle.ledger.specs.Ledger.{entered, isWaiting, writeNoted, cameAt, cameFrom, lostAt, lostBelow};
 ghost use Rattle.ledger.specs.Ledger.{noted};
 ghost use Rattle.ledger.specs.Wrapped.{wrappedStep};
+use crate::ledger::BEGINNINGS;
 use crate::lines::NOTES;
 use crate::lines::lines_in;
 use crate::lines::put_lines;
@@ -23,22 +24,24 @@ use sizes::MAX_CLIENTS;
 use sizes::MAX_FILES;
 use sizes::MAX_PLACES;
 
-// Notes a line: its number, its step, the reply to it, and whether the client could cache the block and held it before
-// the step. The numbers are wrapped: a step that names nothing is refused, and a refused step notes nothing.
+// Notes a line: its number, its step, the reply to it, and whether the client could cache the block, held it and was set
+// aside, under embargo, before the step. The numbers are wrapped: a step that names nothing is refused, and a refused
+// step notes nothing.
 pub fn note_line(
     line: u64,
     step: Step,
     reply: Reply,
     caching: bool,
     held: bool,
+    aside: bool,
     written: &mut [u64; NOTES],
     writers: &mut [u8; NOTES],
     copied: &mut [u64; MAX_CELLS],
-    waiting: &mut [u64; MAX_FILES],
+    since: &mut [u64; BEGINNINGS],
 )
-    ensures { λ _. ⌜ entered (now (written .exit)) (now (writers .exit)) (now (copied .exit)) (now (waiting .exit))
-        ≡ noted line (wrappedStep step) reply caching held
-        (entered (now (written .entry)) (now (writers .entry)) (now (copied .entry)) (now (waiting .entry))) ⌝ }
+    ensures { λ _. ⌜ entered (now (written .exit)) (now (writers .exit)) (now (copied .exit)) (now (since .exit))
+        ≡ noted line (wrappedStep step) reply caching held aside
+        (entered (now (written .entry)) (now (writers .entry)) (now (copied .entry)) (now (since .entry))) ⌝ }
 {
     match step {
         Step::Open {
@@ -46,7 +49,7 @@ pub fn note_line(
             client: _,
             file,
         } => {
-            note_wait(is_waiting(reply), line, file, waiting);
+            note_wait(is_waiting(reply), line, file, since);
         }
         Step::Read {
             client,
@@ -64,7 +67,7 @@ pub fn note_line(
         } => {
             let accepted = !is_refused(reply);
             let at = place_of(file, block);
-            note_write(accepted, line, client, at, caching, written, writers);
+            note_write(accepted, line, client, at, aside, caching, written, writers);
             note_copy(accepted & caching, line, client, file, block, copied);
         }
         Step::Flush {
@@ -82,7 +85,18 @@ pub fn note_line(
             note_came(answered, client, first, MAX_BLOCKS, written, writers);
         }
         Step::Restart { client } => {
-            note_lost(!is_refused(reply), client, written, writers);
+            let restarts = !is_refused(reply);
+            note_lost(restarts, client, written, writers);
+            note_embargo(restarts, 0, client, since);
+        }
+        Step::Embargo { client, file: _ } => {
+            let embargoed = !is_refused(reply);
+            note_lost(embargoed, client, written, writers);
+            note_embargo(embargoed, line, client, since);
+        }
+        Step::Lift { client } => {
+            let lifted = !is_refused(reply);
+            note_embargo(lifted, 0, client, since);
         }
         _ => {}
     }
@@ -116,13 +130,22 @@ fn is_refused(reply: Reply) -> bool
     }
 }
 
-// The line is noted, if the test holds: at the file, or at the client's copy of the block.
-fn note_wait(test: bool, line: u64, file: usize, waiting: &mut [u64; MAX_FILES])
-    ensures { λ _. ⌜ now (waiting .exit)
-        ≡ cond test (set (now (waiting .entry)) (file % maxFiles) line) (now (waiting .entry)) ⌝ }
+// The line is noted, if the test holds: at the file, at the client, or at the client's copy of the block.
+fn note_wait(test: bool, line: u64, file: usize, since: &mut [u64; BEGINNINGS])
+    ensures { λ _. ⌜ now (since .exit)
+        ≡ cond test (set (now (since .entry)) (file % maxFiles) line) (now (since .entry)) ⌝ }
 {
     if test {
-        waiting[file % MAX_FILES] = line;
+        since[file % MAX_FILES] = line;
+    }
+}
+
+fn note_embargo(test: bool, line: u64, client: usize, since: &mut [u64; BEGINNINGS])
+    ensures { λ _. ⌜ now (since .exit)
+        ≡ cond test (set (now (since .entry)) (maxFiles + client % maxClients) line) (now (since .entry)) ⌝ }
+{
+    if test {
+        since[MAX_FILES + client % MAX_CLIENTS] = line;
     }
 }
 
@@ -150,20 +173,21 @@ fn note_write(
     line: u64,
     client: usize,
     at: usize,
+    aside: bool,
     delayed: bool,
     written: &mut [u64; NOTES],
     writers: &mut [u8; NOTES],
 )
     ensures { λ _. ⌜ entered (now (written .exit)) (now (writers .exit)) [] []
         ≡ cond test
-        (writeNoted line (client % maxClients) (at % maxPlaces) delayed
+        (writeNoted line (client % maxClients) (at % maxPlaces) aside delayed
         (entered (now (written .entry)) (now (writers .entry)) [] []))
         (entered (now (written .entry)) (now (writers .entry)) [] []) ⌝ }
 {
     if test {
         let lines = lines_in(written, writers, at);
         put_lines(
-            lines.wrote(line, (client % MAX_CLIENTS) as u8, delayed),
+            lines.wrote(line, (client % MAX_CLIENTS) as u8, aside, delayed),
             at,
             written,
             writers,

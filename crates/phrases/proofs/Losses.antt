@@ -1,9 +1,10 @@
 -- What is said of lost writes: one after another, and whether there is any. Assumes nothing.
 use Prim.Native.Nat.{ℕ, suc, _+_, _*_, _%_, _<_}
-use mathlib.Core.Path.{_≡_, refl, ap}
-use mathlib.Core.Bool.{cond}
+use mathlib.Core.Path.{_≡_, refl, sym, ap, _∙_}
+use mathlib.Core.Bool.{Bool, cond}
 use mathlib.Core.List.{List, [], _∷_, _++_}
 use native.Mathlib.Nat.{mod-eq-of-lt}
+use native.Mathlib.Numerals.{add-one}
 use native.Mathlib.Omega.{arith}
 use lib.Dec.{eqb}
 use lib.ListN.{length}
@@ -11,8 +12,7 @@ use borrow.Author.Tests.{eq-eqb, ne-eqb}
 use Rattle.sizes.specs.Sizes.{maxFiles, maxBlocks, maxPlaces}
 use Rattle.sizes.proofs.Choosing.{when, unless}
 use Rattle.ledger.specs.declared.ledger.Ledger.{Ledger}
-use Rattle.ledger.specs.declared.lines.Lines.{Lines}
-use Rattle.ledger.specs.Ledger.{linesIn, linesAt, risksIn}
+use Rattle.ledger.specs.Ledger.{linesIn, linesAt}
 use Rattle.stepfile.specs.Text.{bytes}
 use Rattle.writer.specs.Buffer.{Wrote}
 use Rattle.writer.proofs.Buffers.{wrote-as, wrote-then}
@@ -40,29 +40,49 @@ wrote-next d start told d₀ at d₁ at₁ more d₂ at₂ before comma next =
     wrote-as (next-text start at told more (before .next)) (wrote-then before (wrote-then comma next))
 
 -- the losses grow with each block and with each file
-module _ (lines : ℕ → ℕ → Lines) (i : ℕ) where
-  pub on-none : (f : ℕ) (told : List ℕ) → lossesOn lines i f 0 told ≡ told
+module _ (lost : ℕ → ℕ → Bool) (line : ℕ → ℕ → ℕ) where
+  pub on-none : (f : ℕ) (told : List ℕ) → lossesOn lost line f 0 told ≡ told
   unfolding lossesOn
   on-none f told = refl
 
-  pub on-next :
+  on-next :
       (f b : ℕ) (told : List ℕ)
-      → lossesOn lines i f (suc b) told
-      ≡ cond (risksIn i (lines f b))
-      (nextText (lossesOn lines i f b told) (lossText f b (lines f b .risk)))
-      (lossesOn lines i f b told)
+      → lossesOn lost line f (suc b) told
+      ≡ cond (lost f b)
+      (nextText (lossesOn lost line f b told) (lossText f b (line f b)))
+      (lossesOn lost line f b told)
   unfolding lossesOn
   on-next f b told = refl
 
-  pub below-none : (blocks : ℕ) → lossesBelow lines i blocks 0 ≡ []
+  -- one more block, of which the code has found whether a write is lost, and which
+  pub on-more :
+      (f b : ℕ) (told : List ℕ) (found : Bool) (n : ℕ)
+      → found ≡ lost f b
+      → n ≡ line f b
+      → cond found (nextText (lossesOn lost line f b told) (lossText f b n)) (lossesOn lost line f b told)
+      ≡ lossesOn lost line f (b + 1) told
+  on-more f b told found n is at =
+      let so-far = lossesOn lost line f b told in
+      ap (λ (t : Bool). cond t (nextText so-far (lossText f b n)) so-far) is
+      ∙ ap (λ (m : ℕ). cond (lost f b) (nextText so-far (lossText f b m)) so-far) at
+      ∙ sym (on-next f b told)
+      ∙ ap (λ (k : ℕ). lossesOn lost line f k told) (sym (add-one b))
+
+  pub below-none : (blocks : ℕ) → lossesBelow lost line blocks 0 ≡ []
   unfolding lossesBelow
   below-none blocks = refl
 
-  pub below-next :
+  below-next :
       (blocks f : ℕ)
-      → lossesBelow lines i blocks (suc f) ≡ lossesOn lines i f blocks (lossesBelow lines i blocks f)
+      → lossesBelow lost line blocks (suc f) ≡ lossesOn lost line f blocks (lossesBelow lost line blocks f)
   unfolding lossesBelow
   below-next blocks f = refl
+
+  pub below-more :
+      (blocks f : ℕ)
+      → lossesOn lost line f blocks (lossesBelow lost line blocks f) ≡ lossesBelow lost line blocks (f + 1)
+  below-more blocks f =
+      sym (below-next blocks f) ∙ ap (λ (k : ℕ). lossesBelow lost line blocks k) (sym (add-one f))
 
 -- the lines of a block, at its place
 pub lines-placed :

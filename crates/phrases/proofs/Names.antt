@@ -10,7 +10,7 @@ use Rattle.protocol.specs.declared.entry.Entry.{Entry}
 use Rattle.protocol.specs.declared.step.Numbers.{Numbers}
 use Rattle.protocol.specs.declared.step.Step.{Step}
 use Rattle.protocol.specs.declared.step.Step.the-variants.{Open, Close, Read, Write, Flush, Answer, Crash, Report, End}
-use Rattle.protocol.specs.declared.step.Step.the-variants.{Restart}
+use Rattle.protocol.specs.declared.step.Step.the-variants.{Restart, Embargo, Lift}
 use Rattle.protocol.specs.Step.{numbersOf, modeOf}
 use Rattle.phrases.specs.Phrase.{modeByKind}
 use Rattle.phrases.specs.Refusal.{refusalText}
@@ -29,6 +29,8 @@ mode-kind Crash = refl
 mode-kind (Report i) = refl
 mode-kind End = refl
 mode-kind (Restart i) = refl
+mode-kind (Embargo i f) = refl
+mode-kind (Lift i) = refl
 
 -- the mode that the numbers of a step name is the step's
 module _ (x : Step) {q : Numbers} (is : q ≡ numbersOf x) where
@@ -37,7 +39,7 @@ module _ (x : Step) {q : Numbers} (is : q ≡ numbersOf x) where
 
 -- of another number nothing is said
 pub no-such :
-    (z : Sizes) (reported : List Bool) (e : Entry) (since : ℕ) (x : Step) (k : ℕ)
+    (z : Sizes) (reported embargoed : List Bool) (e : Entry) (since embargo : ℕ) (x : Step) (k : ℕ)
     → eqb k 2 ≡ false
     → eqb k 3 ≡ false
     → eqb k 4 ≡ false
@@ -51,6 +53,8 @@ pub no-such :
     → eqb k 12 ≡ false
     → eqb k 13 ≡ false
     → eqb k 14 ≡ false
-    → refusalText z reported e since x k ≡ []
-no-such z reported e since x k n2 n3 n4 n5 n6 n7 n8 n9 n10 n11 n12 n13 n14 =
-    rw (n2, n3, n4, n5, n6, n7, n8, n9, n10, n11, n12, n13, n14)
+    → eqb k 20 ≡ false
+    → eqb k 21 ≡ false
+    → refusalText z reported embargoed e since embargo x k ≡ []
+no-such z reported embargoed e since embargo x k n2 n3 n4 n5 n6 n7 n8 n9 n10 n11 n12 n13 n14 n20 n21 =
+    rw (n2, n3, n4, n5, n6, n7, n8, n9, n10, n11, n12, n13, n14, n20, n21)

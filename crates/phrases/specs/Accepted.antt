@@ -14,14 +14,15 @@ use Rattle.protocol.specs.declared.entry.Entry.{Entry}
 use Rattle.protocol.specs.declared.reply.Grant.{Grant}
 use Rattle.protocol.specs.declared.step.Step.{Step}
 use Rattle.protocol.specs.declared.step.Step.the-variants.{Open, Close, Read, Write, Flush, Answer, Crash, Report, End}
-use Rattle.protocol.specs.declared.step.Step.the-variants.{Restart}
+use Rattle.protocol.specs.declared.step.Step.the-variants.{Restart, Embargo, Lift}
 use Rattle.protocol.specs.Client.{keepsBlocks}
 use Rattle.protocol.specs.Entry.{recordAt, callTo}
 use Rattle.stepfile.specs.Text.{bytes, argumentText}
 use Rattle.ledger.specs.declared.lines.Lines.{Lines}
 use Rattle.ledger.specs.declared.told.Told.{Told}
 use Rattle.ledger.specs.Ledger.{risksIn}
-use Rattle.phrases.specs.Phrase.{clientText, fileText, blockText, forText, openText, stateText, listText}
+use Rattle.phrases.specs.Phrase.{clientText, fileText, blockText, forText, openText, embargoText, stateText}
+use Rattle.phrases.specs.Phrase.{listText}
 
 -- ---- reads
 
@@ -46,7 +47,7 @@ writtenText fresh t =
     (bytes "; written by " ++ (clientText (t .client) ++ (bytes " at line" ++ argumentText (t .line))))
 
 -- "Its writes to a block since it was last clean there are lost" (document 02, Wish 8): a later write to the block,
--- where a restart has lost it
+-- where a restart or an embargo has lost it
 abbrev pub lostText : Told → List ℕ
 lostText t =
     cond (eqb (t .lost) 0)
@@ -57,8 +58,17 @@ lostText t =
 abbrev pub originText : Bool → Told → List ℕ
 originText fresh t = writtenText fresh t ++ lostText t
 
-abbrev pub readText : Bool → Told → ℕ → ℕ → ℕ → List ℕ
-readText fresh t i f b = clientText i ++ (bytes "," ++ (blockText f b ++ (sourceText t ++ originText fresh t)))
+-- "its own reads promise nothing" (document 02, Wish 9)
+abbrev pub unpromisedText : ℕ → List ℕ
+unpromisedText embargo = bytes "; nothing is promised: it" ++ embargoText embargo
+
+-- `aside` says whether the client is under embargo, and `embargo` since which line
+abbrev pub worthText : Bool → Told → Bool → ℕ → List ℕ
+worthText fresh t aside embargo = cond aside (unpromisedText embargo) (originText fresh t)
+
+abbrev pub readText : Bool → Told → Bool → ℕ → ℕ → ℕ → ℕ → List ℕ
+readText fresh t aside embargo i f b =
+    clientText i ++ (bytes "," ++ (blockText f b ++ (sourceText t ++ worthText fresh t aside embargo)))
 
 -- ---- opens
 
@@ -124,20 +134,32 @@ stillText n e = bytes "; stations still to answer:" ++ listText n (λ j. not (as
 -- ---- all other steps
 
 -- where a write goes: "with permission the copy is written, held and dirty; without, the server's block"
-abbrev pub doneText : Bool → Step → List ℕ
-doneText caching (Open m i f) = []
-doneText caching (Close m i f) = clientText i ++ (bytes " closes" ++ (fileText f ++ forText m))
-doneText caching (Read i f b) = []
-doneText caching (Write i f b v) =
-    clientText i ++ (bytes " writes" ++ (blockText f b ++ cond caching (bytes " in its copy") (bytes " at the server")))
-doneText caching (Flush i f b) = clientText i ++ (bytes " sends" ++ (blockText f b ++ bytes " to the server"))
-doneText caching (Answer i f) = []
-doneText caching Crash = bytes "the server crashes; every station has to report"
-doneText caching (Report i) = clientText i ++ bytes " reports what it has open"
-doneText caching End = bytes "the recovery ends"
-doneText caching (Restart i) = clientText i ++ bytes " restarts"
+abbrev pub goalText : Bool → List ℕ
+goalText caching = cond caching (bytes " in its copy") (bytes " at the server")
 
--- ---- restarts
+-- "the cached writes it still makes are lost for good" (document 02, Wish 9)
+abbrev pub wastedText : Bool → ℕ → List ℕ
+wastedText aside embargo = cond aside (bytes "; lost: it" ++ embargoText embargo) []
+
+-- `caching` says of a write whether its client may cache, `aside` whether it is under embargo, and `embargo` since
+-- which line
+abbrev pub doneText : Bool → Bool → ℕ → Step → List ℕ
+doneText caching aside embargo (Open m i f) = []
+doneText caching aside embargo (Close m i f) = clientText i ++ (bytes " closes" ++ (fileText f ++ forText m))
+doneText caching aside embargo (Read i f b) = []
+doneText caching aside embargo (Write i f b v) =
+    clientText i ++ (bytes " writes" ++ (blockText f b ++ (goalText caching ++ wastedText aside embargo)))
+doneText caching aside embargo (Flush i f b) =
+    clientText i ++ (bytes " sends" ++ (blockText f b ++ bytes " to the server"))
+doneText caching aside embargo (Answer i f) = []
+doneText caching aside embargo Crash = bytes "the server crashes; every station has to report"
+doneText caching aside embargo (Report i) = clientText i ++ bytes " reports what it has open"
+doneText caching aside embargo End = bytes "the recovery ends"
+doneText caching aside embargo (Restart i) = clientText i ++ bytes " restarts"
+doneText caching aside embargo (Embargo i f) = []
+doneText caching aside embargo (Lift i) = clientText i ++ bytes " is told of its embargo"
+
+-- ---- restarts and embargoes
 
 -- a write that is lost
 abbrev pub lossText : ℕ → ℕ → ℕ → List ℕ
@@ -148,23 +170,28 @@ abbrev pub nextText : List ℕ → List ℕ → List ℕ
 nextText [] next = next
 nextText (c ∷ told) next = (c ∷ told) ++ (bytes "," ++ next)
 
--- what client i had at risk in the first b blocks of file f, after those that are told; `lines` has the lines of each
--- block of each file
-unfoldable pub lossesOn : (ℕ → ℕ → Lines) → ℕ → ℕ → ℕ → List ℕ → List ℕ
-lossesOn lines i f zero told = told
-lossesOn lines i f (suc b) told =
-    let before = lossesOn lines i f b told in
-    cond (risksIn i (lines f b)) (nextText before (lossText f b (lines f b .risk))) before
+-- what is lost in the first b blocks of file f, after those that are told; `lost` says of each block of each file
+-- whether a write to it is lost, and `line` the line of that write
+unfoldable pub lossesOn : (ℕ → ℕ → Bool) → (ℕ → ℕ → ℕ) → ℕ → ℕ → List ℕ → List ℕ
+lossesOn lost line f zero told = told
+lossesOn lost line f (suc b) told =
+    let before = lossesOn lost line f b told in
+    cond (lost f b) (nextText before (lossText f b (line f b))) before
 
 -- in the first files, by file and block
-unfoldable pub lossesBelow : (ℕ → ℕ → Lines) → ℕ → ℕ → ℕ → List ℕ
-lossesBelow lines i blocks zero = []
-lossesBelow lines i blocks (suc f) = lossesOn lines i f blocks (lossesBelow lines i blocks f)
+unfoldable pub lossesBelow : (ℕ → ℕ → Bool) → (ℕ → ℕ → ℕ) → ℕ → ℕ → List ℕ
+lossesBelow lost line blocks zero = []
+lossesBelow lost line blocks (suc f) = lossesOn lost line f blocks (lossesBelow lost line blocks f)
 
 abbrev pub orNone : List ℕ → List ℕ
 orNone [] = bytes " none"
 orNone (c ∷ told) = c ∷ told
 
 -- all of them
-abbrev pub lossesText : (ℕ → ℕ → Lines) → ℕ → ℕ → ℕ → List ℕ
-lossesText lines i files blocks = orNone (lossesBelow lines i blocks files)
+abbrev pub lossesText : (ℕ → ℕ → Bool) → (ℕ → ℕ → ℕ) → ℕ → ℕ → List ℕ
+lossesText lost line files blocks = orNone (lossesBelow lost line blocks files)
+
+-- what client i had at risk; `lines` has the lines of each block of each file
+abbrev pub risksText : (ℕ → ℕ → Lines) → ℕ → ℕ → ℕ → List ℕ
+risksText lines i files blocks =
+    lossesText (λ f b. risksIn i (lines f b)) (λ f b. lines f b .risk) files blocks

@@ -35,6 +35,13 @@ modeByKind kind = cond (eqb kind 1) Write (cond (eqb kind 3) Write (cond (eqb ki
 abbrev pub openText : Mode → ℕ → ℕ → List ℕ
 openText mode i f = clientText i ++ (bytes " has" ++ (fileText f ++ (bytes " open" ++ forText mode)))
 
+-- a client is under embargo since a line, which is 0 where no line put it there: the session began with an image
+abbrev pub embargoText : ℕ → List ℕ
+embargoText line =
+    cond (eqb line 0)
+    (bytes " is under embargo, as the image has it")
+    (bytes " is under embargo since line" ++ argumentText line)
+
 -- document 01's names of the states
 abbrev pub stateText : FileState → List ℕ
 stateText Closed = bytes "CLOSED"

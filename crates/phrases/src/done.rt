@@ -1,12 +1,12 @@
-// What is said of an accepted close, write, flush, crash, report, end or restart, and of an answer.
+// What is said of an accepted close, write, flush, crash, report, end, restart or lift, and of an answer.
 ghost use Prim.Native.Nat.{_+_, _≤_};
-ghost use mathlib.Core.Bool.{false, cond};
+ghost use mathlib.Core.Bool.{false};
 ghost use lib.ListN.{length};
-ghost use Rattle.stepfile.specs.Text.{bytes};
 ghost use Rattle.writer.specs.Buffer.{Wrote};
-ghost use Rattle.phrases.specs.Accepted.{answerText, doneText};
+ghost use Rattle.phrases.specs.Accepted.{answerText, goalText, wastedText, doneText};
 use crate::phrase::put_block;
 use crate::phrase::put_client;
+use crate::phrase::put_embargo;
 use crate::phrase::put_file;
 use crate::phrase::put_for;
 use crate::phrase::put_text;
@@ -14,11 +14,19 @@ use protocol::Step;
 use records::Mode;
 use writer::put_argument;
 
-// The sentence of a step that is answered K; caching says of a write whether its client may cache.
-pub fn put_done(out: &mut [u8], at: usize, caching: bool, step: Step) -> usize
-    requires { ⌜ at + 102 ≤ length (now out) ⌝ }
-    ensures { λ r. ⌜ Wrote (now (out .entry)) at (doneText caching step) (now (out .exit)) r ⌝ }
-    ensures { λ r. ⌜ r ≤ at + 102 ⌝ }
+// The sentence of a step that is answered K; caching says of a write whether its client may cache, aside whether it is
+// under embargo, and embargo since which line.
+pub fn put_done(
+    out: &mut [u8],
+    at: usize,
+    caching: bool,
+    aside: bool,
+    embargo: u64,
+    step: Step,
+) -> usize
+    requires { ⌜ at + 161 ≤ length (now out) ⌝ }
+    ensures { λ r. ⌜ Wrote (now (out .entry)) at (doneText caching aside embargo step) (now (out .exit)) r ⌝ }
+    ensures { λ r. ⌜ r ≤ at + 161 ⌝ }
 {
     match step {
         Step::Open {
@@ -37,7 +45,7 @@ pub fn put_done(out: &mut [u8], at: usize, caching: bool, step: Step) -> usize
             file,
             block,
             value: _,
-        } => put_write(out, at, caching, client, file, block),
+        } => put_write(out, at, caching, aside, embargo, client, file, block),
         Step::Flush {
             client,
             file,
@@ -48,12 +56,15 @@ pub fn put_done(out: &mut [u8], at: usize, caching: bool, step: Step) -> usize
         Step::Report { client } => put_report(out, at, client),
         Step::End => put_text(out, at, b"the recovery ends"),
         Step::Restart { client } => put_restarts(out, at, client),
+        Step::Embargo { client: _, file: _ } => at,
+        Step::Lift { client } => put_lifts(out, at, client),
     }
 }
 
 fn put_close(out: &mut [u8], at: usize, mode: Mode, client: usize, file: usize) -> usize
     requires { ⌜ at + 71 ≤ length (now out) ⌝ }
-    ensures { λ r. ⌜ Wrote (now (out .entry)) at (doneText false (Step.Close mode client file)) (now (out .exit)) r ⌝ }
+    ensures { λ r. ⌜ Wrote (now (out .entry)) at
+        (doneText false false 0 (Step.Close mode client file)) (now (out .exit)) r ⌝ }
     ensures { λ r. ⌜ r ≤ at + 71 ⌝ }
 {
     let word = put_client(out, at, client);
@@ -66,25 +77,27 @@ fn put_write(
     out: &mut [u8],
     at: usize,
     caching: bool,
+    aside: bool,
+    embargo: u64,
     client: usize,
     file: usize,
     block: usize,
 ) -> usize
-    requires { ⌜ at + 102 ≤ length (now out) ⌝ }
+    requires { ⌜ at + 161 ≤ length (now out) ⌝ }
     ensures { λ r. ⌜ Wrote (now (out .entry)) at
-        (doneText caching (Step.Write client file block 0)) (now (out .exit)) r ⌝ }
-    ensures { λ r. ⌜ r ≤ at + 102 ⌝ }
+        (doneText caching aside embargo (Step.Write client file block 0)) (now (out .exit)) r ⌝ }
+    ensures { λ r. ⌜ r ≤ at + 161 ⌝ }
 {
     let word = put_client(out, at, client);
     let named = put_text(out, word, b" writes");
     let to = put_block(out, named, file, block);
-    put_goal(out, to, caching)
+    let loss = put_goal(out, to, caching);
+    put_wasted(out, loss, aside, embargo)
 }
 
 fn put_goal(out: &mut [u8], at: usize, caching: bool) -> usize
     requires { ⌜ at + 14 ≤ length (now out) ⌝ }
-    ensures { λ r. ⌜ Wrote (now (out .entry)) at
-        (cond caching (bytes " in its copy") (bytes " at the server")) (now (out .exit)) r ⌝ }
+    ensures { λ r. ⌜ Wrote (now (out .entry)) at (goalText caching) (now (out .exit)) r ⌝ }
     ensures { λ r. ⌜ r ≤ at + 14 ⌝ }
 {
     if caching {
@@ -93,9 +106,23 @@ fn put_goal(out: &mut [u8], at: usize, caching: bool) -> usize
     put_text(out, at, b" at the server")
 }
 
+// Under embargo the write is lost.
+fn put_wasted(out: &mut [u8], at: usize, aside: bool, embargo: u64) -> usize
+    requires { ⌜ at + 59 ≤ length (now out) ⌝ }
+    ensures { λ r. ⌜ Wrote (now (out .entry)) at (wastedText aside embargo) (now (out .exit)) r ⌝ }
+    ensures { λ r. ⌜ r ≤ at + 59 ⌝ }
+{
+    if !aside {
+        return at;
+    }
+    let word = put_text(out, at, b"; lost: it");
+    put_embargo(out, word, embargo)
+}
+
 fn put_flush(out: &mut [u8], at: usize, client: usize, file: usize, block: usize) -> usize
     requires { ⌜ at + 101 ≤ length (now out) ⌝ }
-    ensures { λ r. ⌜ Wrote (now (out .entry)) at (doneText false (Step.Flush client file block)) (now (out .exit)) r ⌝ }
+    ensures { λ r. ⌜ Wrote (now (out .entry)) at
+        (doneText false false 0 (Step.Flush client file block)) (now (out .exit)) r ⌝ }
     ensures { λ r. ⌜ r ≤ at + 101 ⌝ }
 {
     let word = put_client(out, at, client);
@@ -106,7 +133,7 @@ fn put_flush(out: &mut [u8], at: usize, client: usize, file: usize, block: usize
 
 fn put_report(out: &mut [u8], at: usize, client: usize) -> usize
     requires { ⌜ at + 53 ≤ length (now out) ⌝ }
-    ensures { λ r. ⌜ Wrote (now (out .entry)) at (doneText false (Step.Report client)) (now (out .exit)) r ⌝ }
+    ensures { λ r. ⌜ Wrote (now (out .entry)) at (doneText false false 0 (Step.Report client)) (now (out .exit)) r ⌝ }
     ensures { λ r. ⌜ r ≤ at + 53 ⌝ }
 {
     let word = put_client(out, at, client);
@@ -115,11 +142,20 @@ fn put_report(out: &mut [u8], at: usize, client: usize) -> usize
 
 fn put_restarts(out: &mut [u8], at: usize, client: usize) -> usize
     requires { ⌜ at + 37 ≤ length (now out) ⌝ }
-    ensures { λ r. ⌜ Wrote (now (out .entry)) at (doneText false (Step.Restart client)) (now (out .exit)) r ⌝ }
+    ensures { λ r. ⌜ Wrote (now (out .entry)) at (doneText false false 0 (Step.Restart client)) (now (out .exit)) r ⌝ }
     ensures { λ r. ⌜ r ≤ at + 37 ⌝ }
 {
     let word = put_client(out, at, client);
     put_text(out, word, b" restarts")
+}
+
+fn put_lifts(out: &mut [u8], at: usize, client: usize) -> usize
+    requires { ⌜ at + 51 ≤ length (now out) ⌝ }
+    ensures { λ r. ⌜ Wrote (now (out .entry)) at (doneText false false 0 (Step.Lift client)) (now (out .exit)) r ⌝ }
+    ensures { λ r. ⌜ r ≤ at + 51 ⌝ }
+{
+    let word = put_client(out, at, client);
+    put_text(out, word, b" is told of its embargo")
 }
 
 // How many blocks an answer sent.

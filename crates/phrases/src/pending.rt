@@ -7,7 +7,7 @@ ghost use Rattle.decision.specs.Callback.{asksNothing};
 ghost use Rattle.decision.specs.Lists.{stored};
 ghost use Rattle.sizes.specs.Sizes.{maxClients};
 ghost use Rattle.protocol.specs.Entry.{callTo};
-ghost use Rattle.table.specs.TableStep.{isReported};
+ghost use Rattle.table.specs.TableStep.{isHeard};
 ghost use Rattle.writer.specs.Buffer.{Wrote};
 ghost use Rattle.phrases.specs.Accepted.{waiterText, stillText};
 ghost use Rattle.phrases.specs.Refusal.{missingText, openWaitsText};
@@ -22,31 +22,37 @@ use records::Mode;
 use sizes::MAX_CLIENTS;
 use writer::put_argument;
 
-// Who has still to report.
+// Who has still to report; the server does not wait for those under embargo.
 pub fn put_missing(
     out: &mut [u8],
     at: usize,
     clients: usize,
     reported: [bool; MAX_CLIENTS],
+    embargoed: [bool; MAX_CLIENTS],
 ) -> usize
     requires { ⌜ clients ≤ maxClients ⌝ }
     requires { ⌜ at + 195 ≤ length (now out) ⌝ }
-    ensures { λ r. ⌜ Wrote (now (out .entry)) at (missingText clients reported) (now (out .exit)) r ⌝ }
+    ensures { λ r. ⌜ Wrote (now (out .entry)) at (missingText clients reported embargoed) (now (out .exit)) r ⌝ }
     ensures { λ r. ⌜ r ≤ at + 195 ⌝ }
 {
     let list = put_text(out, at, b"; stations still to report:");
-    let missing = not_reported(clients, reported);
+    let missing = not_heard(clients, reported, embargoed);
     put_list(out, list, clients, missing)
 }
 
-fn not_reported(clients: usize, reported: [bool; MAX_CLIENTS]) -> [bool; MAX_CLIENTS]
+fn not_heard(
+    clients: usize,
+    reported: [bool; MAX_CLIENTS],
+    embargoed: [bool; MAX_CLIENTS],
+) -> [bool; MAX_CLIENTS]
     requires { ⌜ clients ≤ maxClients ⌝ }
-    ensures { λ r. ⌜ r ≡ stored clients (λ i. i) (λ i. not (isReported reported i)) (replicate maxClients false) ⌝ }
+    ensures { λ r. ⌜ r ≡ stored clients (λ i. i)
+        (λ i. not (isHeard reported embargoed i)) (replicate maxClients false) ⌝ }
 {
     let mut flags = [false; MAX_CLIENTS];
     let mut i = 0;
     while i < clients {
-        flags[i] = !reported[i];
+        flags[i] = !(reported[i] | embargoed[i]);
         i += 1;
     }
     flags

@@ -5,6 +5,7 @@ ghost use Prim.Native.Nat.{_+_, _≤_};
 ghost use lib.ListN.{length};
 ghost use Rattle.writer.specs.Buffer.{Wrote};
 ghost use Rattle.phrases.specs.Phrase.{clientText, fileText, blockText, forText, modeByKind, openText};
+ghost use Rattle.phrases.specs.Phrase.{embargoText};
 use records::Mode;
 use writer::put_argument;
 
@@ -82,4 +83,17 @@ pub fn put_open(out: &mut [u8], at: usize, mode: Mode, client: usize, file: usiz
     let open = put_file(out, named, file);
     let mode_at = put_text(out, open, b" open");
     put_for(out, mode_at, mode)
+}
+
+// Since which line a client is under embargo; line 0 stands for none.
+pub fn put_embargo(out: &mut [u8], at: usize, line: u64) -> usize
+    requires { ⌜ at + 49 ≤ length (now out) ⌝ }
+    ensures { λ r. ⌜ Wrote (now (out .entry)) at (embargoText line) (now (out .exit)) r ⌝ }
+    ensures { λ r. ⌜ r ≤ at + 49 ⌝ }
+{
+    if line == 0 {
+        return put_text(out, at, b" is under embargo, as the image has it");
+    }
+    let number = put_text(out, at, b" is under embargo since line");
+    put_argument(out, number, line)
 }

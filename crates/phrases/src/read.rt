@@ -6,32 +6,57 @@ ghost use lib.ListN.{length};
 ghost use Rattle.stepfile.specs.Text.{bytes};
 ghost use Rattle.writer.specs.Buffer.{Wrote};
 ghost use Rattle.phrases.specs.Accepted.{ownText, sourceText, unwrittenText, writtenText, lostText, originText};
-ghost use Rattle.phrases.specs.Accepted.{readText};
+ghost use Rattle.phrases.specs.Accepted.{unpromisedText, worthText, readText};
 use crate::phrase::put_block;
 use crate::phrase::put_client;
+use crate::phrase::put_embargo;
 use crate::phrase::put_text;
 use ledger::Told;
 use writer::put_argument;
 
-// The sentence of an accepted read.
+// The sentence of an accepted read; aside says whether the client is under embargo, and embargo since which line.
 pub fn put_read(
     out: &mut [u8],
     at: usize,
     fresh: bool,
     told: Told,
+    aside: bool,
+    embargo: u64,
     client: usize,
     file: usize,
     block: usize,
 ) -> usize
     requires { ⌜ at + 292 ≤ length (now out) ⌝ }
-    ensures { λ r. ⌜ Wrote (now (out .entry)) at (readText fresh told client file block) (now (out .exit)) r ⌝ }
+    ensures { λ r. ⌜ Wrote (now (out .entry)) at (readText fresh told aside embargo client file block)
+        (now (out .exit)) r ⌝ }
     ensures { λ r. ⌜ r ≤ at + 292 ⌝ }
 {
     let comma = put_client(out, at, client);
     let place = put_text(out, comma, b",");
     let source = put_block(out, place, file, block);
     let origin = put_source(out, source, told);
-    put_origin(out, origin, fresh, told)
+    put_worth(out, origin, fresh, told, aside, embargo)
+}
+
+// What the value is worth: of a client under embargo nothing is promised.
+fn put_worth(out: &mut [u8], at: usize, fresh: bool, told: Told, aside: bool, embargo: u64) -> usize
+    requires { ⌜ at + 151 ≤ length (now out) ⌝ }
+    ensures { λ r. ⌜ Wrote (now (out .entry)) at (worthText fresh told aside embargo) (now (out .exit)) r ⌝ }
+    ensures { λ r. ⌜ r ≤ at + 151 ⌝ }
+{
+    if aside {
+        return put_unpromised(out, at, embargo);
+    }
+    put_origin(out, at, fresh, told)
+}
+
+fn put_unpromised(out: &mut [u8], at: usize, embargo: u64) -> usize
+    requires { ⌜ at + 74 ≤ length (now out) ⌝ }
+    ensures { λ r. ⌜ Wrote (now (out .entry)) at (unpromisedText embargo) (now (out .exit)) r ⌝ }
+    ensures { λ r. ⌜ r ≤ at + 74 ⌝ }
+{
+    let word = put_text(out, at, b"; nothing is promised: it");
+    put_embargo(out, word, embargo)
 }
 
 // Which copy the value is from.

@@ -5,7 +5,7 @@ ghost use lib.ListN.{length};
 ghost use Rattle.sizes.specs.Sizes.{maxClients};
 ghost use Rattle.stepfile.specs.Text.{bytes};
 ghost use Rattle.writer.specs.Buffer.{Wrote};
-ghost use Rattle.phrases.specs.Phrase.{clientText};
+ghost use Rattle.phrases.specs.Phrase.{clientText, embargoText};
 ghost use Rattle.phrases.specs.Refusal.{noClientText, noFileText, noBlockText, noCallText};
 ghost use Rattle.phrases.specs.Refusal.{countFullText, notDirtyText, versionSpentText, neededText, notOpenText};
 ghost use Rattle.phrases.specs.Refusal.{missingText, refusalText};
@@ -14,6 +14,7 @@ use crate::pending::put_open_waits;
 use crate::phrase::mode_by_kind;
 use crate::phrase::put_block;
 use crate::phrase::put_client;
+use crate::phrase::put_embargo;
 use crate::phrase::put_file;
 use crate::phrase::put_for;
 use crate::phrase::put_open;
@@ -26,21 +27,24 @@ use sizes::MAX_CLIENTS;
 use sizes::Sizes;
 use writer::put_argument;
 
-// The sentence of a refusal, by its number.
+// The sentence of a refusal, by its number. An open of the file waits since a line, and the client is under embargo
+// since a line.
 pub fn put_refusal(
     out: &mut [u8],
     at: usize,
     sizes: Sizes,
     reported: [bool; MAX_CLIENTS],
+    embargoed: [bool; MAX_CLIENTS],
     entry: Entry,
     since: u64,
+    embargo: u64,
     step: Step,
     number: u8,
 ) -> usize
     requires { ⌜ sizes .clients ≤ maxClients ⌝ }
     requires { ⌜ at + 305 ≤ length (now out) ⌝ }
     ensures { λ r. ⌜ Wrote (now (out .entry)) at
-        (refusalText sizes reported entry since step number) (now (out .exit)) r ⌝ }
+        (refusalText sizes reported embargoed entry since embargo step number) (now (out .exit)) r ⌝ }
     ensures { λ r. ⌜ r ≤ at + 305 ⌝ }
 {
     let named = asked(step);
@@ -50,29 +54,37 @@ pub fn put_refusal(
         2 => put_no_client(out, at, client, sizes.clients),
         3 => put_no_file(out, at, file, sizes.files),
         4 => put_no_block(out, at, named.block, sizes.blocks),
-        5 => put_recovers(out, at, sizes.clients, reported),
+        5 => put_recovers(out, at, sizes.clients, reported, embargoed),
         6 => put_text(out, at, b"no recovery is under way"),
         7 => put_has_reported(out, at, client),
-        8 => put_cannot_end(out, at, sizes.clients, reported),
+        8 => put_cannot_end(out, at, sizes.clients, reported, embargoed),
         9 => put_open_waits(out, at, sizes.clients, entry, file, since),
         10 => put_no_call(out, at, client, file),
         11 => put_not_open(out, at, step, client, file),
         12 => put_count_full(out, at, mode_by_kind(named.kind), client, file),
         13 => put_not_dirty(out, at, client, file, named.block),
         14 => put_version_spent(out, at, file),
+        20 => put_aside(out, at, client, embargo),
+        21 => put_not_aside(out, at, client),
         _ => at,
     }
 }
 
-fn put_recovers(out: &mut [u8], at: usize, clients: usize, reported: [bool; MAX_CLIENTS]) -> usize
+fn put_recovers(
+    out: &mut [u8],
+    at: usize,
+    clients: usize,
+    reported: [bool; MAX_CLIENTS],
+    embargoed: [bool; MAX_CLIENTS],
+) -> usize
     requires { ⌜ clients ≤ maxClients ⌝ }
     requires { ⌜ at + 214 ≤ length (now out) ⌝ }
     ensures { λ r. ⌜ Wrote (now (out .entry)) at
-        (bytes "the server recovers" ++ missingText clients reported) (now (out .exit)) r ⌝ }
+        (bytes "the server recovers" ++ missingText clients reported embargoed) (now (out .exit)) r ⌝ }
     ensures { λ r. ⌜ r ≤ at + 214 ⌝ }
 {
     let missing = put_text(out, at, b"the server recovers");
-    put_missing(out, missing, clients, reported)
+    put_missing(out, missing, clients, reported, embargoed)
 }
 
 fn put_has_reported(out: &mut [u8], at: usize, client: usize) -> usize
@@ -85,15 +97,40 @@ fn put_has_reported(out: &mut [u8], at: usize, client: usize) -> usize
     put_text(out, word, b" has reported before")
 }
 
-fn put_cannot_end(out: &mut [u8], at: usize, clients: usize, reported: [bool; MAX_CLIENTS]) -> usize
+fn put_cannot_end(
+    out: &mut [u8],
+    at: usize,
+    clients: usize,
+    reported: [bool; MAX_CLIENTS],
+    embargoed: [bool; MAX_CLIENTS],
+) -> usize
     requires { ⌜ clients ≤ maxClients ⌝ }
     requires { ⌜ at + 218 ≤ length (now out) ⌝ }
     ensures { λ r. ⌜ Wrote (now (out .entry)) at
-        (bytes "the recovery cannot end" ++ missingText clients reported) (now (out .exit)) r ⌝ }
+        (bytes "the recovery cannot end" ++ missingText clients reported embargoed) (now (out .exit)) r ⌝ }
     ensures { λ r. ⌜ r ≤ at + 218 ⌝ }
 {
     let missing = put_text(out, at, b"the recovery cannot end");
-    put_missing(out, missing, clients, reported)
+    put_missing(out, missing, clients, reported, embargoed)
+}
+
+fn put_aside(out: &mut [u8], at: usize, client: usize, embargo: u64) -> usize
+    requires { ⌜ at + 77 ≤ length (now out) ⌝ }
+    ensures { λ r. ⌜ Wrote (now (out .entry)) at (clientText client ++ embargoText embargo) (now (out .exit)) r ⌝ }
+    ensures { λ r. ⌜ r ≤ at + 77 ⌝ }
+{
+    let word = put_client(out, at, client);
+    put_embargo(out, word, embargo)
+}
+
+fn put_not_aside(out: &mut [u8], at: usize, client: usize) -> usize
+    requires { ⌜ at + 49 ≤ length (now out) ⌝ }
+    ensures { λ r. ⌜ Wrote (now (out .entry)) at
+        (clientText client ++ bytes " is not under embargo") (now (out .exit)) r ⌝ }
+    ensures { λ r. ⌜ r ≤ at + 49 ⌝ }
+{
+    let word = put_client(out, at, client);
+    put_text(out, word, b" is not under embargo")
 }
 
 fn put_no_client(out: &mut [u8], at: usize, client: usize, count: usize) -> usize
@@ -222,5 +259,7 @@ fn put_needed(out: &mut [u8], at: usize, step: Step) -> usize
         Step::Report { client: _ } => at,
         Step::End => at,
         Step::Restart { client: _ } => at,
+        Step::Embargo { client: _, file: _ } => at,
+        Step::Lift { client: _ } => at,
     }
 }

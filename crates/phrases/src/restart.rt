@@ -1,4 +1,4 @@
-// What is said of a restart: the files that were open, and the writes that are lost.
+// What is said of a restart and of an embargo: the files that were open, and the writes that are lost.
 ghost use Prim.Native.Nat.{ℕ, _+_, _≤_, _<_};
 ghost use mathlib.Core.Path.{_≡_};
 ghost use mathlib.Core.Bool.{false, cond};
@@ -9,7 +9,7 @@ ghost use Rattle.stepfile.specs.Text.{bytes};
 ghost use Rattle.ledger.specs.Ledger.{entered, linesAt, risksIn};
 ghost use Rattle.writer.specs.Buffer.{Wrote};
 ghost use Rattle.phrases.specs.Phrase.{listText};
-ghost use Rattle.phrases.specs.Accepted.{lossText, nextText, lossesOn, lossesText};
+ghost use Rattle.phrases.specs.Accepted.{lossText, nextText, lossesOn, risksText};
 use crate::list::put_number;
 use crate::phrase::put_block;
 use crate::phrase::put_text;
@@ -53,7 +53,7 @@ pub fn put_losses(
     requires { ⌜ blocks ≤ maxBlocks ⌝ }
     requires { ⌜ at + 42496 ≤ length (now out) ⌝ }
     ensures { λ r. ⌜ Wrote (now (out .entry)) at
-        (lossesText (linesAt (entered (now (written .entry)) (now (writers .entry)) [] [])) client files blocks)
+        (risksText (linesAt (entered (now (written .entry)) (now (writers .entry)) [] [])) client files blocks)
         (now (out .exit)) r ⌝ }
     ensures { λ r. ⌜ r ≤ at + 42496 ⌝ }
 {
@@ -84,7 +84,10 @@ fn put_losses_on(
     requires { ⌜ blocks ≤ maxBlocks ⌝ }
     requires { ⌜ at + 664 ≤ length (now out) ⌝ }
     ensures { λ r. ⌜ ((out₀ told : List ℕ) → Wrote out₀ start told (now (out .entry)) at → Wrote out₀ start
-        (lossesOn (linesAt (entered (now (written .entry)) (now (writers .entry)) [] [])) client file blocks told)
+        (lossesOn
+        (λ f b. risksIn client (linesAt (entered (now (written .entry)) (now (writers .entry)) [] []) f b))
+        (λ f b. linesAt (entered (now (written .entry)) (now (writers .entry)) [] []) f b .risk)
+        file blocks told)
         (now (out .exit)) r) ⌝ }
     ensures { λ r. ⌜ r ≤ at + 664 ⌝ }
 {
@@ -113,7 +116,8 @@ fn risks(lines: Lines, client: usize) -> bool
     !(lines.risk == 0) & (lines.risker as usize == client)
 }
 
-fn put_loss_if(
+// A lost write, if it is lost, after what the list has from its start on.
+pub fn put_loss_if(
     out: &mut [u8],
     start: usize,
     at: usize,

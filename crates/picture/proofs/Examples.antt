@@ -1,5 +1,6 @@
 -- The picture after a few lines, from the definitions by evaluation: both mornings of the README, a recovery that is
--- half reported, an open that waits, a last writer, a copy of a closed file, and the largest number of a refusal.
+-- half reported, an open that waits, a last writer, a copy of a closed file, a setting outside its range, and a station
+-- under embargo.
 -- Assumes nothing.
 use Prim.Native.Nat.{ℕ}
 use mathlib.Core.Path.{_≡_, refl}
@@ -10,8 +11,9 @@ use Rattle.decision.specs.Lists.{count, stored}
 use Rattle.decision.specs.State.{stateOf}
 use Rattle.decision.specs.Permission.{permissionAtGrant}
 use Rattle.access.specs.BlockStep.{blockStep}
-use Rattle.file.specs.FileStep.{fileStep}
+use Rattle.file.specs.FileStep.{fileStep, afterForgetting}
 use Rattle.table.specs.TableStep.{tableStep}
+use Rattle.service.specs.Embargo.{forgottenBelow, grantsBelow, allStep}
 use Rattle.service.specs.Step.{stepOf}
 use Rattle.service.specs.Fresh.{fresh}
 use Rattle.stepfile.specs.Text.{bytes, decimal, digitsOf}
@@ -19,10 +21,11 @@ use Rattle.stepfile.specs.Grammar.{digitsOn, numeral, argument, shapeOf, shaped
 use Rattle.stepfile.specs.Setting.{settingOf}
 use Rattle.stepfile.specs.Transcript.{lines, after}
 use Rattle.stepfile.specs.Played.{serviceAfter}
-use Rattle.ledger.specs.Ledger.{emptyLedger, ledgerAfter}
+use Rattle.ledger.specs.Ledger.{emptyLedger, lostBelow, ledgerAfter}
 use Rattle.ledger.specs.Annotated.{unannotated, annotatedAfter}
 use Rattle.phrases.specs.Phrase.{numbersText}
-use Rattle.picture.specs.Picture.{stationsText, filesText, timesText, pictureText}
+use Rattle.phrases.specs.Accepted.{lossesOn, lossesBelow}
+use Rattle.picture.specs.Picture.{asidesText, stationsText, filesText, timesText, pictureText}
 
 -- the picture after an input, from the fresh service and an empty ledger
 abbrev pictured : List ℕ → List ℕ
@@ -166,7 +169,7 @@ pub record Examples : Type 0 where
       ∷ bytes "nothing was refused\n"
       ∷ bytes "end of the picture\n"
       ∷ [])
-  -- the largest number
+  -- a setting outside its range
   pub range :
       pictured (joined (bytes "SET 9 1 1\n" ∷ bytes "OW 8 0\n" ∷ []))
       ≡ joined
@@ -179,7 +182,7 @@ pub record Examples : Type 0 where
 pub examples : Examples
 unfolding fresh emptyLedger ledgerAfter stepOf fileStep blockStep tableStep stateOf permissionAtGrant count stored
     decimal digitsOf digitsOn numeral argument shapeOf shaped step parseLine settingOf lines after serviceAfter
-    numbersText annotatedAfter stationsText filesText timesText pictureText
+    numbersText annotatedAfter asidesText stationsText filesText timesText pictureText
 examples =
     record {
       start = refl;
@@ -192,3 +195,32 @@ examples =
       copy = refl;
       range = refl;
     }
+
+-- a station under embargo, which still writes
+pub aside :
+    pictured
+    (joined
+    (bytes "SET 3 2 1\n"
+    ∷ bytes "OW 1 0\n"
+    ∷ bytes "WR 1 0 0 5\n"
+    ∷ bytes "OR 2 0\n"
+    ∷ bytes "EM 1 0\n"
+    ∷ bytes "WR 1 0 0 6\n"
+    ∷ bytes "CW 1 0\n"
+    ∷ bytes "LF 2\n"
+    ∷ []))
+    ≡ joined
+    (bytes "the server runs\n"
+    ∷ bytes "station 1 is under embargo since line 5; writes lost: file 0 block 0 at line 6\n"
+    ∷ bytes "file 0 is ONE_READER at version 2; last writer: none\n"
+    ∷ bytes "  station 1: read opens 0, write opens 1, may cache; blocks held: 0; dirty: 0\n"
+    ∷ bytes "  station 2: read opens 1, write opens 0, may cache; blocks held: none; dirty: none\n"
+    ∷ bytes "refused with 20: 1\n"
+    ∷ bytes "refused with 21: 1\n"
+    ∷ bytes "end of the picture\n"
+    ∷ [])
+unfolding fresh emptyLedger ledgerAfter lostBelow stepOf fileStep blockStep tableStep allStep afterForgetting
+    forgottenBelow grantsBelow stateOf permissionAtGrant count stored
+    decimal digitsOf digitsOn numeral argument shapeOf shaped step parseLine settingOf lines after serviceAfter
+    numbersText lossesOn lossesBelow annotatedAfter asidesText stationsText filesText timesText pictureText
+aside = refl

@@ -17,18 +17,19 @@ use Rattle.decision.proofs.Storing.{getD-stored}
 use Rattle.protocol.specs.declared.client.ClientFile.{ClientFile}
 use Rattle.protocol.specs.declared.client.Sides.{Sides}
 use Rattle.protocol.specs.declared.entry.Entry.{Entry}
-use Rattle.blocks.specs.Stores.{lent}
+use Rattle.blocks.specs.Stores.{lent, dirtyIn}
 use Rattle.blocks.proofs.Wrapped.{wrapped-cell}
 use Rattle.table.specs.TableStep.{entryOf, sidesIn}
-use Rattle.service.specs.Contents.{sizesOf, tableIn, entryAt, sidesAt}
+use Rattle.service.specs.Contents.{sizesOf, tableIn, entryAt, embargoedAt, sidesAt, storesOf}
 use Rattle.stepfile.specs.Summary.{isListed}
 use Rattle.ledger.specs.declared.annotated.Annotated.{Annotated}
-use Rattle.ledger.specs.Ledger.{waitingSince}
+use Rattle.ledger.specs.Ledger.{entered, copiedAt, waitingSince, embargoedSince}
 use Rattle.ledger.specs.Refusals.{timesRefused}
 use Rattle.phrases.specs.Phrase.{listText}
 use Rattle.phrases.proofs.Lists.{list-agree}
 use Rattle.picture.specs.Picture.{isConcerned, concerned, isPictured, stationIfText, stationsText}
 use Rattle.picture.specs.Picture.{headText, waitIfText, fileIfText, filesText, refusedText, timesText}
+use Rattle.picture.specs.Picture.{asideIfText, asidesText}
 
 -- one or more
 pub some : (n : ℕ) → ltb 0 n ≡ not (eqb n 0)
@@ -108,25 +109,25 @@ times-next counts k = rw (add-one k)
 
 -- the files below k, from the parts of the service and the ledger that they look at
 unfoldable pub filesFrom : Sizes → List Entry → List Sides → List Bool → List Bool → List ℕ → ℕ → List ℕ
-filesFrom z entries clients held dirty waiting zero = []
-filesFrom z entries clients held dirty waiting (suc k) =
-    filesFrom z entries clients held dirty waiting k
-    ++ fileIfText z (lent [] [] held dirty) (sidesIn clients k) (entryOf entries k) k (getD waiting k 0)
+filesFrom z entries clients held dirty since zero = []
+filesFrom z entries clients held dirty since (suc k) =
+    filesFrom z entries clients held dirty since k
+    ++ fileIfText z (lent [] [] held dirty) (sidesIn clients k) (entryOf entries k) k (getD since k 0)
 
 pub files-next :
-    (z : Sizes) (entries : List Entry) (clients : List Sides) (held dirty : List Bool) (waiting : List ℕ) (k : ℕ)
-    → filesFrom z entries clients held dirty waiting (k + 1)
-    ≡ filesFrom z entries clients held dirty waiting k
-    ++ fileIfText z (lent [] [] held dirty) (sidesIn clients k) (entryOf entries k) k (getD waiting k 0)
+    (z : Sizes) (entries : List Entry) (clients : List Sides) (held dirty : List Bool) (since : List ℕ) (k : ℕ)
+    → filesFrom z entries clients held dirty since (k + 1)
+    ≡ filesFrom z entries clients held dirty since k
+    ++ fileIfText z (lent [] [] held dirty) (sidesIn clients k) (entryOf entries k) k (getD since k 0)
 unfolding filesFrom
-files-next z entries clients held dirty waiting k = rw (add-one k)
+files-next z entries clients held dirty since k = rw (add-one k)
 
 -- they are those of the whole
 module _ (t : Annotated) where
   abbrev from : ℕ → List ℕ
   from k =
       let s = t .service in
-      filesFrom (sizesOf s) (tableIn s .files) (s .clients) (s .held) (s .dirty) (t .ledger .waiting) k
+      filesFrom (sizesOf s) (tableIn s .files) (s .clients) (s .held) (s .dirty) (t .ledger .since) k
 
   files-from : (k : ℕ) → from k ≡ filesText t k
   unfolding filesFrom filesText
@@ -152,10 +153,77 @@ module _ (t : Annotated) where
       → z ≡ sizesOf (t .service)
       → k ≡ z .files
       → let s = t .service in
-      filesFrom z (tableIn s .files) (s .clients) (s .held) (s .dirty) (t .ledger .waiting) k
+      filesFrom z (tableIn s .files) (s .clients) (s .held) (s .dirty) (t .ledger .since) k
       ≡ filesText t (sizesOf s .files)
   files-all z k is all =
       let s = t .service in
-      ap (λ x. filesFrom x (tableIn s .files) (s .clients) (s .held) (s .dirty) (t .ledger .waiting) k) is
+      ap (λ x. filesFrom x (tableIn s .files) (s .clients) (s .held) (s .dirty) (t .ledger .since) k) is
       ∙ files-from k
       ∙ ap (filesText t) (all ∙ ap (λ x. x .files) is)
+
+-- ---- the stations under embargo
+
+-- where a copy stands, from where those of its file begin
+pub flag-there :
+    (i f base b : ℕ) (flags : List Bool)
+    → i < maxClients
+    → f < maxFiles
+    → base ≡ firstCell (i % maxClients) (f % maxFiles)
+    → getD flags (base + b) false ≡ dirtyIn (lent [] [] [] flags) i f b
+flag-there i f base b flags hi hf is = ap (λ k. getD flags (k + b) false) (first i f base hi hf is)
+
+pub line-there :
+    (i f base b : ℕ) (copied : List ℕ)
+    → i < maxClients
+    → f < maxFiles
+    → base ≡ firstCell (i % maxClients) (f % maxFiles)
+    → getD copied (base + b) 0 ≡ copiedAt (entered [] [] copied []) i f b
+line-there i f base b copied hi hf is = ap (λ k. getD copied (k + b) 0) (first i f base hi hf is)
+
+-- the clients below n, from the parts of the service and the ledger that they look at
+unfoldable pub asidesFrom : Sizes → List Bool → List Bool → List ℕ → List ℕ → ℕ → List ℕ
+asidesFrom z embargoed dirty copied since zero = []
+asidesFrom z embargoed dirty copied since (suc n) =
+    asidesFrom z embargoed dirty copied since n
+    ++ asideIfText (getD embargoed n false) z (lent [] [] [] dirty) (entered [] [] copied []) n
+    (getD since (maxFiles + n) 0)
+
+pub asides-next :
+    (z : Sizes) (embargoed dirty : List Bool) (copied since : List ℕ) (n : ℕ)
+    → asidesFrom z embargoed dirty copied since (n + 1)
+    ≡ asidesFrom z embargoed dirty copied since n
+    ++ asideIfText (getD embargoed n false) z (lent [] [] [] dirty) (entered [] [] copied []) n
+    (getD since (maxFiles + n) 0)
+unfolding asidesFrom
+asides-next z embargoed dirty copied since n = rw (add-one n)
+
+-- they are those of the whole
+module _ (t : Annotated) where
+  abbrev asides : ℕ → List ℕ
+  asides n =
+      let s = t .service in
+      asidesFrom (sizesOf s) (tableIn s .embargoed) (s .dirty) (t .ledger .copied) (t .ledger .since) n
+
+  asides-from : (n : ℕ) → asides n ≡ asidesText t n
+  unfolding asidesFrom asidesText
+  asides-from zero = refl
+  asides-from (suc n) =
+      let s = t .service in
+      ap
+      (λ text.
+      text
+      ++ asideIfText (embargoedAt s n) (sizesOf s) (storesOf s) (t .ledger) n (embargoedSince (t .ledger) n))
+      (asides-from n)
+
+  pub asides-all :
+      (z : Sizes) (n : ℕ)
+      → z ≡ sizesOf (t .service)
+      → n ≡ z .clients
+      → let s = t .service in
+      asidesFrom z (tableIn s .embargoed) (s .dirty) (t .ledger .copied) (t .ledger .since) n
+      ≡ asidesText t (sizesOf s .clients)
+  asides-all z n is all =
+      let s = t .service in
+      ap (λ x. asidesFrom x (tableIn s .embargoed) (s .dirty) (t .ledger .copied) (t .ledger .since) n) is
+      ∙ asides-from n
+      ∙ ap (asidesText t) (all ∙ ap (λ x. x .clients) is)

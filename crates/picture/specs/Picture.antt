@@ -1,5 +1,5 @@
--- The picture of the service at the end of what `explain` prints: "recovering or not and who has to report", the files,
--- and the refusals by number. docs/EXPLAIN.md has an example.
+-- The picture of the service at the end of what `explain` prints: "recovering or not and who has to report", the
+-- stations under embargo, the files, and the refusals by number. docs/EXPLAIN.md has an example.
 use Prim.Native.Nat.{ℕ, zero, suc}
 use mathlib.Core.Bool.{Bool, cond, not, _||_}
 use mathlib.Core.List.{List, [], _++_}
@@ -16,13 +16,15 @@ use Rattle.protocol.specs.Client.{sideOf}
 use Rattle.protocol.specs.Entry.{recordAt, waits}
 use Rattle.blocks.specs.Stores.{Stores, heldIn, dirtyIn}
 use Rattle.table.specs.declared.table.Table.{Table}
-use Rattle.service.specs.Contents.{sizesOf, tableIn, entryAt, sidesAt, storesOf}
+use Rattle.service.specs.Contents.{sizesOf, tableIn, entryAt, embargoedAt, sidesAt, storesOf}
 use Rattle.stepfile.specs.Text.{bytes, argumentText}
 use Rattle.stepfile.specs.Summary.{versionIn, isListed}
 use Rattle.ledger.specs.declared.annotated.Annotated.{Annotated}
-use Rattle.ledger.specs.Ledger.{waitingSince}
+use Rattle.ledger.specs.declared.ledger.Ledger.{Ledger}
+use Rattle.ledger.specs.Ledger.{copiedAt, waitingSince, embargoedSince}
 use Rattle.ledger.specs.Refusals.{refusalNumbers, timesRefused}
-use Rattle.phrases.specs.Phrase.{clientText, stateText, listText}
+use Rattle.phrases.specs.Phrase.{clientText, embargoText, stateText, listText}
+use Rattle.phrases.specs.Accepted.{lossesText}
 use Rattle.phrases.specs.Refusal.{missingText, openWaitsText}
 
 -- ---- the server
@@ -30,9 +32,31 @@ use Rattle.phrases.specs.Refusal.{missingText, openWaitsText}
 abbrev pub serverText : Sizes → Table → List ℕ
 serverText z t =
     cond (t .recovering)
-    (bytes "the server recovers" ++ missingText (z .clients) (t .reported))
+    (bytes "the server recovers" ++ missingText (z .clients) (t .reported) (t .embargoed))
     (bytes "the server runs")
     ++ bytes "\n"
+
+-- ---- the stations under embargo
+
+-- what is lost of client i: "its dirty blocks and the cached writes it still makes" (document 02, Wish 9), each with
+-- the line at which its copy was written
+abbrev pub wastedText : Sizes → Stores → Ledger → ℕ → List ℕ
+wastedText z a l i = lossesText (dirtyIn a i) (copiedAt l i) (z .files) (z .blocks)
+
+abbrev pub asideText : Sizes → Stores → Ledger → ℕ → ℕ → List ℕ
+asideText z a l i since =
+    clientText i ++ (embargoText since ++ (bytes "; writes lost:" ++ (wastedText z a l i ++ bytes "\n")))
+
+abbrev pub asideIfText : Bool → Sizes → Stores → Ledger → ℕ → ℕ → List ℕ
+asideIfText aside z a l i since = cond aside (asideText z a l i since) []
+
+-- the clients below n, ascending
+unfoldable pub asidesText : Annotated → ℕ → List ℕ
+asidesText t zero = []
+asidesText t (suc n) =
+    let s = t .service in
+    let l = t .ledger in
+    asidesText t n ++ asideIfText (embargoedAt s n) (sizesOf s) (storesOf s) l n (embargoedSince l n)
 
 -- ---- a station, of one file
 
@@ -139,8 +163,9 @@ unfoldable pub pictureText : Annotated → List ℕ
 pictureText t =
     let s = t .service in
     serverText (sizesOf s) (tableIn s)
-    ++ (filesText t (sizesOf s .files) ++ (refusalsText (t .refusals) ++ endText))
+    ++ (asidesText t (sizesOf s .clients)
+    ++ (filesText t (sizesOf s .files) ++ (refusalsText (t .refusals) ++ endText)))
 
 -- the room that the picture is given: more than it takes
 abbrev pub pictureRoom : ℕ
-pictureRoom = 300000
+pictureRoom = 620000

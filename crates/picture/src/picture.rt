@@ -3,15 +3,17 @@ ghost use Prim.Native.Nat.{_+_, _≤_};
 ghost use lib.ListN.{length};
 ghost use Rattle.service.specs.Contents.{sizesOf};
 ghost use Rattle.writer.specs.Buffer.{Wrote, WroteIfRoom};
-ghost use Rattle.picture.specs.Picture.{filesText, pictureText, pictureRoom};
+ghost use Rattle.picture.specs.Picture.{asidesText, filesText, pictureText, pictureRoom};
+use crate::aside::put_aside_if;
 use crate::files::put_file;
 use crate::refused::put_refusals;
 use crate::server::put_server;
 use ledger::Annotated;
 use phrases::put_text;
+use sizes::MAX_FILES;
 
 // The room that the picture is given: more than any picture takes.
-pub const PICTURE_ROOM: usize = 300000;
+pub const PICTURE_ROOM: usize = 620000;
 
 // Writes the picture, and answers the offset past it. Where the buffer has less than PICTURE_ROOM bytes from the offset
 // on, writes nothing and answers the offset.
@@ -38,11 +40,47 @@ fn put_picture(out: &mut [u8], at: usize, state: Annotated) -> usize
     let sizes = given.in_force();
     let server = service.server;
     let table = server.table;
-    let files = put_server(out, at, sizes, table);
+    let asides = put_server(out, at, sizes, table);
+    let files = put_asides(out, asides, state);
     let refused = put_files(out, files, state);
     let refusals = state.refusals;
     let end = put_refusals(out, refused, refusals);
     put_text(out, end, b"end of the picture\n")
+}
+
+// The stations under embargo, ascending.
+fn put_asides(out: &mut [u8], at: usize, state: Annotated) -> usize
+    requires { ⌜ at + 340704 ≤ length (now out) ⌝ }
+    ensures { λ r. ⌜ Wrote (now (out .entry)) at (asidesText state (sizesOf (state .service) .clients))
+        (now (out .exit)) r ⌝ }
+    ensures { λ r. ⌜ r ≤ at + 340704 ⌝ }
+{
+    let service = state.service;
+    let given = service.sizes;
+    let sizes = given.in_force();
+    let server = service.server;
+    let table = server.table;
+    let embargoed = table.embargoed;
+    let dirty = service.dirty;
+    let ledger = state.ledger;
+    let copied = ledger.copied;
+    let since = ledger.since;
+    let mut next = at;
+    let mut client: usize = 0;
+    while client < sizes.clients {
+        next = put_aside_if(
+            out,
+            next,
+            embargoed[client],
+            sizes,
+            &dirty,
+            &copied,
+            client,
+            since[MAX_FILES + client],
+        );
+        client += 1;
+    }
+    next
 }
 
 // The files, ascending.
@@ -62,7 +100,7 @@ fn put_files(out: &mut [u8], at: usize, state: Annotated) -> usize
     let held = service.held;
     let dirty = service.dirty;
     let ledger = state.ledger;
-    let waiting = ledger.waiting;
+    let since = ledger.since;
     let mut next = at;
     let mut file: usize = 0;
     while file < sizes.files {
@@ -77,7 +115,7 @@ fn put_files(out: &mut [u8], at: usize, state: Annotated) -> usize
             sides,
             entry,
             file,
-            waiting[file],
+            since[file],
         );
         file += 1;
     }

@@ -20,7 +20,8 @@ pub fn put_server(out: &mut [u8], at: usize, sizes: Sizes, table: Table) -> usiz
     if table.recovering {
         let missing = put_text(out, at, b"the server recovers");
         let reported = table.reported;
-        let feed = put_missing(out, missing, sizes.clients, reported);
+        let embargoed = table.embargoed;
+        let feed = put_missing(out, missing, sizes.clients, reported, embargoed);
         return put_byte(out, feed, b'\n');
     }
     put_text(out, at, b"the server runs\n")

@@ -152,7 +152,7 @@ fn play_first(
 }
 
 // A kind of step that is none, and gets 1.
-const NO_KIND: u64 = 12;
+const NO_KIND: u64 = 14;
 
 // The numbers of the step that a line gives; those of a line that gives none are of no kind.
 fn numbers_of(parsed: Parsed) -> Numbers

@@ -6,7 +6,7 @@ use Rattle.records.specs.declared.record.Mode.the-variants.{Read as ForRead, Wr
 use Rattle.protocol.specs.declared.step.Numbers.{Numbers}
 use Rattle.protocol.specs.declared.step.Step.{Step}
 use Rattle.protocol.specs.declared.step.Step.the-variants.{Open, Close, Read, Write, Flush, Answer, Crash}
-use Rattle.protocol.specs.declared.step.Step.the-variants.{Report, End, Restart}
+use Rattle.protocol.specs.declared.step.Step.the-variants.{Report, End, Restart, Embargo, Lift}
 use Rattle.protocol.specs.Step.{numbersOf, kinds, stepAsked}
 
 abbrev pub askedBy : Numbers → Step
@@ -25,6 +25,8 @@ asked-back Crash = refl
 asked-back (Report i) = refl
 asked-back End = refl
 asked-back (Restart i) = refl
+asked-back (Embargo i f) = refl
+asked-back (Lift i) = refl
 
 pub kind-low : (x : Step) → numbersOf x .kind < kinds
 kind-low (Open ForRead i f) = omega arith
@@ -39,3 +41,5 @@ kind-low Crash = omega arith
 kind-low (Report i) = omega arith
 kind-low End = omega arith
 kind-low (Restart i) = omega arith
+kind-low (Embargo i f) = omega arith
+kind-low (Lift i) = omega arith

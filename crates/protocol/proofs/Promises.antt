@@ -12,7 +12,7 @@ use Rattle.records.specs.declared.record.Mode.{Mode}
 use Rattle.records.specs.Version.{isLastVersion}
 use Rattle.records.specs.Record.{isOpen, isWrite, countOf}
 use Rattle.protocol.specs.Entry.{waits, callTo, callsOut, callsFor}
-use Rattle.protocol.specs.Client.{readNeedsServer, writeNeedsServer}
+use Rattle.protocol.specs.Client.{noClient, readNeedsServer, writeNeedsServer}
 use Rattle.protocol.specs.Book.{History, latest, wrote, came, lost}
 use Rattle.protocol.specs.Table.{Row, rowOf, without}
 use Rattle.protocol.proofs.View.{View, at, freshView, waitingView, grantedView, closedView, valueIn, readView}
@@ -123,12 +123,18 @@ pub record Promises
   pub restarts :
       (v : View) (k : History) (i : ℕ) → Running v k → i < n → Running (restartedView n v i) (lost i k)
   pub restartsBack : (v : View) (k : History) (i : ℕ) → Running v k → i < n → Backs v (restartedView n v i)
-  pub crashes : (v : View) (k : History) → Running v k → Recovering (crashedView n v) k (λ i. false) (rowOf (v .entry))
+  -- the table after a crash has heard those that have nothing of the file, since it has nothing of them
+  pub crashes :
+      (v : View) (k : History) (heard : ℕ → Bool)
+      → Running v k
+      → ((i : ℕ) → heard i ≡ true → v .client i ≡ noClient)
+      → Recovering (crashedView n v) k heard (rowOf (v .entry))
   -- recovering
   pub crashesAgain :
-      (v : View) (k : History) (reported : ℕ → Bool) (row : Row)
+      (v : View) (k : History) (reported heard : ℕ → Bool) (row : Row)
       → Recovering v k reported row
-      → Recovering (crashedView n v) k (λ i. false) row
+      → ((i : ℕ) → heard i ≡ true → v .client i ≡ noClient)
+      → Recovering (crashedView n v) k heard row
   pub readsOwn :
       (v : View) (k : History) (i : ℕ) (reported : ℕ → Bool) (row : Row)
       → Recovering v k reported row

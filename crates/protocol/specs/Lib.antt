@@ -7,5 +7,6 @@ pub mod Step
 pub mod Entry
 pub mod Client
 pub mod Access
+pub mod Needs
 pub mod Refusal
 pub mod Table

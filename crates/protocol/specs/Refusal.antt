@@ -1,14 +1,15 @@
 -- Who can cause a refusal: the tests of each step on a file, each with document 01's number, in number order. "Open
 -- tests 2, 3, 5, 9, 12, 14; close 2, 3, 5, 9, 11; read and write 2, 3, 4, 5, 11; flush 2, 3, 4, 5, 13; reply 2, 3, 5,
--- 10". "BT tests 2 only" (document 02, Wish 8). They look at the sizes z, the server's flags, the file's entry e and the
--- client's own side of it: "Reads, writes, refusals 11 to 13 and a station's own change go by the station's record;
--- calls, grants and the table go by the server's".
+-- 10". "BT tests 2 only" (document 02, Wish 8). "20 .., after 4; 21 .., after 20"; "EM is tested as a reply is, never by
+-- 20"; "LF tests 2 and 21" (Wish 9). They look at the sizes z, whether the client is under embargo, the server's flags,
+-- the file's entry e and the client's own side of it: "Reads, writes, refusals 11 to 13 and a station's own change go by
+-- the station's record; calls, grants and the table go by the server's".
 use Prim.Native.Nat.{ℕ}
-use mathlib.Core.Bool.{Bool, cond, not, _&&_, _||_}
+use mathlib.Core.Bool.{Bool, false, cond, not, _&&_, _||_}
 use mathlib.Core.List.{List, [], _∷_}
 use lib.Dec.{eqb, leb}
 use Rattle.records.specs.declared.record.Mode.{Mode}
-use Rattle.records.specs.declared.record.Mode.the-variants.{Write}
+use Rattle.records.specs.declared.record.Mode.the-variants.{Write as ForWrite}
 use Rattle.protocol.specs.declared.entry.Entry.{Entry}
 use Rattle.protocol.specs.declared.client.ClientFile.{ClientFile}
 use Rattle.sizes.specs.declared.sizes.Sizes.{Sizes}
@@ -17,7 +18,9 @@ use Rattle.records.specs.Record.{isOpen, isWrite, countOf}
 use Rattle.decision.specs.Lists.{firstOf}
 use Rattle.decision.specs.Callback.{asksNothing}
 use Rattle.protocol.specs.Entry.{waits, callTo}
-use Rattle.protocol.specs.Client.{readNeedsServer, writeNeedsServer}
+use Rattle.protocol.specs.declared.step.Step.{Step}
+use Rattle.protocol.specs.declared.step.Step.the-variants.{Open, Close, Read, Write, Flush, Answer, Embargo}
+use Rattle.protocol.specs.Needs.{needsServer, alwaysNeeds}
 
 abbrev pub Test : Type 0
 Test = Bool × ℕ
@@ -38,13 +41,24 @@ noSuchFile z f = (leb (z .files) f, 3)
 abbrev pub noSuchBlock : Sizes → ℕ → Test
 noSuchBlock z b = (leb (z .blocks) b, 4)
 
+-- "20 when an embargoed station's step other than BT or LF needs the server" (document 02, Wish 9)
+abbrev pub underEmbargo : Bool → Bool → Test
+underEmbargo embargoed needs = (needs && embargoed, 20)
+
 -- "5 recovering." "For reads and writes 5 holds during recovery if the station has reported, or if the step needs the
 -- server"
+abbrev pub cutOff : Bool → Bool → Bool → Test
+cutOff recovering reported needs = ((reported || needs) && recovering, 5)
+
 abbrev pub inRecovery : Bool → Test
 inRecovery recovering = (recovering, 5)
 
-abbrev pub cutOff : Bool → Bool → Bool → Test
-cutOff recovering reported needsServer = (recovering && (reported || needsServer), 5)
+-- both, of a step that is no read and no write
+abbrev pub setAside : Bool → Step → Test
+setAside embargoed x = underEmbargo embargoed (alwaysNeeds x)
+
+abbrev pub serverAway : Bool → Step → Test
+serverAway recovering x = cutOff recovering false (alwaysNeeds x)
 
 -- "9 an open of this file waits. 10 this station has no call on this file."
 abbrev pub openWaits : Sizes → Entry → Test
@@ -70,44 +84,75 @@ notDirty dirty = (not dirty, 13)
 abbrev pub versionSpent : Mode → Entry → Test
 versionSpent mode e = (isWrite mode && isLastVersion (e .version), 14)
 
-abbrev pub openTests : Sizes → Bool → Entry → ClientFile → Mode → ℕ → ℕ → List Test
-openTests z recovering e own mode i f =
+abbrev pub openTests : Sizes → Bool → Bool → Entry → ClientFile → Mode → ℕ → ℕ → List Test
+openTests z embargoed recovering e own mode i f =
     noSuchClient z i
     ∷ noSuchFile z f
-    ∷ inRecovery recovering
+    ∷ setAside embargoed (Open mode i f)
+    ∷ serverAway recovering (Open mode i f)
     ∷ openWaits z e
     ∷ countFull mode own
     ∷ versionSpent mode e
     ∷ []
 
-abbrev pub closeTests : Sizes → Bool → Entry → ClientFile → Mode → ℕ → ℕ → List Test
-closeTests z recovering e own mode i f =
-    noSuchClient z i ∷ noSuchFile z f ∷ inRecovery recovering ∷ openWaits z e ∷ notOpenIn mode own ∷ []
+abbrev pub closeTests : Sizes → Bool → Bool → Entry → ClientFile → Mode → ℕ → ℕ → List Test
+closeTests z embargoed recovering e own mode i f =
+    noSuchClient z i
+    ∷ noSuchFile z f
+    ∷ setAside embargoed (Close mode i f)
+    ∷ serverAway recovering (Close mode i f)
+    ∷ openWaits z e
+    ∷ notOpenIn mode own
+    ∷ []
 
-abbrev pub readTests : Sizes → Bool → Bool → ClientFile → Bool → ℕ → ℕ → ℕ → List Test
-readTests z recovering reported own held i f b =
+abbrev pub readTests : Sizes → Bool → Bool → Bool → ClientFile → Bool → ℕ → ℕ → ℕ → List Test
+readTests z embargoed recovering reported own held i f b =
     noSuchClient z i
     ∷ noSuchFile z f
     ∷ noSuchBlock z b
-    ∷ cutOff recovering reported (readNeedsServer own held)
+    ∷ underEmbargo embargoed (needsServer (Read i f b) own held)
+    ∷ cutOff recovering reported (needsServer (Read i f b) own held)
     ∷ notOpenAtAll own
     ∷ []
 
-abbrev pub writeTests : Sizes → Bool → Bool → ClientFile → ℕ → ℕ → ℕ → List Test
-writeTests z recovering reported own i f b =
+-- a write does not look at whether its block is held
+abbrev pub writeTests : Sizes → Bool → Bool → Bool → ClientFile → ℕ → ℕ → ℕ → ℕ → List Test
+writeTests z embargoed recovering reported own i f b v =
     noSuchClient z i
     ∷ noSuchFile z f
     ∷ noSuchBlock z b
-    ∷ cutOff recovering reported (writeNeedsServer own)
-    ∷ notOpenIn Write own
+    ∷ underEmbargo embargoed (needsServer (Write i f b v) own false)
+    ∷ cutOff recovering reported (needsServer (Write i f b v) own false)
+    ∷ notOpenIn ForWrite own
     ∷ []
 
-abbrev pub flushTests : Sizes → Bool → Bool → ℕ → ℕ → ℕ → List Test
-flushTests z recovering dirty i f b =
-    noSuchClient z i ∷ noSuchFile z f ∷ noSuchBlock z b ∷ inRecovery recovering ∷ notDirty dirty ∷ []
+abbrev pub flushTests : Sizes → Bool → Bool → Bool → ℕ → ℕ → ℕ → List Test
+flushTests z embargoed recovering dirty i f b =
+    noSuchClient z i
+    ∷ noSuchFile z f
+    ∷ noSuchBlock z b
+    ∷ setAside embargoed (Flush i f b)
+    ∷ serverAway recovering (Flush i f b)
+    ∷ notDirty dirty
+    ∷ []
 
-abbrev pub answerTests : Sizes → Bool → Entry → ℕ → ℕ → List Test
-answerTests z recovering e i f = noSuchClient z i ∷ noSuchFile z f ∷ inRecovery recovering ∷ noCall z e i ∷ []
+abbrev pub answerTests : Sizes → Bool → Bool → Entry → ℕ → ℕ → List Test
+answerTests z embargoed recovering e i f =
+    noSuchClient z i
+    ∷ noSuchFile z f
+    ∷ setAside embargoed (Answer i f)
+    ∷ serverAway recovering (Answer i f)
+    ∷ noCall z e i
+    ∷ []
 
 abbrev pub restartTests : Sizes → ℕ → List Test
 restartTests z i = noSuchClient z i ∷ []
+
+-- "EM is tested as a reply is, never by 20"
+abbrev pub embargoTests : Sizes → Bool → Entry → ℕ → ℕ → List Test
+embargoTests z recovering e i f =
+    noSuchClient z i ∷ noSuchFile z f ∷ serverAway recovering (Embargo i f) ∷ noCall z e i ∷ []
+
+-- "21 when LF names a station without embargo"
+abbrev pub liftTests : Sizes → Bool → ℕ → List Test
+liftTests z embargoed i = noSuchClient z i ∷ (not embargoed, 21) ∷ []

@@ -8,7 +8,7 @@ use Rattle.records.specs.declared.record.Mode.the-variants.{Read as ForRead, Wr
 use Rattle.protocol.specs.declared.step.Numbers.{Numbers}
 use Rattle.protocol.specs.declared.step.Step.{Step}
 use Rattle.protocol.specs.declared.step.Step.the-variants.{Open, Close, Read, Write, Flush, Answer, Crash}
-use Rattle.protocol.specs.declared.step.Step.the-variants.{Report, End, Restart}
+use Rattle.protocol.specs.declared.step.Step.the-variants.{Report, End, Restart, Embargo, Lift}
 
 -- what a step touches: one file, with its entry, the clients' sides of it, its blocks and their copies; one block of a
 -- file, for a client; the whole table; or all files
@@ -29,6 +29,8 @@ classOf Crash = OnTable
 classOf (Report i) = OnTable
 classOf End = OnTable
 classOf (Restart i) = OnAll
+classOf (Embargo i f) = OnAll
+classOf (Lift i) = OnAll
 
 -- ---- what a step does, for the definition of each class; a step of another class does nothing there
 
@@ -50,6 +52,8 @@ fileAct Crash = nothing
 fileAct (Report i) = nothing
 fileAct End = nothing
 fileAct (Restart i) = nothing
+fileAct (Embargo i f) = nothing
+fileAct (Lift i) = nothing
 
 pub data BlockAct : Type 0 where
   reads : ℕ → ℕ → ℕ → BlockAct
@@ -67,6 +71,8 @@ blockAct Crash = nothing
 blockAct (Report i) = nothing
 blockAct End = nothing
 blockAct (Restart i) = nothing
+blockAct (Embargo i f) = nothing
+blockAct (Lift i) = nothing
 
 pub data TableAct : Type 0 where
   crashes : TableAct
@@ -85,9 +91,13 @@ tableAct Crash = crashes
 tableAct (Report i) = reports i
 tableAct End = ends
 tableAct (Restart i) = nothing
+tableAct (Embargo i f) = nothing
+tableAct (Lift i) = nothing
 
 pub data AllAct : Type 0 where
   restarts : ℕ → AllAct
+  embargoes : ℕ → ℕ → AllAct
+  lifts : ℕ → AllAct
   nothing : AllAct
 
 abbrev pub allAct : Step → AllAct
@@ -101,6 +111,8 @@ allAct Crash = nothing
 allAct (Report i) = nothing
 allAct End = nothing
 allAct (Restart i) = restarts i
+allAct (Embargo i f) = embargoes i f
+allAct (Lift i) = lifts i
 
 -- ---- a step as five numbers
 
@@ -124,10 +136,12 @@ numbersOf Crash = five 8 0 0 0 0
 numbersOf (Report i) = five 9 i 0 0 0
 numbersOf End = five 10 0 0 0 0
 numbersOf (Restart i) = five 11 i 0 0 0
+numbersOf (Embargo i f) = five 12 i f 0 0
+numbersOf (Lift i) = five 13 i 0 0 0
 
 -- how many kinds there are; one of them is the step of these numbers, and what it does not name is not looked at
 abbrev pub kinds : ℕ
-kinds = 12
+kinds = 14
 
 abbrev pub stepAsked : ℕ → ℕ → ℕ → ℕ → ℕ → Step
 stepAsked kind i f b v =
@@ -141,7 +155,9 @@ stepAsked kind i f b v =
     (cond (eqb kind 7) (Answer i f)
     (cond (eqb kind 8) Crash
     (cond (eqb kind 9) (Report i)
-    (cond (eqb kind 10) End (Restart i)))))))))))
+    (cond (eqb kind 10) End
+    (cond (eqb kind 11) (Restart i)
+    (cond (eqb kind 12) (Embargo i f) (Lift i)))))))))))))
 
 -- what a step names
 abbrev pub clientOf : Step → ℕ
@@ -165,6 +181,8 @@ modeOf Crash = ForRead
 modeOf (Report i) = ForRead
 modeOf End = ForRead
 modeOf (Restart i) = ForRead
+modeOf (Embargo i f) = ForRead
+modeOf (Lift i) = ForRead
 
 -- the same step with its client, file and block renamed
 abbrev pub renamed : (ℕ → ℕ) → (ℕ → ℕ) → (ℕ → ℕ) → Step → Step
@@ -178,3 +196,5 @@ renamed client file block Crash = Crash
 renamed client file block (Report i) = Report (client i)
 renamed client file block End = End
 renamed client file block (Restart i) = Restart (client i)
+renamed client file block (Embargo i f) = Embargo (client i) (file f)
+renamed client file block (Lift i) = Lift (client i)

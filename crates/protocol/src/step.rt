@@ -49,6 +49,15 @@ pub enum Step {
     Restart {
         client: usize,
     },
+    // A client that has a callback on the file is put under embargo.
+    Embargo {
+        client: usize,
+        file: usize,
+    },
+    // A client is told that it was under embargo.
+    Lift {
+        client: usize,
+    },
 }
 
 // A step as five numbers; those that it does not have are 0.
@@ -99,6 +108,8 @@ pub fn asked(step: Step) -> Numbers
         Step::Report { client } => asked_of(9, client, 0, 0, 0),
         Step::End => asked_of(10, 0, 0, 0, 0),
         Step::Restart { client } => asked_of(11, client, 0, 0, 0),
+        Step::Embargo { client, file } => asked_of(12, client, file, 0, 0),
+        Step::Lift { client } => asked_of(13, client, 0, 0, 0),
     }
 }
 

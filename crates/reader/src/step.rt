@@ -45,6 +45,10 @@ const EN: u64 = 0x454e;
 
 const BT: u64 = 0x4254;
 
+const EM: u64 = 0x454d;
+
+const LF: u64 = 0x4c46;
+
 // The room that a short step is given, up to its value: a word, three numbers of at most two digits with a space
 // before each, and the byte that follows.
 const SHORT_ROOM: usize = 12;
@@ -93,6 +97,8 @@ fn short_at(s: &[u8], at: usize) -> Begun
             next: from,
         },
         BT => restart_of(digit_at(s, from)),
+        EM => embargo_of(short_pair_at(s, from)),
+        LF => lift_of(digit_at(s, from)),
         _ => Begun::Missing,
     }
 }
@@ -128,6 +134,8 @@ fn long_at(s: &[u8], at: usize) -> Begun
             next: from,
         },
         BT => restart_of(argument_at(s, from)),
+        EM => embargo_of(pair_at(s, from)),
+        LF => lift_of(argument_at(s, from)),
         _ => Begun::Missing,
     }
 }
@@ -273,6 +281,33 @@ fn restart_of(number: Number) -> Begun
     };
     Begun::Is {
         step: Step::Restart {
+            client: value as usize,
+        },
+        next,
+    }
+}
+
+fn embargo_of(numbers: Pair) -> Begun
+    ensures { λ r. ⌜ ((s : List ℕ) → pairIn s (λ a b. whole (Step.Embargo a b)) numbers ≡ begunIn s r) ⌝ }
+{
+    let Pair::Are { client, file, next } = numbers else {
+        return Begun::Missing;
+    };
+    Begun::Is {
+        step: Step::Embargo { client, file },
+        next,
+    }
+}
+
+fn lift_of(number: Number) -> Begun
+    ensures { λ r. ⌜ ((s : List ℕ)
+        → onward (numberIn s number) (λ a rest. found (Step.Lift a) rest) ≡ begunIn s r) ⌝ }
+{
+    let Number::Is { value, next } = number else {
+        return Begun::Missing;
+    };
+    Begun::Is {
+        step: Step::Lift {
             client: value as usize,
         },
         next,

@@ -1,6 +1,7 @@
 -- What bytes hold fits the fields of a server, whatever the bytes are. Assumes nothing.
 use Prim.Native.Nat.{ℕ, zero, suc, _+_, _*_, _<_}
 use mathlib.Core.Path.{_≡_, refl, ap, _∙_, subst⁻¹}
+use mathlib.Core.Bool.{Bool, true, false}
 use mathlib.Core.List.{List, [], _∷_}
 use native.Mathlib.Omega.{arith}
 use lib.Dec.{eqb, lit<}
@@ -15,9 +16,10 @@ use Rattle.decision.proofs.Beyond.{getD-alike}
 use Rattle.protocol.specs.declared.entry.Entry.{Entry}
 use Rattle.protocol.specs.Entry.{recordAt, freshEntry}
 use Rattle.table.specs.TableStep.{noEntry, entryOf}
-use Rattle.restore.specs.Decoded.{numberAt, entriesIn, placed, withFile, putFile, fileOf, recordOf, withOpen}
+use Rattle.restore.specs.Decoded.{numberAt, entriesIn, sectionIn, placed, withFile, putFile, fileOf, recordOf, withOpen}
 use Rattle.restore.specs.Decoded.{openerOf, openedOf, putOpen, placeOf, putBlock, filesPart, opensPart}
-use Rattle.restore.specs.Decoded.{blocksPart, decodedFiles, decodedBlocks}
+use Rattle.restore.specs.Decoded.{blocksPart, embargoedOf, putEmbargo, embargoesPart, decodedFiles}
+use Rattle.restore.specs.Decoded.{decodedBlocks, decodedEmbargoes}
 use Rattle.restore.specs.Exact.{AreBytes}
 
 -- ---- parts of bytes are bytes
@@ -184,3 +186,15 @@ decoded-blocks-good bytes h =
     } in
     placed-keeps putBlock GoodBlocks block-good 10 (numberAt 2 blocks 0) (drop 2 blocks) (replicate maxPlaces 0)
     (drop-bytes 2 blocks blocks-bytes) none
+
+-- ---- the embargoes
+
+embargoes-long : (es : List (List ℕ)) (l : List Bool) → length (placed putEmbargo es l) ≡ length l
+unfolding placed
+embargoes-long [] l = refl
+embargoes-long (e ∷ es) l = embargoes-long es (putEmbargo e l) ∙ length-set l (embargoedOf e) true
+
+pub decoded-embargoes-long : (bytes : List ℕ) → length (decodedEmbargoes bytes) ≡ maxClients
+unfolding decodedEmbargoes
+decoded-embargoes-long bytes =
+    embargoes-long (sectionIn 1 (embargoesPart bytes)) (replicate maxClients false) ∙ length-replicate maxClients false

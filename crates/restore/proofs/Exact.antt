@@ -17,20 +17,21 @@ use Rattle.sizes.proofs.InForce.{in-force-permitted, file-fits, block-fits}
 use Rattle.protocol.specs.declared.reply.Reply.the-variants.{Refused, Done}
 use Rattle.protocol.specs.Entry.{waits}
 use Rattle.protocol.specs.Reply.{isRefused}
-use Rattle.table.specs.TableStep.{entryOf}
+use Rattle.table.specs.TableStep.{entryOf, isEmbargoed}
 use Rattle.service.specs.declared.service.Service.{Service}
 use Rattle.service.specs.declared.outcome.Outcome.{Outcome}
-use Rattle.service.specs.Contents.{sizesOf, tableIn, entryAt, blockAt}
+use Rattle.service.specs.Contents.{sizesOf, tableIn, entryAt, blockAt, embargoedAt}
 use Rattle.service.specs.Fresh.{fresh}
 use Rattle.image.specs.Image.{versionRead, imageBytes, imageOf}
 use Rattle.image.specs.Fits.{Fits}
 use Rattle.image.specs.Writing.{openWaiting}
-use Rattle.restore.specs.Decoded.{decodedFiles, decodedBlocks}
+use Rattle.restore.specs.Decoded.{decodedFiles, decodedBlocks, decodedEmbargoes}
 use Rattle.restore.specs.Reading.{sameBytes, isImage, restored, readingOf, sizesIn}
 use Rattle.restore.specs.Exact.{AreBytes, Written, AcceptsExactly, Exact, Starts}
 use Rattle.restore.proofs.SameBytes.{same-true, same-self}
-use Rattle.restore.proofs.GivenBack.{version-given, block-given, same-again}
+use Rattle.restore.proofs.GivenBack.{version-given, block-given, embargo-given, same-again}
 use Rattle.restore.proofs.Bounds.{GoodFiles, GoodBlocks, decoded-files-good, decoded-blocks-good}
+use Rattle.restore.proofs.Bounds.{decoded-embargoes-long}
 
 -- ---- what is written is accepted
 
@@ -50,17 +51,24 @@ module _ (t : Service) (fits : Fits t) where
   pub image-accepted : isImage z (imageOf t) ≡ true
   unfolding isImage
   image-accepted =
-      ap (sameBytes (imageOf t)) (same-again most (tableIn t .files) (t .server .blocks) versions values)
+      ap (sameBytes (imageOf t))
+      (same-again most (tableIn t .files) (t .server .blocks) (tableIn t .embargoed) versions values)
       ∙ same-self (imageOf t)
 
   -- what the image gives back
   pub version-back :
       (f : ℕ) → f < z .files → entryOf (decodedFiles (imageOf t)) f .version ≡ versionOf (versionRead (entryAt t f))
-  version-back f hf = version-given most (tableIn t .files) (t .server .blocks) versions values f hf
+  version-back f hf =
+      version-given most (tableIn t .files) (t .server .blocks) (tableIn t .embargoed) versions values f hf
 
   pub block-back :
       (f b : ℕ) → f < z .files → b < z .blocks → getD (decodedBlocks (imageOf t)) (place f b) 0 ≡ blockAt t f b
-  block-back f b hf hb = block-given most (tableIn t .files) (t .server .blocks) versions values f b hf hb
+  block-back f b hf hb =
+      block-given most (tableIn t .files) (t .server .blocks) (tableIn t .embargoed) versions values f b hf hb
+
+  pub embargo-back : (i : ℕ) → i < z .clients → isEmbargoed (decodedEmbargoes (imageOf t)) i ≡ embargoedAt t i
+  embargo-back i hi =
+      embargo-given most (tableIn t .files) (t .server .blocks) (tableIn t .embargoed) versions values i hi
 
 -- ---- what is accepted was written for some service
 
@@ -71,7 +79,13 @@ decodedService s bytes =
       sizes = s .sizes;
       server =
           record {
-            table = record { files = decodedFiles bytes; recovering = false; reported = replicate maxClients false };
+            table =
+                record {
+                  files = decodedFiles bytes;
+                  recovering = false;
+                  reported = replicate maxClients false;
+                  embargoed = decodedEmbargoes bytes;
+                };
             blocks = decodedBlocks bytes;
           };
       clients = fresh (s .sizes) .clients;
@@ -100,6 +114,7 @@ module _ (s : Service) (bytes : List ℕ) (are-bytes : AreBytes bytes) where
       record {
         entries = files-good .entries;
         places = blocks-good .places;
+        embargoes = decoded-embargoes-long bytes;
         records = λ f hf. files-good .each f hf .records;
         version = λ f hf. files-good .each f hf .version;
         last = λ f hf. files-good .each f hf .last;
@@ -148,7 +163,9 @@ module _ (s : Service) (bytes : List ℕ) where
       (λ t. conflict (ap isRefused (reply-is ∙ unless _ _ t)) e)
 
   -- what is handed back
-  pub taken : isImage (sizesOf s) bytes ≡ true → readingOf s bytes ≡ restored s (decodedFiles bytes) (decodedBlocks bytes)
+  pub taken :
+      isImage (sizesOf s) bytes ≡ true
+      → readingOf s bytes ≡ restored s (decodedFiles bytes) (decodedBlocks bytes) (decodedEmbargoes bytes)
   unfolding readingOf
   taken e = when _ _ e
 

@@ -4,11 +4,12 @@ use Prim.Native.Nat.{ℕ}
 use mathlib.Core.Path.{_≡_, refl}
 use mathlib.Core.Bool.{Bool, true, false}
 use mathlib.Core.List.{List, [], _∷_, _++_}
+use lib.ListN.{replicate, set}
 use Rattle.records.specs.Record.{notOpen}
 use Rattle.records.specs.Version.{versionOf}
 use Rattle.decision.specs.Lists.{count, stored}
 use Rattle.decision.specs.Permission.{permissionAtGrant}
-use Rattle.sizes.specs.Sizes.{defaultSizes}
+use Rattle.sizes.specs.Sizes.{defaultSizes, maxClients}
 use Rattle.decision.specs.State.{stateOf}
 use Rattle.protocol.specs.declared.reply.Reply.the-variants.{Refused, Done}
 use Rattle.protocol.specs.Entry.{recordAt}
@@ -23,16 +24,20 @@ use Rattle.service.specs.Step.{stepOf}
 use Rattle.service.proofs.Run.{freshDefault, OW, after}
 use Rattle.image.specs.Bytes.{low, below, flat}
 use Rattle.image.specs.Image.{imageBytes}
-use Rattle.image.proofs.Examples.{wholeImage}
-use Rattle.restore.specs.Decoded.{numberAt, entriesIn, placed, decodedFiles, decodedBlocks}
+use Rattle.image.proofs.Examples.{wholeImage, underEmbargo, noneEmbargoed, freshImageWith, smallSizes}
+use Rattle.restore.specs.Decoded.{numberAt, entriesIn, placed, decodedFiles, decodedBlocks, decodedEmbargoes}
 use Rattle.restore.specs.Reading.{sameBytes, isImage, withBlocks, readingOf}
 
--- bytes of sizes 8, 32 and 4, with these three sections; a section of no entries
-abbrev image : List ℕ → List ℕ → List ℕ → Bool
-image files opens blocks = isImage defaultSizes (8 ∷ 32 ∷ 4 ∷ (files ++ (opens ++ blocks)))
-
+-- a section of no entries
 abbrev none : List ℕ
 none = 0 ∷ 0 ∷ []
+
+-- bytes of sizes 8, 32 and 4, with these three sections and no embargo; and with a section of embargoes alone
+abbrev image : List ℕ → List ℕ → List ℕ → Bool
+image files opens blocks = isImage defaultSizes (8 ∷ 32 ∷ 4 ∷ (files ++ (opens ++ (blocks ++ none))))
+
+abbrev embargoes : List ℕ → Bool
+embargoes clients = isImage defaultSizes (freshImageWith defaultSizes clients)
 
 -- an entry of the section of files, of opens and of blocks
 abbrev file : ℕ → ℕ → ℕ → List ℕ
@@ -69,19 +74,28 @@ pub record NoImage : Type 0 where
   pub noBlock : image none none (one (block 3 4 77)) ≡ false
   pub noBlockFile : image none none (one (block 32 0 77)) ≡ false
   pub blockDescends : image none none (two (block 3 1 77) (block 3 0 77)) ≡ false
+  pub embargoTwice : embargoes (2 ∷ 0 ∷ 3 ∷ 3 ∷ []) ≡ false
+  pub embargoDescends : embargoes (2 ∷ 0 ∷ 6 ∷ 2 ∷ []) ≡ false
+  pub noEmbargoClient : embargoes (1 ∷ 0 ∷ 8 ∷ []) ≡ false
+  pub embargoPastSizes : isImage smallSizes (freshImageWith smallSizes (1 ∷ 0 ∷ 3 ∷ [])) ≡ false
+  pub embargoesMissing : isImage defaultSizes (freshImageWith defaultSizes []) ≡ false
+  pub embargoLeftOver : embargoes (1 ∷ 0 ∷ 3 ∷ 4 ∷ []) ≡ false
+  pub embargoCountTooHigh : embargoes (2 ∷ 0 ∷ 3 ∷ []) ≡ false
   pub countTooHigh : image (2 ∷ 0 ∷ file 3 2 255) none none ≡ false
   pub countTooLow : image (0 ∷ 0 ∷ file 3 2 255) none none ≡ false
   pub leftOver : image none none (none ++ (0 ∷ [])) ≡ false
   pub missing : image none none (0 ∷ []) ≡ false
   pub empty : isImage defaultSizes [] ≡ false
-  pub otherSizes : isImage defaultSizes (8 ∷ 32 ∷ 5 ∷ (none ++ (none ++ none))) ≡ false
+  pub otherSizes : isImage defaultSizes (8 ∷ 32 ∷ 5 ∷ (none ++ (none ++ (none ++ none)))) ≡ false
 
 -- Images: at version 1 with a last writer, as stands in hand-made servers alone; opens and last writers that do not
--- agree; the image of the whole case.
+-- agree; one client under embargo, and all; the image of the whole case.
 pub record IsImage : Type 0 where
   pub empty : image none none none ≡ true
   pub version1 : image (one (file 3 1 5)) none none ≡ true
   pub disagree : image (one (file 3 2 5)) (two (open′ 0 3 0 9 1) (open′ 1 3 0 9 1)) (one (block 31 3 255)) ≡ true
+  pub embargo : embargoes (1 ∷ 0 ∷ 5 ∷ []) ≡ true
+  pub allEmbargoed : embargoes (8 ∷ 0 ∷ 0 ∷ 1 ∷ 2 ∷ 3 ∷ 4 ∷ 5 ∷ 6 ∷ 7 ∷ []) ≡ true
   pub whole : isImage defaultSizes wholeImage ≡ true
 
 -- The image of the whole case, read by a server that client 2 has file 3 open at: version and block are taken, and all
@@ -92,6 +106,15 @@ before = after freshDefault (OW 2 3 ∷ OW 2 4 ∷ [])
 abbrev read : Outcome
 read = readingOf before wholeImage
 
+-- An image with client 5 under embargo, read where client 2 is; and one with none, read where all eight are, of whom
+-- three are in force.
+abbrev readAside : Outcome
+readAside =
+    readingOf (underEmbargo (set noneEmbargoed 2 true) before) (freshImageWith defaultSizes (1 ∷ 0 ∷ 5 ∷ []))
+
+abbrev readSmall : Outcome
+readSmall = readingOf (underEmbargo (replicate maxClients true) (fresh smallSizes)) (freshImageWith smallSizes none)
+
 pub record Reads : Type 0 where
   pub reply : read .reply ≡ Done
   pub version : entryAt (read .service) 3 .version ≡ versionOf 2
@@ -101,11 +124,13 @@ pub record Reads : Type 0 where
   pub openBefore : recordAt (entryAt (read .service) 3) 2 ≡ notOpen
   pub recovering : tableIn (read .service) .recovering ≡ true
   pub clients : read .service .clients ≡ before .clients
+  pub aside : tableIn (readAside .service) .embargoed ≡ set noneEmbargoed 5 true
+  pub pastSizes : tableIn (readSmall .service) .embargoed ≡ false ∷ false ∷ false ∷ replicate 5 true
   pub refused : readingOf before [] .reply ≡ Refused 17
   pub stays : readingOf before [] .service ≡ before
 
 pub noImages : NoImage
-unfolding isImage sameBytes imageBytes low below flat decodedFiles decodedBlocks numberAt entriesIn placed count stored
+unfolding isImage sameBytes imageBytes low below flat decodedFiles decodedBlocks decodedEmbargoes numberAt entriesIn placed count stored
 noImages =
     record {
       version0 = refl;
@@ -125,6 +150,13 @@ noImages =
       noBlock = refl;
       noBlockFile = refl;
       blockDescends = refl;
+      embargoTwice = refl;
+      embargoDescends = refl;
+      noEmbargoClient = refl;
+      embargoPastSizes = refl;
+      embargoesMissing = refl;
+      embargoLeftOver = refl;
+      embargoCountTooHigh = refl;
       countTooHigh = refl;
       countTooLow = refl;
       leftOver = refl;
@@ -134,11 +166,11 @@ noImages =
     }
 
 pub images : IsImage
-unfolding isImage sameBytes imageBytes low below flat decodedFiles decodedBlocks numberAt entriesIn placed count stored
-images = record { empty = refl; version1 = refl; disagree = refl; whole = refl }
+unfolding isImage sameBytes imageBytes low below flat decodedFiles decodedBlocks decodedEmbargoes numberAt entriesIn placed count stored
+images = record { empty = refl; version1 = refl; disagree = refl; embargo = refl; allEmbargoed = refl; whole = refl }
 
 pub reads : Reads
-unfolding fresh stepOf fileStep blockStep tableStep stateOf permissionAtGrant count stored isImage sameBytes imageBytes low below flat decodedFiles decodedBlocks numberAt entriesIn placed withBlocks readingOf
+unfolding fresh stepOf fileStep blockStep tableStep stateOf permissionAtGrant count stored isImage sameBytes imageBytes low below flat decodedFiles decodedBlocks decodedEmbargoes numberAt entriesIn placed withBlocks readingOf
 reads =
     record {
       reply = refl;
@@ -149,6 +181,8 @@ reads =
       openBefore = refl;
       recovering = refl;
       clients = refl;
+      aside = refl;
+      pastSizes = refl;
       refused = refl;
       stays = refl;
     }

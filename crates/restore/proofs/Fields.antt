@@ -1,6 +1,7 @@
 -- The fields of an entry, read where it stands in the bytes l, and put in their places. Assumes nothing.
 use Prim.Native.Nat.{ℕ, _+_, _*_, _%_, _<_}
 use mathlib.Core.Path.{_≡_, sym, ap, _∙_}
+use mathlib.Core.Bool.{Bool, true}
 use mathlib.Core.List.{List}
 use native.Mathlib.Nat.{add-zero}
 use lib.Dec.{ltb, lit<, lit≤}
@@ -11,7 +12,7 @@ use Rattle.records.specs.Version.{versionOf}
 use Rattle.protocol.specs.declared.entry.Entry.{Entry}
 use Rattle.table.specs.TableStep.{entryOf}
 use Rattle.restore.specs.Decoded.{byteAt, numberAt, withFile, putFile, recordOf, withOpen, putOpen}
-use Rattle.restore.specs.Decoded.{placeOf, putBlock}
+use Rattle.restore.specs.Decoded.{placeOf, putBlock, putEmbargo}
 use Rattle.restore.proofs.ReadLow.{byte-part, number-part}
 
 module _ (l : List ℕ) (at : ℕ) where
@@ -120,3 +121,9 @@ module _ (l : List ℕ) (at : ℕ) where
   block-put blocks place value =
       let v = value ∙ sym (number-part 10 at l 8 2 (lit≤ tt)) in
       λ k. set blocks (place k) (v k)
+
+  pub embargo-put :
+      (embargoed : List Bool) {b : ℕ}
+      → b ≡ byteAt l at
+      → set embargoed (b % 8) true ≡ putEmbargo (take 1 (drop at l)) embargoed
+  embargo-put embargoed client = ap (λ b. set embargoed (b % 8) true) (first-byte 1 (lit< tt) client)

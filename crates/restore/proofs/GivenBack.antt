@@ -1,6 +1,7 @@
 -- What the image of a server holds, once it is read, and that its own image is the same again. Assumes nothing.
 use Prim.Native.Nat.{ℕ, _+_, _<_}
 use mathlib.Core.Path.{_≡_, sym, ap, _∙_}
+use mathlib.Core.Bool.{Bool, false}
 use mathlib.Core.List.{List, [], _++_, append-nil}
 use native.Mathlib.Omega.{arith}
 use lib.ListN.{length, getD, replicate, length-replicate}
@@ -15,18 +16,20 @@ use Rattle.decision.proofs.Beyond.{getD-alike}
 use Rattle.decision.proofs.Storing.{length-stored, getD-stored}
 use Rattle.protocol.specs.declared.entry.Entry.{Entry}
 use Rattle.protocol.specs.Entry.{recordAt, freshEntry}
-use Rattle.table.specs.TableStep.{noEntry, entryOf}
+use Rattle.table.specs.TableStep.{noEntry, entryOf, isEmbargoed}
 use Rattle.image.specs.Bytes.{below, section}
 use Rattle.image.specs.Image.{versionRead, lastRead, fileEntries}
-use Rattle.image.specs.Image.{openEntries, blockEntries, imageBytes}
-use Rattle.image.proofs.SectionLaws.{wide-files, wide-opens, wide-blocks}
+use Rattle.image.specs.Image.{openEntries, blockEntries, embargoEntries, imageBytes}
+use Rattle.image.proofs.SectionLaws.{wide-files, wide-opens, wide-blocks, wide-embargoes}
 use Rattle.restore.specs.Decoded.{sectionIn, pastSection, placed, putFile, putOpen, putBlock, filesPart}
-use Rattle.restore.specs.Decoded.{opensPart, blocksPart, decodedFiles, decodedBlocks}
-use Rattle.restore.specs.Reading.{withBlocks}
-use Rattle.restore.proofs.Parsing.{few-files, few-opens, few-blocks, section-read, past-read}
+use Rattle.restore.specs.Decoded.{putEmbargo, opensPart, blocksPart, embargoesPart, decodedFiles}
+use Rattle.restore.specs.Decoded.{decodedBlocks, decodedEmbargoes}
+use Rattle.restore.specs.Reading.{withBlocks, withEmbargoes}
+use Rattle.restore.proofs.Parsing.{few-files, few-opens, few-blocks, few-embargoes, section-read, past-read}
 use Rattle.restore.proofs.GivenBlocks.{taken-block, given-blocks}
 use Rattle.restore.proofs.GivenFiles.{listedEntry, freshFiles, given-files}
 use Rattle.restore.proofs.GivenOpens.{openRead, withOpens, given-opens}
+use Rattle.restore.proofs.GivenEmbargoes.{given-embargoes}
 use Rattle.restore.proofs.SameAgain.{read-again, image-again}
 
 module _
@@ -34,41 +37,55 @@ module _
     (most : Permitted z)
     (entries : List Entry)
     (blocks : List ℕ)
+    (embargoed : List Bool)
     (versions : (f : ℕ) → f < z .files → numberOf (entryOf entries f .version) < 4294967296)
     (values : (f b : ℕ) → f < z .files → b < z .blocks → getD blocks (place f b) 0 < 18446744073709551616) where
   abbrev image : List ℕ
-  image = imageBytes z entries blocks
+  image = imageBytes z entries blocks embargoed
 
-  -- ---- the three sections
+  -- ---- the four sections, and what stands from each of them on
 
-  opens-part : opensPart image ≡ section (openEntries z entries) ++ section (blockEntries z blocks)
+  abbrev lastSections : List ℕ
+  lastSections = section (blockEntries z blocks) ++ section (embargoEntries z embargoed)
+
+  opens-part : opensPart image ≡ section (openEntries z entries) ++ lastSections
   unfolding imageBytes
   opens-part =
-      past-read 6 (fileEntries z entries) (section (openEntries z entries) ++ section (blockEntries z blocks))
-      (wide-files z entries) (few-files most entries)
+      past-read 6 (fileEntries z entries) (section (openEntries z entries) ++ lastSections) (wide-files z entries)
+      (few-files most entries)
 
-  blocks-part : blocksPart image ≡ section (blockEntries z blocks)
+  blocks-part : blocksPart image ≡ lastSections
   blocks-part =
       ap (pastSection 5) opens-part
-      ∙ past-read 5 (openEntries z entries) (section (blockEntries z blocks)) (wide-opens z entries)
-      (few-opens most entries)
+      ∙ past-read 5 (openEntries z entries) lastSections (wide-opens z entries) (few-opens most entries)
+
+  embargoes-part : embargoesPart image ≡ section (embargoEntries z embargoed)
+  embargoes-part =
+      ap (pastSection 10) blocks-part
+      ∙ past-read 10 (blockEntries z blocks) (section (embargoEntries z embargoed)) (wide-blocks z blocks)
+      (few-blocks most blocks)
 
   files-told : sectionIn 6 (filesPart image) ≡ fileEntries z entries
   unfolding imageBytes
   files-told =
-      section-read 6 (fileEntries z entries) (section (openEntries z entries) ++ section (blockEntries z blocks))
-      (wide-files z entries) (few-files most entries)
+      section-read 6 (fileEntries z entries) (section (openEntries z entries) ++ lastSections) (wide-files z entries)
+      (few-files most entries)
 
   opens-told : sectionIn 5 (opensPart image) ≡ openEntries z entries
   opens-told =
       ap (sectionIn 5) opens-part
-      ∙ section-read 5 (openEntries z entries) (section (blockEntries z blocks)) (wide-opens z entries)
-      (few-opens most entries)
+      ∙ section-read 5 (openEntries z entries) lastSections (wide-opens z entries) (few-opens most entries)
 
   blocks-told : sectionIn 10 (blocksPart image) ≡ blockEntries z blocks
   blocks-told =
-      ap (sectionIn 10) (blocks-part ∙ sym (append-nil (section (blockEntries z blocks))))
-      ∙ section-read 10 (blockEntries z blocks) [] (wide-blocks z blocks) (few-blocks most blocks)
+      ap (sectionIn 10) blocks-part
+      ∙ section-read 10 (blockEntries z blocks) (section (embargoEntries z embargoed)) (wide-blocks z blocks)
+      (few-blocks most blocks)
+
+  embargoes-told : sectionIn 1 (embargoesPart image) ≡ embargoEntries z embargoed
+  embargoes-told =
+      ap (sectionIn 1) (embargoes-part ∙ sym (append-nil (section (embargoEntries z embargoed))))
+      ∙ section-read 1 (embargoEntries z embargoed) [] (wide-embargoes z embargoed) (few-embargoes most embargoed)
 
   -- ---- what they give
 
@@ -144,12 +161,25 @@ module _
       (z .files) (most .files) f b hb
       ∙ when _ _ (lt-ltb f (z .files) hf)
 
+  embargoes-given : decodedEmbargoes image ≡ withEmbargoes (z .clients) embargoed (replicate maxClients false)
+  unfolding decodedEmbargoes
+  embargoes-given =
+      ap (λ es. placed putEmbargo es (replicate maxClients false)) embargoes-told ∙ given-embargoes most embargoed
+
+  pub embargo-given :
+      (i : ℕ) → i < z .clients → isEmbargoed (decodedEmbargoes image) i ≡ isEmbargoed embargoed i
+  embargo-given i hi =
+      ap (λ l. isEmbargoed l i) embargoes-given
+      ∙ getD-stored (z .clients) (λ i. i) (λ i. isEmbargoed embargoed i) (replicate maxClients false) false i hi
+      (rw (length-replicate maxClients false) (let few = most .clients in omega arith)) (λ k less below. omega arith)
+
   -- ---- the image of what they give is the same again
 
-  pub same-again : imageBytes z (decodedFiles image) (decodedBlocks image) ≡ image
+  pub same-again : imageBytes z (decodedFiles image) (decodedBlocks image) (decodedEmbargoes image) ≡ image
   same-again =
-      image-again most (decodedFiles image) entries (decodedBlocks image) blocks
+      image-again most (decodedFiles image) entries (decodedBlocks image) blocks (decodedEmbargoes image) embargoed
       (λ f hf. ap (λ v. numberOf (asRead v)) (version-given f hf) ∙ read-again (entryOf entries f))
       last-given
       record-given
       block-given
+      embargo-given

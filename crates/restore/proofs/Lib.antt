@@ -9,6 +9,7 @@ pub mod Folding
 pub mod GivenBlocks
 pub mod GivenFiles
 pub mod GivenOpens
+pub mod GivenEmbargoes
 pub mod SameAgain
 pub mod GivenBack
 pub mod Bounds

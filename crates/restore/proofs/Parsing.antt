@@ -13,10 +13,11 @@ use Rattle.sizes.specs.declared.sizes.Sizes.{Sizes}
 use Rattle.sizes.specs.Sizes.{place, Permitted}
 use Rattle.protocol.specs.declared.entry.Entry.{Entry}
 use Rattle.protocol.specs.Entry.{recordAt}
-use Rattle.table.specs.TableStep.{entryOf}
+use Rattle.table.specs.TableStep.{entryOf, isEmbargoed}
 use Rattle.image.specs.Bytes.{low, below, entryIf, flat, section}
 use Rattle.image.specs.Image.{isListed, fileBytes, fileEntry, fileEntries, openBytes, openEntry, fileOpens, openEntries}
-use Rattle.image.specs.Image.{blockBytes, blockEntry, fileBlocks, blockEntries}
+use Rattle.image.specs.Image.{blockBytes, blockEntry, fileBlocks, blockEntries, embargoBytes, embargoEntry}
+use Rattle.image.specs.Image.{embargoEntries}
 use Rattle.image.proofs.SectionLaws.{Wide, length-flat}
 use Rattle.restore.specs.Decoded.{numberAt, entriesIn, sectionIn, pastSection}
 
@@ -62,6 +63,12 @@ module _ {z : Sizes} (most : Permitted z) where
       λ b. let v = getD blocks (place f b) 0 in short-if (not (eqb v 0)) (blockBytes f b v) in
       omega (arith, short-below 1 (z .blocks) y one, most .blocks) in
       omega (arith, short-below 8 (z .files) x each, most .files)
+
+  pub few-embargoes : (embargoed : List Bool) → length (embargoEntries z embargoed) < 65536
+  few-embargoes embargoed =
+      let x : ℕ → List (List ℕ) = λ i. embargoEntry i (isEmbargoed embargoed i) in
+      let each : (i : ℕ) → length (x i) ≤ 1 = λ i. short-if (isEmbargoed embargoed i) (embargoBytes i) in
+      omega (arith, short-below 1 (z .clients) x each, most .clients)
 
 -- ---- a section
 

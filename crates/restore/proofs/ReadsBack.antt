@@ -1,7 +1,8 @@
--- What was written reads back: reading the image of a service is a crash, with the versions and blocks of that service.
--- Assumes nothing.
+-- What was written reads back: reading the image of a service is a crash, with the versions, blocks and embargoes of
+-- that service. Assumes nothing.
 use Prim.Native.Nat.{ℕ, zero, suc, _<_}
 use mathlib.Core.Path.{_≡_, refl, ap, _∙_, subst⁻¹}
+use mathlib.Core.Bool.{Bool}
 use mathlib.Core.List.{List}
 use native.Mathlib.Omega.{arith}
 use lib.Dec.{eqb}
@@ -17,16 +18,16 @@ use Rattle.protocol.specs.declared.entry.Entry.{Entry}
 use Rattle.protocol.specs.declared.reply.Reply.the-variants.{Done}
 use Rattle.protocol.specs.declared.step.Step.the-variants.{Crash}
 use Rattle.protocol.specs.Reply.{noCalls, noGrants}
-use Rattle.table.specs.TableStep.{entryOf, tableStep}
+use Rattle.table.specs.TableStep.{entryOf, isEmbargoed, tableStep}
 use Rattle.service.specs.declared.service.Service.{Service}
 use Rattle.service.specs.Contents.{sizesOf, tableIn}
 use Rattle.service.specs.Step.{stepOf}
 use Rattle.service.specs.Demand3.{after}
 use Rattle.image.specs.Image.{imageOf}
-use Rattle.restore.specs.Decoded.{decodedFiles, decodedBlocks}
-use Rattle.restore.specs.Reading.{withVersion, withVersions, withBlocks, restored}
+use Rattle.restore.specs.Decoded.{decodedFiles, decodedBlocks, decodedEmbargoes}
+use Rattle.restore.specs.Reading.{withVersion, withVersions, withBlocks, withEmbargoes, restored}
 use Rattle.restore.specs.Exact.{ReadsBack}
-use Rattle.restore.proofs.Exact.{version-back, block-back, taken, accepts}
+use Rattle.restore.proofs.Exact.{version-back, block-back, embargo-back, taken, accepts}
 
 -- a version that is read again
 read-twice : (v : Version) → asRead (asRead v) ≡ asRead v
@@ -36,15 +37,18 @@ read-twice v = split (eqb (numberOf v) 0) (λ t. rw t) (λ t. rw (t, t))
 module _
     (s : Service)
     (others entries : List Entry)
-    (otherBlocks blocks : List ℕ) where
+    (otherBlocks blocks : List ℕ)
+    (otherEmbargoes embargoed : List Bool) where
   with-contents-alike :
       withVersions (sizesOf s .files) others (tableIn (after s Crash) .files)
       ≡ withVersions (sizesOf s .files) entries (tableIn (after s Crash) .files)
       → withBlocks (sizesOf s .files) (sizesOf s .blocks) otherBlocks (after s Crash .server .blocks)
       ≡ withBlocks (sizesOf s .files) (sizesOf s .blocks) blocks (after s Crash .server .blocks)
-      → restored s others otherBlocks ≡ restored s entries blocks
+      → withEmbargoes (sizesOf s .clients) otherEmbargoes (tableIn (after s Crash) .embargoed)
+      ≡ withEmbargoes (sizesOf s .clients) embargoed (tableIn (after s Crash) .embargoed)
+      → restored s others otherBlocks otherEmbargoes ≡ restored s entries blocks embargoed
   unfolding stepOf tableStep
-  with-contents-alike versions values =
+  with-contents-alike versions values embargoes =
       let crashed = after s Crash in
       λ k.
       record {
@@ -58,6 +62,7 @@ module _
                           files = versions k;
                           recovering = tableIn crashed .recovering;
                           reported = tableIn crashed .reported;
+                          embargoed = embargoes k;
                         };
                     blocks = values k;
                   };
@@ -107,5 +112,12 @@ reads-back s t fits sizes =
     blocks-alike n (sizesOf s .blocks) (decodedBlocks bytes) (t .server .blocks) (crashed .server .blocks)
     (λ f b hf hb.
     block-back t fits f b (below f hf) (subst⁻¹ (λ (z : Sizes). b < z .blocks) sizes hb)) in
+    let held = tableIn crashed .embargoed in
+    let embargoes : withEmbargoes (sizesOf s .clients) (decodedEmbargoes bytes) held
+    ≡ withEmbargoes (sizesOf s .clients) (tableIn t .embargoed) held =
+    stored-agree (sizesOf s .clients) (λ i. i) (isEmbargoed (decodedEmbargoes bytes))
+    (isEmbargoed (tableIn t .embargoed)) held
+    (λ i hi. embargo-back t fits i (subst⁻¹ (λ (z : Sizes). i < z .clients) sizes hi)) in
     taken s bytes (accepts s t bytes fits sizes refl)
-    ∙ with-contents-alike s (decodedFiles bytes) entries (decodedBlocks bytes) (t .server .blocks) versions blocks
+    ∙ with-contents-alike s (decodedFiles bytes) entries (decodedBlocks bytes) (t .server .blocks)
+    (decodedEmbargoes bytes) (tableIn t .embargoed) versions blocks embargoes

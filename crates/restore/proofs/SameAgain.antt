@@ -1,7 +1,7 @@
 -- Two servers whose contents read alike have the same image. Assumes nothing.
 use Prim.Native.Nat.{ℕ, zero, suc, _≤_, _<_}
 use mathlib.Core.Path.{_≡_, refl, sym, ap, _∙_}
-use mathlib.Core.Bool.{cond, not, _&&_}
+use mathlib.Core.Bool.{Bool, cond, not, _&&_}
 use mathlib.Core.List.{List, [], _∷_, _++_}
 use native.Mathlib.Omega.{arith}
 use lib.Dec.{eqb, ltb, leb}
@@ -15,10 +15,11 @@ use Rattle.sizes.specs.declared.sizes.Sizes.{Sizes}
 use Rattle.sizes.specs.Sizes.{maxClients, place, nobody, Permitted}
 use Rattle.protocol.specs.declared.entry.Entry.{Entry}
 use Rattle.protocol.specs.Entry.{recordAt}
-use Rattle.table.specs.TableStep.{entryOf}
+use Rattle.table.specs.TableStep.{entryOf, isEmbargoed}
 use Rattle.image.specs.Bytes.{low, below, entryIf, section}
 use Rattle.image.specs.Image.{sizeBytes, versionRead, lastRead, fileEntry, fileEntries, openEntry, fileOpens}
-use Rattle.image.specs.Image.{openEntries, blockEntry, fileBlocks, blockEntries, imageBytes}
+use Rattle.image.specs.Image.{openEntries, blockEntry, fileBlocks, blockEntries, embargoEntry, embargoEntries}
+use Rattle.image.specs.Image.{imageBytes}
 use Rattle.restore.proofs.GivenOpens.{openRead}
 
 below-agree {ℓ} :
@@ -66,6 +67,7 @@ module _
     (most : Permitted z)
     (others entries : List Entry)
     (otherBlocks blocks : List ℕ)
+    (otherEmbargoes embargoed : List Bool)
     (versions : (f : ℕ) → f < z .files → versionRead (entryOf others f) ≡ versionRead (entryOf entries f))
     (lasts : (f : ℕ) → f < z .files → entryOf others f .last ≡ lastRead (z .clients) (entryOf entries f))
     (records : (f i : ℕ)
@@ -75,7 +77,8 @@ module _
     (values : (f b : ℕ)
     → f < z .files
     → b < z .blocks
-    → getD otherBlocks (place f b) 0 ≡ getD blocks (place f b) 0) where
+    → getD otherBlocks (place f b) 0 ≡ getD blocks (place f b) 0)
+    (embargoes : (i : ℕ) → i < z .clients → isEmbargoed otherEmbargoes i ≡ isEmbargoed embargoed i) where
   files-again : fileEntries z others ≡ fileEntries z entries
   files-again =
       below-agree (z .files) (λ f. fileEntry (z .clients) f (entryOf others f))
@@ -99,7 +102,15 @@ module _
       below-agree (z .blocks) (λ b. blockEntry f b (getD otherBlocks (place f b) 0))
       (λ b. blockEntry f b (getD blocks (place f b) 0)) (λ b hb. ap (blockEntry f b) (values f b hf hb)))
 
-  pub image-again : imageBytes z others otherBlocks ≡ imageBytes z entries blocks
+  embargoes-again : embargoEntries z otherEmbargoes ≡ embargoEntries z embargoed
+  embargoes-again =
+      below-agree (z .clients) (λ i. embargoEntry i (isEmbargoed otherEmbargoes i))
+      (λ i. embargoEntry i (isEmbargoed embargoed i)) (λ i hi. ap (embargoEntry i) (embargoes i hi))
+
+  pub image-again : imageBytes z others otherBlocks otherEmbargoes ≡ imageBytes z entries blocks embargoed
   unfolding imageBytes
   image-again =
-      λ k. sizeBytes z ++ (section (files-again k) ++ (section (opens-again k) ++ section (blocks-again k)))
+      λ k.
+      sizeBytes z
+      ++ (section (files-again k)
+      ++ (section (opens-again k) ++ (section (blocks-again k) ++ section (embargoes-again k))))

@@ -1,7 +1,8 @@
--- What bytes hold, if they are an image: a server's entries and blocks, read from left to right. Numbers past the
--- arrays are wrapped, and nothing is tested here: bytes that are not the image of what they hold are no image
+-- What bytes hold, if they are an image: a server's entries, blocks and embargoes, read from left to right. Numbers
+-- past the arrays are wrapped, and nothing is tested here: bytes that are not the image of what they hold are no image
 -- (Reading.antt). What is promised of reading does not mention these definitions (Exact.antt).
 use Prim.Native.Nat.{ℕ, zero, suc, _+_, _*_, _%_}
+use mathlib.Core.Bool.{Bool, true, false}
 use mathlib.Core.List.{List, [], _∷_}
 use lib.Dec.{ltb}
 use lib.ListN.{getD, set, take, drop, replicate}
@@ -86,7 +87,14 @@ placeOf e = place (byteAt e 0 % maxFiles) (byteAt e 1 % maxBlocks)
 abbrev pub putBlock : List ℕ → List ℕ → List ℕ
 putBlock e blocks = set blocks (placeOf e) (numberAt 8 e 2)
 
--- where the three sections begin: after the three sizes, and each past the one before
+-- an entry of the section of embargoes
+abbrev pub embargoedOf : List ℕ → ℕ
+embargoedOf e = byteAt e 0 % maxClients
+
+abbrev pub putEmbargo : List ℕ → List Bool → List Bool
+putEmbargo e embargoed = set embargoed (embargoedOf e) true
+
+-- where the four sections begin: after the three sizes, and each past the one before
 abbrev pub filesPart : List ℕ → List ℕ
 filesPart bytes = drop 3 bytes
 
@@ -96,7 +104,10 @@ opensPart bytes = pastSection 6 (filesPart bytes)
 abbrev pub blocksPart : List ℕ → List ℕ
 blocksPart bytes = pastSection 5 (opensPart bytes)
 
--- "files not listed" are as at the start, and blocks not listed 0
+abbrev pub embargoesPart : List ℕ → List ℕ
+embargoesPart bytes = pastSection 10 (blocksPart bytes)
+
+-- "files not listed" are as at the start, blocks not listed 0, and clients not listed without embargo
 abbrev pub listedFiles : List ℕ → List Entry
 listedFiles bytes = placed putFile (sectionIn 6 (filesPart bytes)) (replicate maxFiles (freshEntry maxClients))
 
@@ -105,3 +116,6 @@ decodedFiles bytes = placed putOpen (sectionIn 5 (opensPart bytes)) (listedFiles
 
 unfoldable pub decodedBlocks : List ℕ → List ℕ
 decodedBlocks bytes = placed putBlock (sectionIn 10 (blocksPart bytes)) (replicate maxPlaces 0)
+
+unfoldable pub decodedEmbargoes : List ℕ → List Bool
+decodedEmbargoes bytes = placed putEmbargo (sectionIn 1 (embargoesPart bytes)) (replicate maxClients false)

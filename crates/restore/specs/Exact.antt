@@ -43,10 +43,11 @@ Exact = (s : Service) (bytes : List ℕ) → AreBytes bytes → AcceptsExactly s
 abbrev pub Starts : Type 0
 Starts = (t : Service) → Fits t → isRefused (readingOf (fresh (sizesIn (imageOf t))) (imageOf t) .reply) ≡ false
 
--- The image of t, read by any service s of the same sizes: the crash of s, with the versions and blocks of t.
+-- The image of t, read by any service s of the same sizes: the crash of s, with the versions, blocks and embargoes of
+-- t.
 abbrev pub ReadsBack : Type 0
 ReadsBack =
     (s t : Service)
     → Fits t
     → sizesOf t ≡ sizesOf s
-    → readingOf s (imageOf t) ≡ restored s (tableIn t .files) (t .server .blocks)
+    → readingOf s (imageOf t) ≡ restored s (tableIn t .files) (t .server .blocks) (tableIn t .embargoed)

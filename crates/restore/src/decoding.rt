@@ -1,12 +1,12 @@
-// What bytes hold, if they are an image: entries and blocks. Numbers are wrapped into the arrays, and nothing is
-// tested.
+// What bytes hold, if they are an image: entries, blocks and embargoes. Numbers are wrapped into the arrays, and
+// nothing is tested.
 ghost use Prim.Native.Nat.{_+_, _*_, _≤_, _<_};
 ghost use mathlib.Core.Path.{_≡_};
 ghost use lib.ListN.{take, drop};
 ghost use Rattle.restore.specs.Decoded.{numberAt, sectionIn, placed, withFile, putFile, recordOf};
-ghost use Rattle.restore.specs.Decoded.{withOpen, putOpen, putBlock};
+ghost use Rattle.restore.specs.Decoded.{withOpen, putOpen, putBlock, putEmbargo};
 ghost use Rattle.sizes.specs.Sizes.{maxPlaces};
-ghost use Rattle.restore.specs.Decoded.{placeOf, decodedFiles, decodedBlocks};
+ghost use Rattle.restore.specs.Decoded.{placeOf, decodedFiles, decodedBlocks, decodedEmbargoes};
 use crate::numbers::byte_at;
 use crate::numbers::eight_at;
 use crate::numbers::four_at;
@@ -78,7 +78,7 @@ fn with_open(bytes: &[u8], at: usize, mut entry: Entry) -> Entry
 
 // The entries with those of the section of opens that begins at the offset.
 fn take_opens(bytes: &[u8], at: usize, mut files: [Entry; MAX_FILES]) -> [Entry; MAX_FILES]
-    requires { ⌜ at ≤ 400000 ⌝ }
+    requires { ⌜ at ≤ 700000 ⌝ }
     ensures { λ r. ⌜ r ≡ placed putOpen (sectionIn 5 (drop at (now (bytes .entry)))) files ⌝ }
 {
     let count = two_at(bytes, at);
@@ -108,7 +108,7 @@ fn place_at(bytes: &[u8], at: usize) -> usize
 
 // The blocks with those of the section of blocks that begins at the offset.
 fn take_blocks(bytes: &[u8], at: usize, mut blocks: [u64; MAX_PLACES]) -> [u64; MAX_PLACES]
-    requires { ⌜ at ≤ 800000 ⌝ }
+    requires { ⌜ at ≤ 1400000 ⌝ }
     ensures { λ r. ⌜ r ≡ placed putBlock (sectionIn 10 (drop at (now (bytes .entry)))) blocks ⌝ }
 {
     let count = two_at(bytes, at);
@@ -123,12 +123,33 @@ fn take_blocks(bytes: &[u8], at: usize, mut blocks: [u64; MAX_PLACES]) -> [u64; 
     blocks
 }
 
+// The embargoes with those of the section of embargoes that begins at the offset.
+fn take_embargoes(
+    bytes: &[u8],
+    at: usize,
+    mut embargoed: [bool; MAX_CLIENTS],
+) -> [bool; MAX_CLIENTS]
+    requires { ⌜ at ≤ 2000000 ⌝ }
+    ensures { λ r. ⌜ r ≡ placed putEmbargo (sectionIn 1 (drop at (now (bytes .entry)))) embargoed ⌝ }
+{
+    let count = two_at(bytes, at);
+    let mut next = at + 2;
+    let mut k: u64 = 0;
+    while k < count {
+        let client = byte_at(bytes, next) as usize % MAX_CLIENTS;
+        embargoed[client] = true;
+        next += 1;
+        k += 1;
+    }
+    embargoed
+}
+
 // The offset past the section of entries of so many bytes that begins at the offset.
 fn past_section(bytes: &[u8], at: usize, width: usize) -> usize
-    requires { ⌜ at ≤ 400000 ⌝ }
-    requires { ⌜ width ≤ 6 ⌝ }
+    requires { ⌜ at ≤ 1400000 ⌝ }
+    requires { ⌜ width ≤ 10 ⌝ }
     ensures { λ r. ⌜ r ≡ at + (2 + width * numberAt 2 (now (bytes .entry)) at) ⌝ }
-    ensures { λ r. ⌜ r ≤ at + 393212 ⌝ }
+    ensures { λ r. ⌜ r ≤ at + 655352 ⌝ }
 {
     let count = two_at(bytes, at) as usize;
     at + (2 + width * count)
@@ -148,4 +169,13 @@ pub fn decode_blocks(bytes: &[u8]) -> [u64; MAX_PLACES]
     let opens = past_section(bytes, 3, 6);
     let blocks = past_section(bytes, opens, 5);
     take_blocks(bytes, blocks, [0; MAX_PLACES])
+}
+
+pub fn decode_embargoes(bytes: &[u8]) -> [bool; MAX_CLIENTS]
+    ensures { λ r. ⌜ r ≡ decodedEmbargoes (now (bytes .entry)) ⌝ }
+{
+    let opens = past_section(bytes, 3, 6);
+    let blocks = past_section(bytes, opens, 5);
+    let embargoes = past_section(bytes, blocks, 10);
+    take_embargoes(bytes, embargoes, [false; MAX_CLIENTS])
 }

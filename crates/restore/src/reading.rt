@@ -2,12 +2,14 @@
 ghost use Prim.Native.Nat.{_≤_, _<_};
 ghost use mathlib.Core.Path.{_≡_};
 ghost use lib.ListN.{length, take, getD};
-ghost use Rattle.sizes.specs.Sizes.{maxFiles, maxBlocks, place, Permitted};
+ghost use Rattle.sizes.specs.Sizes.{maxClients, maxFiles, maxBlocks, place, Permitted};
 ghost use Rattle.decision.specs.Lists.{stored};
 ghost use Rattle.image.specs.Image.{imageBytes};
 ghost use Rattle.restore.specs.Exact.{AcceptsExactly};
-ghost use Rattle.restore.specs.Reading.{sameBytes, withVersions, withBlocks, withContents, readingOf, sizesIn};
+ghost use Rattle.restore.specs.Reading.{sameBytes, withVersions, withBlocks, withEmbargoes, withContents};
+ghost use Rattle.restore.specs.Reading.{readingOf, sizesIn};
 use crate::decoding::decode_blocks;
+use crate::decoding::decode_embargoes;
 use crate::decoding::decode_files;
 use crate::numbers::byte_at;
 use image::IMAGE_ROOM;
@@ -37,8 +39,8 @@ pub fn image_sizes(bytes: &[u8]) -> Sizes
     }
 }
 
-// Takes the versions and blocks of the image, and is otherwise a crash. Refused with 17, the service stays as it came:
-// the bytes are not the image of what they hold.
+// Takes the versions, blocks and embargoes of the image, and is otherwise a crash. Refused with 17, the service stays
+// as it came: the bytes are not the image of what they hold.
 pub fn read_image(service: Service, bytes: &[u8]) -> Outcome
     ensures { λ r. ⌜ r ≡ readingOf service (now (bytes .entry)) ⌝ }
     ensures { λ r. ⌜ AcceptsExactly service (now (bytes .entry)) r ⌝ }
@@ -48,7 +50,8 @@ pub fn read_image(service: Service, bytes: &[u8]) -> Outcome
     let sizes = given.in_force();
     let files = decode_files(bytes);
     let blocks = decode_blocks(bytes);
-    if !is_image(bytes, sizes, files, &blocks) {
+    let embargoed = decode_embargoes(bytes);
+    if !is_image(bytes, sizes, files, &blocks, embargoed) {
         return Outcome {
             service,
             reply: Reply::Refused(NO_IMAGE),
@@ -58,25 +61,26 @@ pub fn read_image(service: Service, bytes: &[u8]) -> Outcome
     }
     let crashed = service.crashed();
     Outcome {
-        service: with_contents(crashed, files, &blocks),
+        service: with_contents(crashed, files, &blocks, embargoed),
         reply: Reply::Done,
         calls: [0; MAX_CLIENTS],
         grants: [none; MAX_FILES],
     }
 }
 
-// Whether the bytes are the image of these entries and blocks.
+// Whether the bytes are the image of these entries, blocks and embargoes.
 fn is_image(
     bytes: &[u8],
     sizes: Sizes,
     files: [Entry; MAX_FILES],
     blocks: &[u64; MAX_PLACES],
+    embargoed: [bool; MAX_CLIENTS],
 ) -> bool
     requires { ⌜ Permitted sizes ⌝ }
-    ensures { λ r. ⌜ r ≡ sameBytes (now (bytes .entry)) (imageBytes sizes files (now (blocks .entry))) ⌝ }
+    ensures { λ r. ⌜ r ≡ sameBytes (now (bytes .entry)) (imageBytes sizes files (now (blocks .entry)) embargoed) ⌝ }
 {
     let mut image = [0u8; IMAGE_ROOM];
-    let length = put_image(&mut image, sizes, files, blocks);
+    let length = put_image(&mut image, sizes, files, blocks, embargoed);
     same_bytes(bytes, &image, length)
 }
 
@@ -98,9 +102,14 @@ fn same_bytes(bytes: &[u8], others: &[u8], count: usize) -> bool
     true
 }
 
-// The service with these versions and blocks, as far as the sizes in force go.
-fn with_contents(service: Service, files: [Entry; MAX_FILES], blocks: &[u64; MAX_PLACES]) -> Service
-    ensures { λ r. ⌜ r ≡ withContents service files (now (blocks .entry)) ⌝ }
+// The service with these versions, blocks and embargoes, as far as the sizes in force go.
+fn with_contents(
+    service: Service,
+    files: [Entry; MAX_FILES],
+    blocks: &[u64; MAX_PLACES],
+    embargoed: [bool; MAX_CLIENTS],
+) -> Service
+    ensures { λ r. ⌜ r ≡ withContents service files (now (blocks .entry)) embargoed ⌝ }
 {
     let given = service.sizes;
     let sizes = given.in_force();
@@ -113,6 +122,7 @@ fn with_contents(service: Service, files: [Entry; MAX_FILES], blocks: &[u64; MAX
     let held = service.held;
     let dirty = service.dirty;
     let reported = table.reported;
+    let held_embargoed = table.embargoed;
     Service {
         sizes: given,
         server: Server {
@@ -120,6 +130,7 @@ fn with_contents(service: Service, files: [Entry; MAX_FILES], blocks: &[u64; MAX
                 files: with_versions(held_files, files, sizes.files),
                 recovering: table.recovering,
                 reported,
+                embargoed: with_embargoes(held_embargoed, embargoed, sizes.clients),
             },
             blocks: with_blocks(held_blocks, blocks, sizes),
         },
@@ -150,6 +161,23 @@ fn with_versions(
         f += 1;
     }
     files
+}
+
+// The embargoes with those of the others, for so many clients.
+fn with_embargoes(
+    mut embargoed: [bool; MAX_CLIENTS],
+    others: [bool; MAX_CLIENTS],
+    count: usize,
+) -> [bool; MAX_CLIENTS]
+    requires { ⌜ count ≤ maxClients ⌝ }
+    ensures { λ r. ⌜ r ≡ withEmbargoes count others embargoed ⌝ }
+{
+    let mut i = 0;
+    while i < count {
+        embargoed[i] = others[i];
+        i += 1;
+    }
+    embargoed
 }
 
 // The blocks with those of the others, as far as the sizes go.

@@ -1,6 +1,6 @@
--- Both mornings of the README, a service of small sizes with a recovery, an open with three callbacks, and restarts,
--- explained line by line from the definitions by evaluation; and the sentences of states that take many steps. Assumes
--- nothing.
+-- Both mornings of the README, a service of small sizes with a recovery, an open with three callbacks, restarts and
+-- embargoes, explained line by line from the definitions by evaluation; and the sentences of states that take many
+-- steps. Assumes nothing.
 use Prim.Native.Nat.{ℕ}
 use mathlib.Core.Path.{_≡_, refl}
 use mathlib.Core.Bool.{true}
@@ -15,9 +15,9 @@ use Rattle.protocol.specs.declared.step.Step.the-variants.{Open}
 use Rattle.protocol.specs.Entry.{freshEntry}
 use Rattle.protocol.specs.Reply.{grantsValues}
 use Rattle.access.specs.BlockStep.{blockStep}
-use Rattle.file.specs.FileStep.{fileStep, afterRestart}
+use Rattle.file.specs.FileStep.{fileStep, afterForgetting, afterDropping}
 use Rattle.table.specs.TableStep.{tableStep}
-use Rattle.service.specs.Restart.{restartedBelow, grantsBelow, allStep}
+use Rattle.service.specs.Embargo.{forgottenBelow, grantsBelow, droppedBelow, allStep}
 use Rattle.service.specs.Step.{stepOf}
 use Rattle.service.specs.Fresh.{fresh}
 use Rattle.stepfile.specs.Text.{bytes, decimal, digitsOf, valuesText}
@@ -243,18 +243,18 @@ pub record Examples : Type 0 where
       ≡ bytes "1 N 19    a setting lies outside its range: 1 to 8 stations, 1 to 64 files, 1 to 8 blocks\n"
   -- 12 and 14
   pub full :
-      refusalText defaultSizes [] (freshEntry 8) 0 (Open ForRead 5 3) 12
+      refusalText defaultSizes [] [] (freshEntry 8) 0 0 (Open ForRead 5 3) 12
       ≡ bytes "station 5 has file 3 open for read 255 times, the most there can be"
   pub spent :
-      refusalText defaultSizes [] (freshEntry 8) 0 (Open ForWrite 5 3) 14
+      refusalText defaultSizes [] [] (freshEntry 8) 0 0 (Open ForWrite 5 3) 14
       ≡ bytes "version 4294967295 is the last, and no write open of file 3 can raise it"
 
 pub examples : Examples
 unfolding fresh emptyLedger ledgerAfter stepOf fileStep blockStep tableStep stateOf permissionAtGrant orderedCalls
     count stored decimal digitsOf valuesText digitsOn numeral argument shapeOf shaped step parseLine settingOf
     replyCalls lines transcript serviceAfter numbersText callsText sentenceOf explainedText explainedLine
-    annotatedAfter lossesOn lossesBelow grantsText afterRestart restartedBelow grantsBelow allStep cameFrom lostBelow
-    grantsValues
+    annotatedAfter lossesOn lossesBelow grantsText afterForgetting afterDropping forgottenBelow grantsBelow droppedBelow
+    allStep cameFrom lostBelow grantsValues
 examples =
     record {
       wheat = refl;
@@ -265,4 +265,88 @@ examples =
       range = refl;
       full = refl;
       spent = refl;
+    }
+
+pub record Embargoes : Type 0 where
+  -- an embargo that loses a write and grants an open, what the station does under it, and how it is told
+  pub embargo :
+      explained
+      (joined
+      (bytes "OW 0 0\n"
+      ∷ bytes "WR 0 0 0 5\n"
+      ∷ bytes "OR 1 0\n"
+      ∷ bytes "EM 0 0\n"
+      ∷ bytes "RD 0 0 0\n"
+      ∷ bytes "WR 0 0 0 6\n"
+      ∷ bytes "RD 1 0 0\n"
+      ∷ bytes "OR 0 1\n"
+      ∷ bytes "LF 0\n"
+      ∷ bytes "LF 0\n"
+      ∷ bytes "EM 1 0\n"
+      ∷ []))
+      ≡ joined
+      (bytes "1 G 2 1 1    station 0 has file 0 open for write at version 2 and may cache; it had no copy\n"
+      ∷ bytes "2 K    station 0 writes file 0 block 0 in its copy\n"
+      ∷ bytes "3 W 0:3    station 1 waits to open file 0 for read, which is ONE_WRITER; station 0 is called"
+      ∷ bytes " to write back and drop its copy\n"
+      ∷ bytes "4 A 0 1 2 1 1    station 0 is put under embargo; files it had open: 0; writes lost: file 0"
+      ∷ bytes " block 0 at line 2; station 1 has file 0 open for read at version 2 and may cache; it had no"
+      ∷ bytes " copy\n"
+      ∷ bytes "5 V 5    station 0, file 0 block 0: from its own copy, dirty, since line 2; nothing is"
+      ∷ bytes " promised: it is under embargo since line 4\n"
+      ∷ bytes "6 K    station 0 writes file 0 block 0 in its copy; lost: it is under embargo since line 4\n"
+      ∷ bytes "7 V 0    station 1, file 0 block 0: from the server; as at the start; the write of station 0"
+      ∷ bytes " at line 6 was lost\n"
+      ∷ bytes "8 N 20    station 0 is under embargo since line 4\n"
+      ∷ bytes "9 K    station 0 is told of its embargo; files it had open: 0\n"
+      ∷ bytes "10 N 21    station 0 is not under embargo\n"
+      ∷ bytes "11 N 10    station 1 has no call to answer on file 0\n"
+      ∷ [])
+  -- an embargo while another call is out, one that grants two opens, and a recovery that waits for neither station
+  pub recovery :
+      explained
+      (joined
+      (bytes "SET 5 2 1\n"
+      ∷ bytes "OR 2 0\n"
+      ∷ bytes "OR 3 0\n"
+      ∷ bytes "OR 2 1\n"
+      ∷ bytes "OW 0 0\n"
+      ∷ bytes "OW 1 1\n"
+      ∷ bytes "EM 3 0\n"
+      ∷ bytes "EM 2 1\n"
+      ∷ bytes "XX\n"
+      ∷ bytes "EN\n"
+      ∷ []))
+      ≡ joined
+      (bytes "1 K    the service has 5 stations, 2 files of 1 blocks\n"
+      ∷ bytes "2 G 1 0 1    station 2 has file 0 open for read at version 1 and may cache; it had no copy\n"
+      ∷ bytes "3 G 1 0 1    station 3 has file 0 open for read at version 1 and may cache; it had no copy\n"
+      ∷ bytes "4 G 1 0 1    station 2 has file 1 open for read at version 1 and may cache; it had no copy\n"
+      ∷ bytes "5 W 2:2 3:2    station 0 waits to open file 0 for write, which is MULT_READERS; station 2 is"
+      ∷ bytes " called to drop its copy; station 3 is called to drop its copy\n"
+      ∷ bytes "6 W 2:2    station 1 waits to open file 1 for write, which is ONE_READER; station 2 is"
+      ∷ bytes " called to drop its copy\n"
+      ∷ bytes "7 A 0    station 3 is put under embargo; files it had open: 0; writes lost: none\n"
+      ∷ bytes "8 A 0 0 2 1 1 1 2 1 1    station 2 is put under embargo; files it had open: 0 1; writes lost:"
+      ∷ bytes " none; station 0 has file 0 open for write at version 2 and may cache; it had no copy; station"
+      ∷ bytes " 1 has file 1 open for write at version 2 and may cache; it had no copy\n"
+      ∷ bytes "9 K    the server crashes; every station has to report\n"
+      ∷ bytes "10 N 8    the recovery cannot end; stations still to report: 0 1 4\n"
+      ∷ [])
+  -- an embargo that no line has put
+  pub image :
+      refusalText defaultSizes [] [] (freshEntry 8) 0 0 (Open ForRead 5 3) 20
+      ≡ bytes "station 5 is under embargo, as the image has it"
+
+pub embargoes : Embargoes
+unfolding fresh emptyLedger ledgerAfter stepOf fileStep blockStep tableStep stateOf permissionAtGrant orderedCalls
+    count stored decimal digitsOf valuesText digitsOn numeral argument shapeOf shaped step parseLine settingOf
+    replyCalls lines transcript serviceAfter numbersText callsText sentenceOf explainedText explainedLine
+    annotatedAfter lossesOn lossesBelow grantsText afterForgetting afterDropping forgottenBelow grantsBelow droppedBelow
+    allStep cameFrom lostBelow grantsValues
+embargoes =
+    record {
+      embargo = refl;
+      recovery = refl;
+      image = refl;
     }

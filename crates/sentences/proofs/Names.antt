@@ -1,5 +1,5 @@
--- What the numbers of a step name; the same sentence where it names the same; and whether a step is a restart. Assumes
--- nothing.
+-- What the numbers of a step name; the same sentence where it names the same; and what is said of an embargo, and
+-- besides of a restart or a lift. Assumes nothing.
 use Prim.Native.Nat.{ℕ}
 use mathlib.Core.Path.{_≡_, refl, sym, ap, _∙_}
 use mathlib.Core.Bool.{Bool, true, false, cond}
@@ -15,13 +15,13 @@ use Rattle.protocol.specs.declared.reply.Grant.{Grant}
 use Rattle.protocol.specs.declared.step.Numbers.{Numbers}
 use Rattle.protocol.specs.declared.step.Step.{Step}
 use Rattle.protocol.specs.declared.step.Step.the-variants.{Open, Close, Read, Write, Flush, Answer, Crash, Report, End}
-use Rattle.protocol.specs.declared.step.Step.the-variants.{Restart}
+use Rattle.protocol.specs.declared.step.Step.the-variants.{Restart, Embargo, Lift}
 use Rattle.protocol.specs.Step.{numbersOf, clientOf, fileOf, blockOf}
 use Rattle.ledger.specs.declared.told.Told.{Told}
-use Rattle.phrases.specs.Accepted.{readText, grantText, waitText, answerText}
+use Rattle.phrases.specs.Accepted.{readText, grantText, waitText, answerText, doneText}
 use Rattle.phrases.specs.Refusal.{refusalText}
 use Rattle.sentences.specs.Scene.{Whole}
-use Rattle.sentences.specs.Explained.{restartText, restartedText}
+use Rattle.sentences.specs.Explained.{openedText, forgottenText, besidesText, embargoedText, isEmbargo}
 
 -- what the numbers of a step name, the step names
 module _ (x : Step) {q : Numbers} (is : q ≡ numbersOf x) where
@@ -54,26 +54,62 @@ pub wait-as :
 wait-as n kinds o p q r = λ k. waitText n (o k) (p k) (q k) (r k) kinds
 
 pub read-as :
-    (fresh : Bool) (t : Told) {i i′ f f′ b b′ : ℕ}
+    (fresh : Bool) (t : Told) {aside aside′ : Bool} {n n′ i i′ f f′ b b′ : ℕ}
+    → aside ≡ aside′
+    → n ≡ n′
     → i ≡ i′
     → f ≡ f′
     → b ≡ b′
-    → readText fresh t i f b ≡ readText fresh t i′ f′ b′
-read-as fresh t p q r = λ k. readText fresh t (p k) (q k) (r k)
+    → readText fresh t aside n i f b ≡ readText fresh t aside′ n′ i′ f′ b′
+read-as fresh t o m p q r = λ k. readText fresh t (o k) (m k) (p k) (q k) (r k)
 
 pub refusal-as :
-    (z : Sizes) (since : ℕ) (x : Step) (k : ℕ) {reported reported′ : List Bool} {e e′ : Entry}
+    (z : Sizes) (x : Step) (k : ℕ) {reported reported′ embargoed embargoed′ : List Bool} {e e′ : Entry}
+    {since since′ n n′ : ℕ}
     → reported ≡ reported′
+    → embargoed ≡ embargoed′
     → e ≡ e′
-    → refusalText z reported e since x k ≡ refusalText z reported′ e′ since x k
-refusal-as z since x n p q = λ k. refusalText z (p k) (q k) since x n
+    → since ≡ since′
+    → n ≡ n′
+    → refusalText z reported embargoed e since n x k ≡ refusalText z reported′ embargoed′ e′ since′ n′ x k
+refusal-as z x j o p q r s = λ k. refusalText z (o k) (p k) (q k) (r k) (s k) x j
+
+pub done-as :
+    (caching : Bool) (x : Step) {aside aside′ : Bool} {n n′ : ℕ}
+    → aside ≡ aside′
+    → n ≡ n′
+    → doneText caching aside n x ≡ doneText caching aside′ n′ x
+done-as caching x p q = λ k. doneText caching (p k) (q k) x
 
 pub answer-as : (n : ℕ) {i i′ f f′ : ℕ} → i ≡ i′ → f ≡ f′ → answerText n i f ≡ answerText n i′ f′
 answer-as n p q = λ k. answerText n (p k) (q k)
 
--- what is said besides of a restart, by the kind
+-- an embargo is told by the kind
+module _ (z : Sizes) (w : Whole) (x : Step) {q : Numbers} (is : q ≡ numbersOf x) where
+  same-kind : eqb (q .kind) 12 ≡ isEmbargo x
+  same-kind = ap (λ (r : Numbers). eqb (r .kind) 12) is
+
+  pub an-embargo :
+      (other : List ℕ)
+      → eqb (q .kind) 12 ≡ true
+      → embargoedText z w (q .client) ≡ cond (isEmbargo x) (embargoedText z w (clientOf x)) other
+  an-embargo other e =
+      ap (λ (i : ℕ). embargoedText z w i) (client-named x is)
+      ∙ sym (when (embargoedText z w (clientOf x)) other (sym same-kind ∙ e))
+
+  pub no-embargo :
+      (other : List ℕ)
+      → eqb (q .kind) 12 ≡ false
+      → other ≡ cond (isEmbargo x) (embargoedText z w (clientOf x)) other
+  no-embargo other e = sym (unless (embargoedText z w (clientOf x)) other (sym same-kind ∙ e))
+
+-- what is said besides of a restart or a lift, by the kind
 module _ (z : Sizes) (w : Whole) where
-  by-kind : (x : Step) → cond (eqb (numbersOf x .kind) 11) (restartText z w (clientOf x)) [] ≡ restartedText z w x
+  abbrev by-numbers : Numbers → List ℕ
+  by-numbers q =
+      cond (eqb (q .kind) 11) (forgottenText z w (q .client)) (cond (eqb (q .kind) 13) (openedText z w (q .client)) [])
+
+  by-kind : (x : Step) → by-numbers (numbersOf x) ≡ besidesText z w x
   by-kind (Open ForRead i f) = refl
   by-kind (Open ForWrite i f) = refl
   by-kind (Close ForRead i f) = refl
@@ -86,13 +122,24 @@ module _ (z : Sizes) (w : Whole) where
   by-kind (Report i) = refl
   by-kind End = refl
   by-kind (Restart i) = refl
+  by-kind (Embargo i f) = refl
+  by-kind (Lift i) = refl
 
   module _ (x : Step) {q : Numbers} (is : q ≡ numbersOf x) where
-    numbered : cond (eqb (q .kind) 11) (restartText z w (q .client)) [] ≡ restartedText z w x
-    numbered = ap (λ (r : Numbers). cond (eqb (r .kind) 11) (restartText z w (r .client)) []) is ∙ by-kind x
+    numbered : by-numbers q ≡ besidesText z w x
+    numbered = ap by-numbers is ∙ by-kind x
 
-    pub a-restart : eqb (q .kind) 11 ≡ true → restartText z w (q .client) ≡ restartedText z w x
-    a-restart e = sym (when (restartText z w (q .client)) [] e) ∙ numbered
+    pub a-restart : eqb (q .kind) 11 ≡ true → forgottenText z w (q .client) ≡ besidesText z w x
+    a-restart e =
+        sym (when (forgottenText z w (q .client)) (cond (eqb (q .kind) 13) (openedText z w (q .client)) []) e) ∙ numbered
 
-    pub no-restart : eqb (q .kind) 11 ≡ false → [] ≡ restartedText z w x
-    no-restart e = sym (unless (restartText z w (q .client)) [] e) ∙ numbered
+    no-restart :
+        eqb (q .kind) 11 ≡ false → cond (eqb (q .kind) 13) (openedText z w (q .client)) [] ≡ besidesText z w x
+    no-restart e =
+        sym (unless (forgottenText z w (q .client)) (cond (eqb (q .kind) 13) (openedText z w (q .client)) []) e) ∙ numbered
+
+    pub a-lift : eqb (q .kind) 11 ≡ false → eqb (q .kind) 13 ≡ true → openedText z w (q .client) ≡ besidesText z w x
+    a-lift e e′ = sym (when (openedText z w (q .client)) [] e′) ∙ no-restart e
+
+    pub neither : eqb (q .kind) 11 ≡ false → eqb (q .kind) 13 ≡ false → [] ≡ besidesText z w x
+    neither e e′ = sym (unless (openedText z w (q .client)) [] e′) ∙ no-restart e

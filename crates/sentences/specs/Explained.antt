@@ -17,10 +17,10 @@ use Rattle.protocol.specs.declared.reply.Reply.the-variants.{Granted, Waiting, 
 use Rattle.protocol.specs.declared.reply.Reply.the-variants.{AnsweredGrant, Done}
 use Rattle.protocol.specs.declared.step.Step.{Step}
 use Rattle.protocol.specs.declared.step.Step.the-variants.{Open, Close, Read, Write, Flush, Answer, Crash, Report, End}
-use Rattle.protocol.specs.declared.step.Step.the-variants.{Restart}
+use Rattle.protocol.specs.declared.step.Step.the-variants.{Restart, Embargo, Lift}
 use Rattle.protocol.specs.Client.{sideOf}
 use Rattle.protocol.specs.Entry.{recordAt, waits}
-use Rattle.protocol.specs.Step.{clientOf, fileOf, blockOf, modeOf}
+use Rattle.protocol.specs.Step.{numbersOf, clientOf, fileOf, blockOf, modeOf}
 use Rattle.service.specs.declared.service.Service.{Service}
 use Rattle.service.specs.Step.{stepOf}
 use Rattle.stepfile.specs.declared.parsed.Parsed.{Parsed}
@@ -34,14 +34,15 @@ use Rattle.stepfile.specs.Line.{replyText}
 use Rattle.stepfile.specs.Played.{outcomeOf}
 use Rattle.ledger.specs.declared.annotated.Annotated.{Annotated}
 use Rattle.ledger.specs.declared.ledger.Ledger.{Ledger}
-use Rattle.phrases.specs.Phrase.{listText}
-use Rattle.phrases.specs.Accepted.{readText, grantText, waitText, answerText, stillText, doneText, lossesText}
+use Rattle.phrases.specs.Phrase.{clientText, listText}
+use Rattle.phrases.specs.Accepted.{readText, grantText, waitText, answerText, stillText, doneText, risksText}
 use Rattle.phrases.specs.Refusal.{refusalText}
 use Rattle.sentences.specs.Scene.{Scene, sceneOf, Whole, wholeOf}
 
--- ---- restarts
+-- ---- restarts, embargoes and lifts
 
--- whether a restart of client i has granted an open: it was another's and waited before, and none waits after
+-- whether a restart or an embargo of client i has granted an open: it was another's and waited before, and none waits
+-- after
 abbrev pub grants : ℕ → ℕ → Entry → Entry → Bool
 grants n i e e′ = waits n e && (not (eqb (e .waiter) i) && not (waits n e′))
 
@@ -68,27 +69,40 @@ grantsText n w i zero = []
 grantsText n w i (suc f) =
     grantsText n w i f ++ grantedText n i (w .entry f) (w .after f) (w .side (w .entry f .waiter) f) f
 
--- what is said of a restart of client i besides that it restarts: what it had open, by its own record, which writes are
--- lost, and which opens of others are granted
-abbrev pub restartText : Sizes → Whole → ℕ → List ℕ
-restartText z w i =
-    bytes "; files it had open:"
-    ++ (listText (z .files) (λ f. isOpen (w .side i f .opens))
-    ++ (bytes "; writes lost:"
-    ++ (lossesText (w .lines) i (z .files) (z .blocks) ++ grantsText (z .clients) w i (z .files))))
+-- what client i had open, by its own record
+abbrev pub openedText : Sizes → Whole → ℕ → List ℕ
+openedText z w i = bytes "; files it had open:" ++ listText (z .files) (λ f. isOpen (w .side i f .opens))
 
--- of any other step nothing more is said
-abbrev pub restartedText : Sizes → Whole → Step → List ℕ
-restartedText z w (Open m i f) = []
-restartedText z w (Close m i f) = []
-restartedText z w (Read i f b) = []
-restartedText z w (Write i f b v) = []
-restartedText z w (Flush i f b) = []
-restartedText z w (Answer i f) = []
-restartedText z w Crash = []
-restartedText z w (Report i) = []
-restartedText z w End = []
-restartedText z w (Restart i) = restartText z w i
+-- what is said of a client i that the server forgets: what it had open, which writes are lost, and which opens of
+-- others are granted
+abbrev pub forgottenText : Sizes → Whole → ℕ → List ℕ
+forgottenText z w i =
+    openedText z w i
+    ++ (bytes "; writes lost:"
+    ++ (risksText (w .lines) i (z .files) (z .blocks) ++ grantsText (z .clients) w i (z .files)))
+
+-- what is said of an accepted restart or lift besides that it comes; of any other step nothing more
+abbrev pub besidesText : Sizes → Whole → Step → List ℕ
+besidesText z w (Open m i f) = []
+besidesText z w (Close m i f) = []
+besidesText z w (Read i f b) = []
+besidesText z w (Write i f b v) = []
+besidesText z w (Flush i f b) = []
+besidesText z w (Answer i f) = []
+besidesText z w Crash = []
+besidesText z w (Report i) = []
+besidesText z w End = []
+besidesText z w (Restart i) = forgottenText z w i
+besidesText z w (Embargo i f) = []
+besidesText z w (Lift i) = openedText z w i
+
+-- an accepted embargo of client i
+abbrev pub embargoedText : Sizes → Whole → ℕ → List ℕ
+embargoedText z w i = clientText i ++ (bytes " is put under embargo" ++ forgottenText z w i)
+
+-- an embargo is answered as an answer is, and is told by its kind
+abbrev pub isEmbargo : Step → Bool
+isEmbargo x = eqb (numbersOf x .kind) 12
 
 -- ---- steps
 
@@ -99,14 +113,20 @@ saidOf fresh c w x kinds (Granted g) =
     grantText (modeOf x) g (sideOf (c .sides) (clientOf x)) (clientOf x) (fileOf x)
 saidOf fresh c w x kinds Waiting =
     waitText (c .sizes .clients) (c .entry) (modeOf x) (clientOf x) (fileOf x) kinds
-saidOf fresh c w x kinds (Value v) = readText fresh (c .told) (clientOf x) (fileOf x) (blockOf x)
-saidOf fresh c w x kinds (Refused k) = refusalText (c .sizes) (c .reported) (c .entry) (c .since) x k
+saidOf fresh c w x kinds (Value v) =
+    readText fresh (c .told) (c .aside) (c .embargo) (clientOf x) (fileOf x) (blockOf x)
+saidOf fresh c w x kinds (Refused k) =
+    refusalText (c .sizes) (c .reported) (c .embargoed) (c .entry) (c .since) (c .embargo) x k
 saidOf fresh c w x kinds (Answered n) =
-    answerText n (clientOf x) (fileOf x) ++ stillText (c .sizes .clients) (c .after)
+    cond (isEmbargo x)
+    (embargoedText (c .sizes) w (clientOf x))
+    (answerText n (clientOf x) (fileOf x) ++ stillText (c .sizes .clients) (c .after))
 saidOf fresh c w x kinds (AnsweredGrant n i g) =
-    answerText n (clientOf x) (fileOf x)
-    ++ (bytes "; " ++ grantText (c .entry .mode) g (sideOf (c .sides) i) i (fileOf x))
-saidOf fresh c w x kinds Done = doneText (c .caching) x ++ restartedText (c .sizes) w x
+    cond (isEmbargo x)
+    (embargoedText (c .sizes) w (clientOf x))
+    (answerText n (clientOf x) (fileOf x)
+    ++ (bytes "; " ++ grantText (c .entry .mode) g (sideOf (c .sides) i) i (fileOf x)))
+saidOf fresh c w x kinds Done = doneText (c .caching) (c .aside) (c .embargo) x ++ besidesText (c .sizes) w x
 
 unfoldable pub sentenceOf : Bool → Service → Ledger → Step → List ℕ
 sentenceOf fresh s l x =

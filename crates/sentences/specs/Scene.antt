@@ -1,33 +1,34 @@
 -- What a sentence looks at besides the step and its reply.
 use Prim.Native.Nat.{ℕ, _+_, _*_, _%_}
-use mathlib.Core.Bool.{Bool, cond}
+use mathlib.Core.Bool.{Bool, false, cond}
 use mathlib.Core.List.{List}
-use lib.Dec.{eqb}
+use lib.Dec.{leb}
 use lib.ListN.{getD}
 use Rattle.sizes.specs.declared.sizes.Sizes.{Sizes}
-use Rattle.sizes.specs.Sizes.{maxFiles}
+use Rattle.sizes.specs.Sizes.{maxClients, maxFiles}
 use Rattle.decision.specs.Lists.{stored}
 use Rattle.protocol.specs.declared.client.ClientFile.{ClientFile}
 use Rattle.protocol.specs.declared.client.Sides.{Sides}
 use Rattle.protocol.specs.declared.entry.Entry.{Entry}
 use Rattle.protocol.specs.declared.step.Step.{Step}
 use Rattle.protocol.specs.Client.{sideOf}
-use Rattle.protocol.specs.Step.{fileOf}
+use Rattle.protocol.specs.Step.{clientOf, fileOf}
 use Rattle.words.specs.Rows.{rowWords, tableWords, entryHeld, sidesHeld}
 use Rattle.service.specs.declared.service.Service.{Service}
 use Rattle.service.specs.Contents.{sizesOf, tableIn, entryAt, sidesAt, clientAt}
-use Rattle.service.specs.Lent.{reportedHeld}
+use Rattle.service.specs.Lent.{reportedHeld, embargoedHeld}
 use Rattle.service.specs.Step.{stepOf}
 use Rattle.ledger.specs.declared.ledger.Ledger.{Ledger}
 use Rattle.ledger.specs.declared.lines.Lines.{Lines}
 use Rattle.ledger.specs.declared.told.Told.{Told}
-use Rattle.ledger.specs.Ledger.{waitingSince, mayCache, stepTold, linesAt}
+use Rattle.ledger.specs.Ledger.{waitingSince, embargoedSince, mayCache, isAside, stepTold, linesAt}
 
 -- of the file that the step names; of file 0 where it names none
 pub record Scene : Type 0 where
-  -- the sizes in force, and who has reported, before the step
+  -- the sizes in force, who has reported, and who is under embargo, before the step
   pub sizes : Sizes
   pub reported : List Bool
+  pub embargoed : List Bool
   -- the server's entry of the file, before the step and after it
   pub entry : Entry
   pub after : Entry
@@ -35,6 +36,9 @@ pub record Scene : Type 0 where
   pub sides : Sides
   -- the line since which an open of the file waits
   pub since : ℕ
+  -- whether the client is under embargo, and the line since which it is so
+  pub aside : Bool
+  pub embargo : ℕ
   -- what is told of a read
   pub told : Told
   -- whether the client may cache the file
@@ -46,15 +50,18 @@ sceneOf s l x =
     record {
       sizes = sizesOf s;
       reported = tableIn s .reported;
+      embargoed = tableIn s .embargoed;
       entry = entryAt s (fileOf x);
       after = entryAt (stepOf s x .service) (fileOf x);
       sides = sidesAt s (fileOf x);
       since = waitingSince l (fileOf x);
+      aside = isAside s x;
+      embargo = embargoedSince l (clientOf x);
       told = stepTold s l x;
       caching = mayCache s x;
     }
 
--- of every file, which is what a restart is told by
+-- of every file, which is what a restart and an embargo are told by
 pub record Whole : Type 0 where
   -- the server's entry of a file, before the step and after it
   pub entry : ℕ → Entry
@@ -76,27 +83,35 @@ wholeOf s l x =
 -- ---- in lent arrays
 
 -- The words of the table that are kept from before a step, in an array as long as the table: those of the row of its
--- file; before a restart, whose kind is 11, all of them.
+-- file; before a step on all files, whose kinds are those from 11 on, all of them.
 abbrev pub keptFrom : ℕ → ℕ → ℕ
-keptFrom kind f = cond (eqb kind 11) 0 (f % maxFiles * rowWords)
+keptFrom kind f = cond (leb 11 kind) 0 (f % maxFiles * rowWords)
 
 abbrev pub keptWords : ℕ → ℕ
-keptWords kind = cond (eqb kind 11) tableWords rowWords
+keptWords kind = cond (leb 11 kind) tableWords rowWords
 
 abbrev pub keptBefore : ℕ → ℕ → List ℕ → List ℕ → List ℕ
 keptBefore kind f t before =
     stored (keptWords kind) (λ k. keptFrom kind f + k) (λ k. getD t (keptFrom kind f + k) 0) before
 
--- what is held by the words that are kept from before the step x, and by the table and the flags after it
-abbrev pub sceneHeld : Sizes → Step → List ℕ → List ℕ → List Bool → ℕ → Told → Bool → Scene
+-- whether the flags have a client, which is wrapped, under embargo
+abbrev pub asideHeld : List Bool → ℕ → Bool
+asideHeld flags i = getD flags (maxClients + 1 + i % maxClients) false
+
+-- what is held by the words that are kept from before the step x, by the table and the flags after it, and by the lines
+-- before it since which opens wait and clients are under embargo
+abbrev pub sceneHeld : Sizes → Step → List ℕ → List ℕ → List Bool → List ℕ → Told → Bool → Scene
 sceneHeld z x before t flags since told caching =
     record {
       sizes = z;
       reported = reportedHeld flags;
+      embargoed = embargoedHeld flags;
       entry = entryHeld before (fileOf x % maxFiles);
       after = entryHeld t (fileOf x % maxFiles);
       sides = sidesHeld before (fileOf x % maxFiles);
-      since = since;
+      since = getD since (fileOf x % maxFiles) 0;
+      aside = asideHeld flags (clientOf x);
+      embargo = getD since (maxFiles + clientOf x % maxClients) 0;
       told = told;
       caching = caching;
     }

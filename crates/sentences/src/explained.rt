@@ -14,6 +14,7 @@ ghost use Rattle.writer.specs.Buffer.{Wrote, WroteIfRoom};
 ghost use Rattle.sentences.specs.Scene.{sceneHeld, wholeHeld};
 ghost use Rattle.sentences.specs.Explained.{saidOf, settingText, explainedText, explainedRoom};
 use crate::sentence::put_sentence;
+use ledger::BEGINNINGS;
 use ledger::NOTES;
 use ledger::Told;
 use phrases::put_text;
@@ -49,7 +50,7 @@ pub fn explain_step(
     flags: &[bool; FLAGS],
     written: &[u64; NOTES],
     writers: &[u8; NOTES],
-    since: u64,
+    since: &[u64; BEGINNINGS],
     told: Told,
     caching: bool,
 ) -> usize
@@ -65,7 +66,8 @@ pub fn explain_step(
         → WroteIfRoom explainedRoom (now (out .entry)) at
         (explainedText number reply calls granted
         (saidOf fresh
-        (sceneHeld sizes step (now (before .entry)) (now (table .entry)) (now (flags .entry)) since told caching)
+        (sceneHeld sizes step (now (before .entry)) (now (table .entry)) (now (flags .entry))
+        (now (since .entry)) told caching)
         (wholeHeld (now (before .entry)) (now (table .entry))
         (linesAt (entered (now (written .entry)) (now (writers .entry)) [] [])))
         step calls reply))

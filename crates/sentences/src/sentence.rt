@@ -9,15 +9,23 @@ ghost use Rattle.service.specs.Lent.{lentFlags};
 ghost use Rattle.ledger.specs.Ledger.{entered, linesAt};
 ghost use Rattle.writer.specs.Buffer.{Wrote};
 ghost use Rattle.sentences.specs.Scene.{sceneHeld, wholeHeld};
-ghost use Rattle.sentences.specs.Explained.{saidOf, restartedText};
-use crate::restart::put_restart;
+ghost use Rattle.sentences.specs.Explained.{saidOf, besidesText, embargoedText};
+use crate::forgotten::put_files_open;
+use crate::forgotten::put_forgotten;
+use crate::scene::EMBARGO;
+use crate::scene::LIFT;
 use crate::scene::RESTART;
+use crate::scene::embargo_since;
+use crate::scene::embargoed_in;
+use crate::scene::is_aside;
 use crate::scene::reported_in;
 use crate::scene::side_in;
+use ledger::BEGINNINGS;
 use ledger::NOTES;
 use ledger::Told;
 use phrases::mode_by_kind;
 use phrases::put_answer;
+use phrases::put_client;
 use phrases::put_done;
 use phrases::put_grant;
 use phrases::put_read;
@@ -52,23 +60,24 @@ pub fn put_sentence(
     flags: &[bool; FLAGS],
     written: &[u64; NOTES],
     writers: &[u8; NOTES],
-    since: u64,
+    since: &[u64; BEGINNINGS],
     told: Told,
     caching: bool,
 ) -> usize
     requires { ⌜ Permitted sizes ⌝ }
-    requires { ⌜ at + 55368 ≤ length (now out) ⌝ }
+    requires { ⌜ at + 55427 ≤ length (now out) ⌝ }
     requires { ⌜ length (now before) ≡ tableWords ⌝ }
     requires { ⌜ length (now table) ≡ tableWords ⌝ }
     requires { ⌜ length (now flags) ≡ lentFlags ⌝ }
     ensures { λ r. ⌜ Wrote (now (out .entry)) at
         (saidOf fresh
-        (sceneHeld sizes step (now (before .entry)) (now (table .entry)) (now (flags .entry)) since told caching)
+        (sceneHeld sizes step (now (before .entry)) (now (table .entry)) (now (flags .entry))
+        (now (since .entry)) told caching)
         (wholeHeld (now (before .entry)) (now (table .entry))
         (linesAt (entered (now (written .entry)) (now (writers .entry)) [] [])))
         step calls reply)
         (now (out .exit)) r ⌝ }
-    ensures { λ r. ⌜ r ≤ at + 55368 ⌝ }
+    ensures { λ r. ⌜ r ≤ at + 55427 ⌝ }
 {
     let named = asked(step);
     let client = named.client;
@@ -85,18 +94,51 @@ pub fn put_sentence(
             let entry = entry_at(before, row);
             put_wait(out, at, sizes.clients, entry, mode, client, file, calls)
         }
-        Reply::Value(_) => put_read(out, at, fresh, told, client, file, named.block),
+        Reply::Value(_) => {
+            let aside = is_aside(flags, client);
+            let embargo = embargo_since(since, client);
+            put_read(
+                out,
+                at,
+                fresh,
+                told,
+                aside,
+                embargo,
+                client,
+                file,
+                named.block,
+            )
+        }
         Reply::Refused(number) => {
             let reported = reported_in(flags);
+            let embargoed = embargoed_in(flags);
             let entry = entry_at(before, row);
-            put_refusal(out, at, sizes, reported, entry, since, step, number)
+            let begun = embargo_since(since, client);
+            put_refusal(
+                out,
+                at,
+                sizes,
+                reported,
+                embargoed,
+                entry,
+                since[row],
+                begun,
+                step,
+                number,
+            )
         }
         Reply::Answered(sent) => {
+            if named.kind == EMBARGO {
+                return put_embargoed(out, at, sizes, client, before, table, written, writers);
+            }
             let after = entry_at(table, row);
             let still = put_answer(out, at, sent, client, file);
             put_still(out, still, sizes.clients, after)
         }
         Reply::AnsweredGrant(sent, opener, grant) => {
+            if named.kind == EMBARGO {
+                return put_embargoed(out, at, sizes, client, before, table, written, writers);
+            }
             let mode = mode_of(before[row * ROW + 1]);
             let own = side_in(before, row, opener as usize);
             let open = put_answer(out, at, sent, client, file);
@@ -104,14 +146,44 @@ pub fn put_sentence(
             put_grant(out, granted, mode, grant, own, opener as usize, file)
         }
         Reply::Done => {
-            let more = put_done(out, at, caching, step);
-            put_restarted(out, more, sizes, step, before, table, written, writers)
+            let aside = is_aside(flags, client);
+            let embargo = embargo_since(since, client);
+            let more = put_done(out, at, caching, aside, embargo, step);
+            put_besides(out, more, sizes, step, before, table, written, writers)
         }
     }
 }
 
-// What is said besides of a restart.
-fn put_restarted(
+// What is said of an embargo.
+fn put_embargoed(
+    out: &mut [u8],
+    at: usize,
+    sizes: Sizes,
+    client: usize,
+    before: &[u64; WORDS],
+    table: &[u64; WORDS],
+    written: &[u64; NOTES],
+    writers: &[u8; NOTES],
+) -> usize
+    requires { ⌜ Permitted sizes ⌝ }
+    requires { ⌜ at + 55315 ≤ length (now out) ⌝ }
+    requires { ⌜ length (now before) ≡ tableWords ⌝ }
+    requires { ⌜ length (now table) ≡ tableWords ⌝ }
+    ensures { λ r. ⌜ Wrote (now (out .entry)) at
+        (embargoedText sizes
+        (wholeHeld (now (before .entry)) (now (table .entry))
+        (linesAt (entered (now (written .entry)) (now (writers .entry)) [] [])))
+        client)
+        (now (out .exit)) r ⌝ }
+    ensures { λ r. ⌜ r ≤ at + 55315 ⌝ }
+{
+    let word = put_client(out, at, client);
+    let tail = put_text(out, word, b" is put under embargo");
+    put_forgotten(out, tail, sizes, client, before, table, written, writers)
+}
+
+// What is said besides of a restart and of a lift.
+fn put_besides(
     out: &mut [u8],
     at: usize,
     sizes: Sizes,
@@ -126,7 +198,7 @@ fn put_restarted(
     requires { ⌜ length (now before) ≡ tableWords ⌝ }
     requires { ⌜ length (now table) ≡ tableWords ⌝ }
     ensures { λ r. ⌜ Wrote (now (out .entry)) at
-        (restartedText sizes
+        (besidesText sizes
         (wholeHeld (now (before .entry)) (now (table .entry))
         (linesAt (entered (now (written .entry)) (now (writers .entry)) [] [])))
         step)
@@ -134,17 +206,12 @@ fn put_restarted(
     ensures { λ r. ⌜ r ≤ at + 55266 ⌝ }
 {
     let named = asked(step);
-    if named.kind != RESTART {
-        return at;
+    let client = named.client;
+    if named.kind == RESTART {
+        return put_forgotten(out, at, sizes, client, before, table, written, writers);
     }
-    put_restart(
-        out,
-        at,
-        sizes,
-        named.client,
-        before,
-        table,
-        written,
-        writers,
-    )
+    if named.kind == LIFT {
+        return put_files_open(out, at, sizes, client, before);
+    }
+    at
 }

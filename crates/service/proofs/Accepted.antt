@@ -7,23 +7,24 @@ use mathlib.Core.List.{List, [], _∷_}
 use lib.Dec.{eqb}
 use Rattle.sizes.specs.declared.sizes.Sizes.{Sizes}
 use Rattle.decision.specs.Lists.{firstOf}
+use Rattle.protocol.specs.declared.reply.Granting.{Granting}
 use Rattle.protocol.specs.declared.reply.Reply.the-variants.{Refused, Done}
 use Rattle.protocol.specs.declared.step.Step.{Step}
 use Rattle.protocol.specs.declared.step.Step.the-variants.{Open, Close, Read, Write, Flush, Answer, Crash, Report, End}
-use Rattle.protocol.specs.declared.step.Step.the-variants.{Restart}
+use Rattle.protocol.specs.declared.step.Step.the-variants.{Restart, Embargo, Lift}
 use Rattle.protocol.specs.Entry.{callTo, callsFor, callsOut}
 use Rattle.protocol.specs.Refusal.{Test, openTests, closeTests, readTests, writeTests, flushTests, answerTests}
-use Rattle.protocol.specs.Refusal.{restartTests}
+use Rattle.protocol.specs.Refusal.{restartTests, embargoTests, liftTests}
 use Rattle.protocol.specs.Reply.{isRefused}
 use Rattle.access.specs.BlockStep.{afterRead, afterWrite, blockStep}
-use Rattle.protocol.specs.Reply.{noCalls, noGrants, placed}
+use Rattle.protocol.specs.Reply.{noCalls, noGrants}
 use Rattle.file.specs.FileStep.{FileAfter, afterOpen, afterClose, afterFlush, answered, afterAnswer, fileStep}
 use Rattle.table.specs.TableStep.{reportTests, endTests, crashed, reported, ended, tableStep}
 use Rattle.service.specs.declared.service.Service.{Service}
 use Rattle.service.specs.declared.outcome.Outcome.{Outcome}
-use Rattle.service.specs.Contents.{sizesOf, tableIn, entryAt, reportedAt, clientAt, heldAt, dirtyAt, fileAt}
+use Rattle.service.specs.Contents.{sizesOf, tableIn, entryAt, reportedAt, embargoedAt, clientAt, heldAt, dirtyAt, fileAt}
 use Rattle.service.specs.Contents.{storesOf}
-use Rattle.service.specs.Restart.{grantsBelow, restarted, allStep}
+use Rattle.service.specs.Embargo.{grantsAside, putAside, told, restarted, granting, answering, allStep}
 use Rattle.service.specs.Step.{fileOutcome, blockOutcome, tableOutcome, stepOf}
 use Rattle.service.specs.Demand3.{refused, after}
 use Rattle.service.proofs.Tests.{split, either, conflict, when, unless}
@@ -59,17 +60,22 @@ passed (t ∷ ts) n e =
 -- ---- what a step tests and does, where z are the sizes in force
 
 abbrev pub testsOf : Sizes → Service → Step → List Test
-testsOf z s (Open m i f) = openTests z (tableIn s .recovering) (entryAt s f) (clientAt s i f) m i f
-testsOf z s (Close m i f) = closeTests z (tableIn s .recovering) (entryAt s f) (clientAt s i f) m i f
+testsOf z s (Open m i f) =
+    openTests z (embargoedAt s i) (tableIn s .recovering) (entryAt s f) (clientAt s i f) m i f
+testsOf z s (Close m i f) =
+    closeTests z (embargoedAt s i) (tableIn s .recovering) (entryAt s f) (clientAt s i f) m i f
 testsOf z s (Read i f b) =
-    readTests z (tableIn s .recovering) (reportedAt s i) (clientAt s i f) (heldAt s i f b) i f b
-testsOf z s (Write i f b v) = writeTests z (tableIn s .recovering) (reportedAt s i) (clientAt s i f) i f b
-testsOf z s (Flush i f b) = flushTests z (tableIn s .recovering) (dirtyAt s i f b) i f b
-testsOf z s (Answer i f) = answerTests z (tableIn s .recovering) (entryAt s f) i f
+    readTests z (embargoedAt s i) (tableIn s .recovering) (reportedAt s i) (clientAt s i f) (heldAt s i f b) i f b
+testsOf z s (Write i f b v) =
+    writeTests z (embargoedAt s i) (tableIn s .recovering) (reportedAt s i) (clientAt s i f) i f b v
+testsOf z s (Flush i f b) = flushTests z (embargoedAt s i) (tableIn s .recovering) (dirtyAt s i f b) i f b
+testsOf z s (Answer i f) = answerTests z (embargoedAt s i) (tableIn s .recovering) (entryAt s f) i f
 testsOf z s Crash = []
-testsOf z s (Report i) = reportTests z (tableIn s .recovering) (tableIn s .reported) i
-testsOf z s End = endTests z (tableIn s .recovering) (tableIn s .reported)
+testsOf z s (Report i) = reportTests z (tableIn s .recovering) (tableIn s .reported) (tableIn s .embargoed) i
+testsOf z s End = endTests z (tableIn s .recovering) (tableIn s .reported) (tableIn s .embargoed)
 testsOf z s (Restart i) = restartTests z i
+testsOf z s (Embargo i f) = embargoTests z (tableIn s .recovering) (entryAt s f) i f
+testsOf z s (Lift i) = liftTests z (embargoedAt s i) i
 
 abbrev pub doneOf : Sizes → Service → Step → Outcome
 doneOf z s (Open m i f) = fileOutcome s f (afterOpen z (fileAt s f) (storesOf s) m i f)
@@ -81,8 +87,9 @@ doneOf z s (Answer i f) = fileOutcome s f (afterAnswer z (fileAt s f) (storesOf 
 doneOf z s Crash = tableOutcome s (record { table = crashed z (tableIn s); reply = Done })
 doneOf z s (Report i) = tableOutcome s (record { table = reported z (tableIn s) (s .clients) i; reply = Done })
 doneOf z s End = tableOutcome s (record { table = ended z (tableIn s); reply = Done })
-doneOf z s (Restart i) =
-    record { service = restarted z s i; reply = Done; calls = noCalls; grants = placed (grantsBelow z i (z .files) s) }
+doneOf z s (Restart i) = granting (restarted z s i) Done (grantsAside z s i)
+doneOf z s (Embargo i f) = answering (putAside z s i) (grantsAside z s i)
+doneOf z s (Lift i) = record { service = told z s i; reply = Done; calls = noCalls; grants = noGrants }
 
 all-numbered : (z : Sizes) (s : Service) (x : Step) → numbered (testsOf z s x) ≡ true
 all-numbered z s (Open m i f) = refl
@@ -95,6 +102,17 @@ all-numbered z s Crash = refl
 all-numbered z s (Report i) = refl
 all-numbered z s End = refl
 all-numbered z s (Restart i) = refl
+all-numbered z s (Embargo i f) = refl
+all-numbered z s (Lift i) = refl
+
+-- an answer with any grants is none
+answering-accepts : (s : Service) (gs : List Granting) → isRefused (answering s gs .reply) ≡ false
+answering-accepts s [] = refl
+answering-accepts s (g ∷ gs) = refl
+
+pub answering-service : (s : Service) (gs : List Granting) → answering s gs .service ≡ s
+answering-service s [] = refl
+answering-service s (g ∷ gs) = refl
 
 -- what is done is no refusal
 accepts : (z : Sizes) (s : Service) (x : Step) → isRefused (doneOf z s x .reply) ≡ false
@@ -113,6 +131,8 @@ accepts z s Crash = refl
 accepts z s (Report i) = refl
 accepts z s End = refl
 accepts z s (Restart i) = refl
+accepts z s (Embargo i f) = answering-accepts (putAside z s i) (grantsAside z s i)
+accepts z s (Lift i) = refl
 
 -- ---- the outcome of a step
 
@@ -132,6 +152,8 @@ accepted s Crash e = refl
 accepted s (Report i) e = ap (tableOutcome s) (when _ _ e)
 accepted s End e = ap (tableOutcome s) (when _ _ e)
 accepted s (Restart i) e = when _ _ e
+accepted s (Embargo i f) e = when _ _ e
+accepted s (Lift i) e = when _ _ e
 
 -- the outcome that a refusal gives
 abbrev pub refusedWith : ℕ → Service → Outcome
@@ -149,6 +171,8 @@ rejected s Crash e = conflict refl e
 rejected s (Report i) e = ap (tableOutcome s) (unless _ _ e)
 rejected s End e = ap (tableOutcome s) (unless _ _ e)
 rejected s (Restart i) e = unless _ _ e
+rejected s (Embargo i f) e = unless _ _ e
+rejected s (Lift i) e = unless _ _ e
 
 -- "A refusal gives only its number; server, stations and every lent buffer stay as they came."
 pub refused-changes-nothing : (s : Service) (x : Step) → refused s x ≡ true → after s x ≡ s

@@ -18,8 +18,8 @@ use Rattle.protocol.specs.Step.{Class}
 use Rattle.protocol.specs.Step.{OnFile, OnBlock, OnTable, OnAll}
 use Rattle.protocol.specs.declared.step.Step.{Step}
 use Rattle.protocol.specs.declared.step.Step.the-variants.{Open, Close, Read, Write, Flush, Answer, Crash, Report, End}
-use Rattle.protocol.specs.declared.step.Step.the-variants.{Restart}
-use Rattle.protocol.specs.Step.{classOf}
+use Rattle.protocol.specs.declared.step.Step.the-variants.{Restart, Embargo, Lift}
+use Rattle.protocol.specs.Step.{classOf, clientOf}
 use Rattle.blocks.specs.Stores.{Stores}
 use Rattle.access.specs.BlockStep.{blockStep}
 use Rattle.protocol.specs.declared.shared.SharedFile.{SharedFile}
@@ -27,7 +27,7 @@ use Rattle.file.specs.FileStep.{leaving, fileStep}
 use Rattle.table.specs.TableStep.{tableStep}
 use Rattle.service.specs.declared.service.Service.{Service}
 use Rattle.service.specs.declared.outcome.Outcome.{Outcome}
-use Rattle.service.specs.Contents.{sizesOf, tableIn, reportedAt, clientAt, fileAt, storesOf}
+use Rattle.service.specs.Contents.{sizesOf, tableIn, reportedAt, embargoedAt, clientAt, fileAt, storesOf}
 use Rattle.service.specs.Step.{fileOutcome, blockOutcome, tableOutcome, outcomeIn, stepOf}
 use Rattle.service.proofs.Tests.{split}
 use Rattle.service.proofs.OneFile.{same-file}
@@ -62,31 +62,40 @@ refused-first true file rest refused done e = refl
 refused-first false true rest refused done e = refl
 refused-first false false rest refused done e = absurd (true≢false (sym e))
 
-absent : (z : Sizes) (i f g : ℕ) → OnFile f ≡ OnFile g → leb (z .files) g ≡ true → (leb (z .clients) i || leb (z .files) f) ≡ true
-absent z i f g c h = rw (ap fileOf c, h) (or-true (leb (z .clients) i))
+absent :
+    (z : Sizes) (i f g : ℕ)
+    → OnFile f ≡ OnFile g
+    → (leb (z .clients) i || leb (z .files) g) ≡ true
+    → (leb (z .clients) i || leb (z .files) f) ≡ true
+absent z i f g c h = rw (ap fileOf c) h
 
--- whatever file stands for one that is not there
+-- whatever file and whatever flag stand for those that are not there
 no-file :
     (z : Sizes) (recovering : Bool) (a : Stores) (x : Step) (g : ℕ)
     → classOf x ≡ OnFile g
-    → leb (z .files) g ≡ true
-    → (k : ℕ) × ((y : SharedFile) → fileStep z recovering y a x ≡ leaving y a (Refused k))
+    → (leb (z .clients) (clientOf x) || leb (z .files) g) ≡ true
+    → (k : ℕ)
+    × ((embargoed : Bool) (y : SharedFile) → fileStep z embargoed recovering y a x ≡ leaving y a (Refused k))
 unfolding fileStep
 no-file z recovering a (Open m i f) g c h = (
   cond (leb (z .clients) i) 2 3,
-  λ y. refused-first (leb (z .clients) i) (leb (z .files) f) _ (λ k. leaving y a (Refused k)) _ (absent z i f g c h),
+  λ embargoed y.
+      refused-first (leb (z .clients) i) (leb (z .files) f) _ (λ k. leaving y a (Refused k)) _ (absent z i f g c h),
 )
 no-file z recovering a (Close m i f) g c h = (
   cond (leb (z .clients) i) 2 3,
-  λ y. refused-first (leb (z .clients) i) (leb (z .files) f) _ (λ k. leaving y a (Refused k)) _ (absent z i f g c h),
+  λ embargoed y.
+      refused-first (leb (z .clients) i) (leb (z .files) f) _ (λ k. leaving y a (Refused k)) _ (absent z i f g c h),
 )
 no-file z recovering a (Flush i f b) g c h = (
   cond (leb (z .clients) i) 2 3,
-  λ y. refused-first (leb (z .clients) i) (leb (z .files) f) _ (λ k. leaving y a (Refused k)) _ (absent z i f g c h),
+  λ embargoed y.
+      refused-first (leb (z .clients) i) (leb (z .files) f) _ (λ k. leaving y a (Refused k)) _ (absent z i f g c h),
 )
 no-file z recovering a (Answer i f) g c h = (
   cond (leb (z .clients) i) 2 3,
-  λ y. refused-first (leb (z .clients) i) (leb (z .files) f) _ (λ k. leaving y a (Refused k)) _ (absent z i f g c h),
+  λ embargoed y.
+      refused-first (leb (z .clients) i) (leb (z .files) f) _ (λ k. leaving y a (Refused k)) _ (absent z i f g c h),
 )
 no-file z recovering a (Read i f b) g c h = absurd (true≢false (sym (ap isOnFile c)))
 no-file z recovering a (Write i f b v) g c h = absurd (true≢false (sym (ap isOnFile c)))
@@ -94,6 +103,8 @@ no-file z recovering a Crash g c h = absurd (true≢false (sym (ap isOnFile c)))
 no-file z recovering a (Report i) g c h = absurd (true≢false (sym (ap isOnFile c)))
 no-file z recovering a End g c h = absurd (true≢false (sym (ap isOnFile c)))
 no-file z recovering a (Restart i) g c h = absurd (true≢false (sym (ap isOnFile c)))
+no-file z recovering a (Embargo i f) g c h = absurd (true≢false (sym (ap isOnFile c)))
+no-file z recovering a (Lift i) g c h = absurd (true≢false (sym (ap isOnFile c)))
 
 -- whatever side stands for one that is not there
 abbrev isOnBlock : Class → Bool
@@ -102,30 +113,31 @@ isOnBlock (OnBlock i f) = true
 isOnBlock OnTable = false
 isOnBlock OnAll = false
 
-abbrev clientOf : Class → ℕ
-clientOf (OnFile f) = 0
-clientOf (OnBlock i f) = i
-clientOf OnTable = 0
-clientOf OnAll = 0
+abbrev clientIn : Class → ℕ
+clientIn (OnFile f) = 0
+clientIn (OnBlock i f) = i
+clientIn OnTable = 0
+clientIn OnAll = 0
 
 no-block :
     (z : Sizes) (recovering : Bool) (a : Stores) (x : Step) (j g : ℕ)
     → classOf x ≡ OnBlock j g
     → (leb (z .clients) j || leb (z .files) g) ≡ true
     → (k : ℕ)
-    × ((reported : Bool) (own : ClientFile) → blockStep z recovering reported own a x ≡ record { stores = a; reply = Refused k })
+    × ((embargoed reported : Bool) (own : ClientFile)
+    → blockStep z embargoed recovering reported own a x ≡ record { stores = a; reply = Refused k })
 unfolding blockStep
 no-block z recovering a (Read i f b) j g c h = (
   cond (leb (z .clients) i) 2 3,
-  λ reported own.
+  λ embargoed reported own.
       refused-first (leb (z .clients) i) (leb (z .files) f) _ (λ k. record { stores = a; reply = Refused k }) _
-      (rw (ap clientOf c, ap fileOf c) h),
+      (rw (ap clientIn c, ap fileOf c) h),
 )
 no-block z recovering a (Write i f b v) j g c h = (
   cond (leb (z .clients) i) 2 3,
-  λ reported own.
+  λ embargoed reported own.
       refused-first (leb (z .clients) i) (leb (z .files) f) _ (λ k. record { stores = a; reply = Refused k }) _
-      (rw (ap clientOf c, ap fileOf c) h),
+      (rw (ap clientIn c, ap fileOf c) h),
 )
 no-block z recovering a (Open m i f) j g c h = absurd (true≢false (sym (ap isOnBlock c)))
 no-block z recovering a (Close m i f) j g c h = absurd (true≢false (sym (ap isOnBlock c)))
@@ -135,6 +147,8 @@ no-block z recovering a Crash j g c h = absurd (true≢false (sym (ap isOnBlock 
 no-block z recovering a (Report i) j g c h = absurd (true≢false (sym (ap isOnBlock c)))
 no-block z recovering a End j g c h = absurd (true≢false (sym (ap isOnBlock c)))
 no-block z recovering a (Restart i) j g c h = absurd (true≢false (sym (ap isOnBlock c)))
+no-block z recovering a (Embargo i f) j g c h = absurd (true≢false (sym (ap isOnBlock c)))
+no-block z recovering a (Lift i) j g c h = absurd (true≢false (sym (ap isOnBlock c)))
 
 neither : (a b : Bool) → (a || b) ≡ false → (a ≡ false) × (b ≡ false)
 neither true b e = absurd (true≢false e)
@@ -161,25 +175,33 @@ module _ (s : Service) (x : Step) where
   abbrev z : Sizes
   z = sizesOf s
 
-  abbrev atFile : ℕ → Outcome
-  atFile f = fileOutcome s f (fileStep z (tableIn s .recovering) (fileAt s f) (storesOf s) x)
+  abbrev atFile : ℕ → ℕ → Outcome
+  atFile i f = fileOutcome s f (fileStep z (embargoedAt s i) (tableIn s .recovering) (fileAt s f) (storesOf s) x)
 
-  pub file-arm : (f : ℕ) → classOf x ≡ OnFile f → stepOf s x ≡ atFile (f % maxFiles)
+  pub file-arm : (f : ℕ) → classOf x ≡ OnFile f → stepOf s x ≡ atFile (clientOf x % maxClients) (f % maxFiles)
   file-arm f c =
       step-in s x (OnFile f) c
-      ∙ split (leb maxFiles f)
+      ∙ split (leb maxClients (clientOf x) || leb maxFiles f)
       (λ e.
       let none = no-file z (tableIn s .recovering) (storesOf s) x f c
-      (past (z .files) maxFiles f (in-force-permitted (s .sizes) .files) e) in
-      let as-it-came : (g : ℕ) → atFile g ≡ _ =
-      λ g. ap (fileOutcome s g) (none .1 (fileAt s g)) ∙ ap (refusedWith (none .0)) (same-file s g (storesOf s)) in
-      as-it-came f ∙ sym (as-it-came (f % maxFiles)))
-      (λ e. ap atFile (sym (mod-eq-of-lt (leb-false maxFiles f e))))
+      (past-either (in-force-permitted (s .sizes)) (clientOf x) f e) in
+      let as-it-came : (i g : ℕ) → atFile i g ≡ _ =
+      λ i g.
+      ap (fileOutcome s g) (none .1 (embargoedAt s i) (fileAt s g))
+      ∙ ap (refusedWith (none .0)) (same-file s g (storesOf s)) in
+      as-it-came (clientOf x) f ∙ sym (as-it-came (clientOf x % maxClients) (f % maxFiles)))
+      (λ e.
+      let (client, file) = neither (leb maxClients (clientOf x)) (leb maxFiles f) e in
+      ap₂ atFile
+      (sym (mod-eq-of-lt (leb-false maxClients (clientOf x) client)))
+      (sym (mod-eq-of-lt (leb-false maxFiles f file))))
 
   -- ---- on a block
 
   abbrev atBlock : ℕ → ℕ → Outcome
-  atBlock i f = blockOutcome s (blockStep z (tableIn s .recovering) (reportedAt s i) (clientAt s i f) (storesOf s) x)
+  atBlock i f =
+      blockOutcome s
+      (blockStep z (embargoedAt s i) (tableIn s .recovering) (reportedAt s i) (clientAt s i f) (storesOf s) x)
 
   pub block-arm : (i f : ℕ) → classOf x ≡ OnBlock i f → stepOf s x ≡ atBlock (i % maxClients) (f % maxFiles)
   block-arm i f c =
@@ -187,7 +209,7 @@ module _ (s : Service) (x : Step) where
       ∙ split (leb maxClients i || leb maxFiles f)
       (λ e.
       let none = no-block z (tableIn s .recovering) (storesOf s) x i f c (past-either (in-force-permitted (s .sizes)) i f e) in
-      ap (blockOutcome s) (none .1 _ _ ∙ sym (none .1 _ _)))
+      ap (blockOutcome s) (none .1 _ _ _ ∙ sym (none .1 _ _ _)))
       (λ e.
       let (client, file) = neither (leb maxClients i) (leb maxFiles f) e in
       ap₂ atBlock (sym (mod-eq-of-lt (leb-false maxClients i client))) (sym (mod-eq-of-lt (leb-false maxFiles f file))))

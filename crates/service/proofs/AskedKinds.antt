@@ -37,12 +37,12 @@ close-asked (suc (suc (suc (suc k)))) i f b v g h = absurd (omega arith)
 
 -- an open that does not wait sends no call
 pub open-quiet :
-    (z : Sizes) (recovering : Bool) (x : SharedFile) (a : Stores) (m : Mode) (i f : ℕ)
-    → calls? (letterOf (fileStep z recovering x a (Open m i f) .reply)) ≡ false
-    → fileStep z recovering x a (Open m i f) .calls ≡ noCalls
+    (z : Sizes) (embargoed recovering : Bool) (x : SharedFile) (a : Stores) (m : Mode) (i f : ℕ)
+    → calls? (letterOf (fileStep z embargoed recovering x a (Open m i f) .reply)) ≡ false
+    → fileStep z embargoed recovering x a (Open m i f) .calls ≡ noCalls
 unfolding fileStep
-open-quiet z recovering x a m i f =
-    split (eqb (firstOf (openTests z recovering (x .entry) (sideOf (x .sides) i) m i f)) 0)
+open-quiet z embargoed recovering x a m i f =
+    split (eqb (firstOf (openTests z embargoed recovering (x .entry) (sideOf (x .sides) i) m i f)) 0)
     (λ done.
     split (eqb (callsFor (z .clients) (x .entry) i m) 0)
     (λ none. rw (done, none) (λ e. refl))
@@ -57,6 +57,10 @@ past n k h off = lt-of-le-ne h (λ e. off (sym e))
 -- a kind that is none of the first eight
 pub on-table : (k : ℕ) → 4 ≤ k → (k ≡ 4 → ⊥) → (k ≡ 5 → ⊥) → (k ≡ 6 → ⊥) → (k ≡ 7 → ⊥) → 7 < k
 on-table k h a b c d = past 7 k (past 6 k (past 5 k (past 4 k h a) b) c) d
+
+-- a kind past the last
+pub no-kind : (k : ℕ) → 10 < k → (k ≡ 11 → ⊥) → (k ≡ 12 → ⊥) → (k ≡ 13 → ⊥) → 13 < k
+no-kind k h a b c = past 13 k (past 12 k (past 11 k h a) b) c
 
 eleventh : (k : ℕ) → 7 < k → k < 11 → (k ≡ 8 → ⊥) → (k ≡ 9 → ⊥) → k ≡ 10
 eleventh k past low crash report =

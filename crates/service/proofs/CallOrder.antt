@@ -4,7 +4,7 @@
 use Prim.Native.Nat.{ℕ, _<_, _≤_}
 use mathlib.Core.Path.{_≡_, refl, subst⁻¹}
 use mathlib.Core.Bool.{Bool, true, false, cond}
-use mathlib.Core.List.{List}
+use mathlib.Core.List.{List, [], _∷_}
 use mathlib.Core.List.{List·Memᴰ as Member}
 use mathlib.Core.Logic.{_↔_, _≢_}
 use lib.Dec.{eqb}
@@ -17,16 +17,18 @@ use Rattle.sizes.specs.declared.sizes.Sizes.{Sizes}
 use Rattle.sizes.specs.Sizes.{maxClients}
 use Rattle.sizes.proofs.InForce.{in-force-permitted}
 use Rattle.protocol.specs.declared.reply.Grant.{Grant}
+use Rattle.protocol.specs.declared.reply.Granting.{Granting}
 use Rattle.protocol.specs.declared.reply.Reply.the-variants.{Granted, Waiting}
 use Rattle.protocol.specs.declared.step.Step.{Step}
 use Rattle.protocol.specs.declared.step.Step.the-variants.{Open, Close, Read, Write, Flush, Answer, Crash, Report, End}
-use Rattle.protocol.specs.declared.step.Step.the-variants.{Restart}
+use Rattle.protocol.specs.declared.step.Step.the-variants.{Restart, Embargo, Lift}
 use Rattle.protocol.specs.Entry.{recordAt, callTo, callsDue, callsFor, callsOut, grantOf}
 use Rattle.protocol.specs.Reply.{noCalls}
 use Rattle.file.specs.FileStep.{FileAfter, answered}
 use Rattle.service.specs.declared.service.Service.{Service}
 use Rattle.service.specs.declared.outcome.Outcome.{Outcome}
 use Rattle.service.specs.Contents.{sizesOf, entryAt, fileAt, storesOf}
+use Rattle.service.specs.Embargo.{putAside, grantsAside, answering}
 use Rattle.service.specs.Step.{stepOf}
 use Rattle.service.proofs.Tests.{split, either}
 use Rattle.service.proofs.Accepted.{doneOf, refusalOf, accepted, rejected}
@@ -38,6 +40,11 @@ calls-in-order s x = in-order (sizesOf s .clients) (stepOf s x .calls)
 
 no-calls-past : (n : ℕ) → NonePast n noCalls
 no-calls-past n i past = getD-alike maxClients 0 i
+
+-- an answer with any grants calls nobody
+answering-silent : (s : Service) (gs : List Granting) → answering s gs .calls ≡ noCalls
+answering-silent s [] = refl
+answering-silent s (g ∷ gs) = refl
 
 -- what a step does, where z are the sizes in force
 done-past : (z : Sizes) (s : Service) (x : Step) → z .clients ≤ maxClients → NonePast (z .clients) (doneOf z s x .calls)
@@ -59,6 +66,9 @@ done-past z s Crash fits = no-calls-past (z .clients)
 done-past z s (Report i) fits = no-calls-past (z .clients)
 done-past z s End fits = no-calls-past (z .clients)
 done-past z s (Restart i) fits = no-calls-past (z .clients)
+done-past z s (Embargo i f) fits =
+    subst⁻¹ (NonePast (z .clients)) (answering-silent (putAside z s i) (grantsAside z s i)) (no-calls-past (z .clients))
+done-past z s (Lift i) fits = no-calls-past (z .clients)
 
 none-past : (s : Service) (x : Step) → NonePast (sizesOf s .clients) (stepOf s x .calls)
 none-past s x =

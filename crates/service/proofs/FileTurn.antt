@@ -4,7 +4,9 @@ use Prim.Native.Nat.{ℕ, _<_}
 use mathlib.Core.Path.{_≡_, refl, ap, _∙_}
 use mathlib.Core.Bool.{Bool, true, false, cond, _&&_}
 use lib.Dec.{eqb}
-use lib.ListN.{length, length-set}
+use mathlib.Core.List.{List}
+use lib.ListN.{length, getD, length-set}
+use lib.Seq.{set-getD}
 use Rattle.sizes.specs.declared.sizes.Sizes.{Sizes}
 use Rattle.sizes.specs.Sizes.{Permitted, firstPlace, firstCell}
 use Rattle.sizes.proofs.InForce.{client-fits, file-fits}
@@ -15,17 +17,19 @@ use Rattle.protocol.specs.Table.{seen}
 use Rattle.protocol.proofs.View.{View}
 use Rattle.table.specs.TableStep.{noEntry}
 use Rattle.service.specs.declared.service.Service.{Service}
-use Rattle.service.specs.Contents.{tableIn, entryAt, blockAt, sidesAt, copyAt, heldAt, dirtyAt, withFile}
+use Rattle.service.specs.Contents.{tableIn, entryAt, embargoedAt, blockAt, sidesAt, copyAt, heldAt, dirtyAt, withFile}
 use Rattle.service.proofs.Tests.{eqb-same, cond-ap}
 use Rattle.service.proofs.Lists.{getD-set}
 use Rattle.service.proofs.Contents.{getD-kept, length-kept, getD-sent, length-sent}
-use Rattle.service.proofs.Views.{Sized, within-at, viewOf, copy-is, held-is, dirty-is, same-view}
+use Rattle.service.proofs.Views.{Sized, isIn, In, is-in, is-out, in-force, within-at, within-out, viewOf, copy-is, held-is, dirty-is, same-view}
 use Rattle.service.proofs.OneFile.{side-put, length-side}
 
 -- From s to s′ the view of file f becomes w, at each block, and every other stays.
 pub record FileStep (z : Sizes) (s s′ : Service) (f : ℕ) (w : ℕ → View) : Type 0 where
   pub sized : Sized z s′
   pub recovering : tableIn s′ .recovering ≡ tableIn s .recovering
+  pub reports : tableIn s′ .reported ≡ tableIn s .reported
+  pub embargoes : tableIn s′ .embargoed ≡ tableIn s .embargoed
   pub here : (b : ℕ) → b < z .blocks → viewOf z s′ f b ≡ w b
   pub elsewhere : (g b : ℕ) → b < z .blocks → eqb g f ≡ false → viewOf z s′ g b ≡ viewOf z s g b
 
@@ -64,34 +68,46 @@ turnedView t i e c u v =
       dirty = λ j. cond (t && eqb j i) (cond (c .keepDirty) (u .dirty i) false) (v .dirty j);
     }
 
--- The sizes in force are permitted, client i is one, and f is a file.
+sized-turned :
+    {z : Sizes}
+    → Permitted z
+    → {s : Service} {i f : ℕ}
+    → Sized z s
+    → i < z .clients
+    → f < z .files
+    → (c : Turn)
+    → Sized z (turned z s i f c)
+sized-turned {z} most {s} {i} {f} n hi hf c =
+    let room : f < length (s .clients) = rw (n .files) (file-fits most hf) in
+    let from = firstCell i f in
+    record {
+      sizes = n .sizes;
+      entries = length-set (tableIn s .files) f (c .entry) ∙ n .entries;
+      words =
+          length-sent (z .blocks) (s .dirty) (s .copies) (s .server .blocks) (c .send) from (firstPlace f) ∙ n .words;
+      reports = n .reports;
+      embargoes = n .embargoes;
+      files = length-set (s .clients) f _ ∙ n .files;
+      sides = λ g hg. length-side (s .clients) f g i (c .own) room ∙ n .sides g hg;
+      copies = length-kept (s .copies) (z .blocks) (c .keep) 0 from ∙ n .copies;
+      held = length-kept (s .held) (z .blocks) (c .keep) false from ∙ n .held;
+      dirty = length-kept (s .dirty) (z .blocks) (c .keepDirty) false from ∙ n .dirty;
+    }
+
+-- The sizes in force are permitted, client i is in, and f is a file.
 module _
     {z : Sizes}
     (most : Permitted z)
     {s : Service}
     {i f : ℕ}
     (n : Sized z s)
-    (hi : i < z .clients)
+    (here : In z s i)
     (hf : f < z .files) where
+  hi : i < z .clients
+  hi = here .below
+
   own-fits : i < length (sidesAt s f .of)
   own-fits = rw (n .sides f (file-fits most hf)) (client-fits most hi)
-
-  sized-turned : (c : Turn) → Sized z (turned z s i f c)
-  sized-turned c =
-      let room : f < length (s .clients) = rw (n .files) (file-fits most hf) in
-      let from = firstCell i f in
-      record {
-        sizes = n .sizes;
-        entries = length-set (tableIn s .files) f (c .entry) ∙ n .entries;
-        words =
-            length-sent (z .blocks) (s .dirty) (s .copies) (s .server .blocks) (c .send) from (firstPlace f) ∙ n .words;
-        reports = n .reports;
-        files = length-set (s .clients) f _ ∙ n .files;
-        sides = λ g hg. length-side (s .clients) f g i (c .own) room ∙ n .sides g hg;
-        copies = length-kept (s .copies) (z .blocks) (c .keep) 0 from ∙ n .copies;
-        held = length-kept (s .held) (z .blocks) (c .keep) false from ∙ n .held;
-        dirty = length-kept (s .dirty) (z .blocks) (c .keepDirty) false from ∙ n .dirty;
-      }
 
   view-turned :
       (g b : ℕ) (c : Turn) (t : Bool)
@@ -105,24 +121,25 @@ module _
       let k = z .blocks in
       let hi′ = client-fits most hi in
       let hf′ = file-fits most hf in
-      let copy = copy-is z s f b hi in
-      let dirty = dirty-is z s f b hi in
-      let held = held-is z s f b hi in
+      let copy = copy-is z s f b here in
+      let dirty = dirty-is z s f b here in
+      let held = held-is z s f b here in
+      let shows : ℕ → Bool = isIn z s in
       same-view
       (ap (seen m) (getD-set (tableIn s .files) f g (c .entry) noEntry t (rw (n .entries) (file-fits most hf)) q)
       ∙ cond-ap (seen m) t (c .entry) (entryAt s g))
       (getD-sent k (s .dirty) (s .copies) (s .server .blocks) (c .send) i g t (n .words) fits hf′ hb q
       ∙ (λ x. cond t (cond (c .send && dirty x) (copy x) (blockAt s f b)) (blockAt s g b)))
-      (λ j. within-at m noClient i j _ _ (c .own) t hi
+      (λ j. within-at shows noClient i j _ _ (c .own) t (is-in z s i here)
       (λ hj. side-put (s .clients) f g i (c .own) (rw (n .files) (file-fits most hf)) j t own-fits q))
-      (λ j. within-at m 0 i j _ _ _ t hi
-      (λ hj. getD-kept (s .copies) k (c .keep) 0 g t (n .copies) fits hi′ (client-fits most hj) hf′ hb q
+      (λ j. within-at shows 0 i j _ _ _ t (is-in z s i here)
+      (λ hj. getD-kept (s .copies) k (c .keep) 0 g t (n .copies) fits hi′ (client-fits most (in-force z s j hj)) hf′ hb q
       ∙ ap (λ x. cond (t && eqb j i) (cond (c .keep) x 0) (copyAt s j g b)) copy))
-      (λ j. within-at m false i j _ _ _ t hi
-      (λ hj. getD-kept (s .held) k (c .keep) false g t (n .held) fits hi′ (client-fits most hj) hf′ hb q
+      (λ j. within-at shows false i j _ _ _ t (is-in z s i here)
+      (λ hj. getD-kept (s .held) k (c .keep) false g t (n .held) fits hi′ (client-fits most (in-force z s j hj)) hf′ hb q
       ∙ ap (λ x. cond (t && eqb j i) (cond (c .keep) x false) (heldAt s j g b)) held))
-      (λ j. within-at m false i j _ _ _ t hi
-      (λ hj. getD-kept (s .dirty) k (c .keepDirty) false g t (n .dirty) fits hi′ (client-fits most hj) hf′ hb q
+      (λ j. within-at shows false i j _ _ _ t (is-in z s i here)
+      (λ hj. getD-kept (s .dirty) k (c .keepDirty) false g t (n .dirty) fits hi′ (client-fits most (in-force z s j hj)) hf′ hb q
       ∙ ap (λ x. cond (t && eqb j i) (cond (c .keepDirty) x false) (dirtyAt s j g b)) dirty))
 
   pub turned-step :
@@ -131,10 +148,61 @@ module _
       (λ b. turnedView true i (seen (z .clients) (c .entry)) c (viewOf z s f b) (viewOf z s f b))
   turned-step c =
       record {
-        sized = sized-turned c;
+        sized = sized-turned most n hi hf c;
         recovering = refl;
+        reports = refl;
+        embargoes = refl;
         here = λ b hb. view-turned f b c true hb (eqb-same f);
         elsewhere = λ g b hb q. view-turned g b c false hb q;
+      }
+
+-- A client under embargo changes what it has of file f, and keeps or drops its copy: no view shows it.
+module _
+    {z : Sizes}
+    (most : Permitted z)
+    {s : Service}
+    (i : ℕ)
+    {f : ℕ}
+    (n : Sized z s)
+    (hi : i < z .clients)
+    (hf : f < z .files)
+    (out : embargoedAt s i ≡ true)
+    (own : ClientFile)
+    (keep keepDirty : Bool) where
+  abbrev c : Turn
+  c = record { entry = entryAt s f; own = own; keep = keep; keepDirty = keepDirty; send = false }
+
+  view-hidden :
+      (g b : ℕ) (t : Bool) → b < z .blocks → eqb g f ≡ t → viewOf z (turned z s i f c) g b ≡ viewOf z s g b
+  view-hidden g b t hb q =
+      let fits = most .blocks in
+      let k = z .blocks in
+      let hi′ = client-fits most hi in
+      let hf′ = file-fits most hf in
+      let shows : ℕ → Bool = isIn z s in
+      let gone = is-out z s i out in
+      let fits′ : i < length (sidesAt s f .of) = rw (n .sides f hf′) hi′ in
+      same-view
+      (ap (λ (l : List Entry). seen (z .clients) (getD l g noEntry)) (set-getD (tableIn s .files) f noEntry))
+      refl
+      (λ j. within-out shows noClient i j _ _ own t gone
+      (λ hj. side-put (s .clients) f g i own (rw (n .files) hf′) j t fits′ q))
+      (λ j. within-out shows 0 i j _ _ _ t gone
+      (λ hj. getD-kept (s .copies) k keep 0 g t (n .copies) fits hi′ (client-fits most (in-force z s j hj)) hf′ hb q))
+      (λ j. within-out shows false i j _ _ _ t gone
+      (λ hj. getD-kept (s .held) k keep false g t (n .held) fits hi′ (client-fits most (in-force z s j hj)) hf′ hb q))
+      (λ j. within-out shows false i j _ _ _ t gone
+      (λ hj. getD-kept (s .dirty) k keepDirty false g t (n .dirty) fits hi′ (client-fits most (in-force z s j hj)) hf′ hb q))
+
+  pub hidden-step : FileStep z s (turned z s i f c) f (λ b. viewOf z s f b)
+  hidden-step =
+      record {
+        sized = sized-turned most n hi hf c;
+        recovering = refl;
+        reports = refl;
+        embargoes = refl;
+        here = λ b hb. view-hidden f b true hb (eqb-same f);
+        elsewhere = λ g b hb q. view-hidden g b false hb q;
       }
 
 -- the view, said in another way
@@ -147,6 +215,8 @@ as-view p q =
     record {
       sized = p .sized;
       recovering = p .recovering;
+      reports = p .reports;
+      embargoes = p .embargoes;
       here = λ b hb. p .here b hb ∙ q b hb;
       elsewhere = p .elsewhere;
     }
@@ -161,6 +231,8 @@ then-step p q =
     record {
       sized = q .sized;
       recovering = q .recovering ∙ p .recovering;
+      reports = q .reports ∙ p .reports;
+      embargoes = q .embargoes ∙ p .embargoes;
       here = q .here;
       elsewhere = λ g b hb e. q .elsewhere g b hb e ∙ p .elsewhere g b hb e;
     }

@@ -16,10 +16,11 @@ use Rattle.protocol.specs.Table.{Row, rowOf, seen}
 use Rattle.protocol.proofs.View.{View}
 use Rattle.table.specs.TableStep.{noEntry}
 use Rattle.service.specs.declared.service.Service.{Service}
-use Rattle.service.specs.Contents.{tableIn, entryAt}
+use Rattle.service.specs.Contents.{tableIn, entryAt, embargoedAt}
+use Rattle.service.specs.Aside.{Forgotten}
 use Rattle.service.specs.Demand3.{Memory, atBlock, atFile, tableOf, Recovery, none, since}
-use Rattle.service.proofs.Tests.{split, eqb-same, both}
-use Rattle.service.proofs.Views.{Sized, viewOf, reportsOf}
+use Rattle.service.proofs.Tests.{split, conflict, eqb-same, both}
+use Rattle.service.proofs.Views.{Sized, In, viewOf, heardOf}
 use Rattle.service.proofs.FileTurn.{FileStep}
 use Rattle.service.proofs.BlockSteps.{BlockStep}
 use Rattle.service.proofs.TableSteps.{TableStep}
@@ -61,7 +62,7 @@ pub record Runs (z : Sizes) (Running : View → History → Type 0) (s : Service
   pub state : tableIn s .recovering ≡ false
   pub views : Everywhere z (λ f v k. Running v k) s m
 
--- the protocol's promise of each file in a recovery, with these reports and the table t to give back
+-- the protocol's promise of each file in a recovery, with these clients heard and the table t to give back
 abbrev pub InRecovery :
     Sizes → (View → History → (ℕ → Bool) → Row → Type 0) → (ℕ → Bool) → List Row → Service → Memory → Type 0
 InRecovery z Recovering reported t = Everywhere z (λ f v k. Recovering v k reported (rowIn z t f))
@@ -76,12 +77,43 @@ pub record Recovers
   pub sized : Sized z s
   pub state : tableIn s .recovering ≡ true
   pub rows : length t ≡ z .files
-  pub views : InRecovery z Recovering (reportsOf z s) t s m
+  pub views : InRecovery z Recovering (heardOf z s) t s m
 
-abbrev pub Sound :
+abbrev pub Stands :
     Sizes → (View → History → Type 0) → (View → History → (ℕ → Bool) → Row → Type 0) → Service → Memory → Recovery → Type 0
-Sound z Running Recovering s m none = Runs z Running s m
-Sound z Running Recovering s m (since t) = Recovers z Recovering s m t
+Stands z Running Recovering s m none = Runs z Running s m
+Stands z Running Recovering s m (since t) = Recovers z Recovering s m t
+
+-- and the server has nothing of a client under embargo
+pub record Sound
+    (z : Sizes)
+    (Running : View → History → Type 0)
+    (Recovering : View → History → (ℕ → Bool) → Row → Type 0)
+    (s : Service)
+    (m : Memory)
+    (r : Recovery) : Type 0 where
+  pub stands : Stands z Running Recovering s m r
+  pub forgotten : Forgotten s
+
+-- an open that waits is of a client that is in
+pub waiter-in :
+    {z : Sizes} {s : Service}
+    → Sized z s
+    → Forgotten s
+    → (f : ℕ)
+    → f < z .files
+    → entryAt s f .waiter < z .clients
+    → In z s (entryAt s f .waiter)
+waiter-in {z} {s} n h f hf hw =
+    let w : ℕ = entryAt s f .waiter in
+    record {
+      below = hw;
+      unbarred =
+          split (embargoedAt s w)
+          (λ out. conflict (eqb-same w) (h .unknown w f (subst⁻¹ (λ (z : Sizes). w < z .clients) (n .sizes) hw)
+          (subst⁻¹ (λ (z : Sizes). f < z .files) (n .sizes) hf) out .notWaiting))
+          (λ e. e);
+    }
 
 -- ---- after a step
 
@@ -151,7 +183,7 @@ pub after-table :
 after-table {z} {Recovering} {s} {s′} {m} {t} {reported} {w} p state rows k =
     record { sized = p .sized; state = state; rows = rows; views = views }
   where
-    views : InRecovery z Recovering (reportsOf z s′) t s′ m
+    views : InRecovery z Recovering (heardOf z s′) t s′ m
     views f b hf hb =
-        subst⁻¹ (λ v. Recovering v (m f b) (reportsOf z s′) (rowIn z t f)) (p .everywhere f b hf)
-        (subst⁻¹ (λ l. Recovering (w (viewOf z s f b)) (m f b) l (rowIn z t f)) (p .reports) (k f b hf hb))
+        subst⁻¹ (λ v. Recovering v (m f b) (heardOf z s′) (rowIn z t f)) (p .everywhere f b hf)
+        (subst⁻¹ (λ l. Recovering (w (viewOf z s f b)) (m f b) l (rowIn z t f)) (p .heard) (k f b hf hb))

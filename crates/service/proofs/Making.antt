@@ -103,6 +103,7 @@ inRecovery recovering reported s =
       files = tableIn s .files;
       recovering = recovering;
       reported = replicate maxClients reported;
+      embargoed = tableIn s .embargoed;
     })
 
 -- What a step gives: the reply, and of file 0 the entry, client i's side, client 0's copy of block 0 (its value, held,

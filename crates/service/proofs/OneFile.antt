@@ -18,7 +18,7 @@ use Rattle.blocks.specs.Stores.{Stores}
 use Rattle.protocol.specs.declared.shared.SharedFile.{SharedFile}
 use Rattle.table.specs.TableStep.{noEntry, noSides, sidesIn}
 use Rattle.service.specs.declared.service.Service.{Service}
-use Rattle.service.specs.Contents.{tableIn, fileAt, withStores, withFile}
+use Rattle.service.specs.Contents.{tableIn, sidesAt, fileAt, storesOf, withStores, withFile}
 use Rattle.service.proofs.Tests.{split}
 use Rattle.service.proofs.Lists.{getD-set}
 use Rattle.service.proofs.Views.{Sized}
@@ -43,7 +43,12 @@ withLists s a entries sides =
       server =
           record {
             table =
-                record { files = entries; recovering = tableIn s .recovering; reported = tableIn s .reported };
+                record {
+                  files = entries;
+                  recovering = tableIn s .recovering;
+                  reported = tableIn s .reported;
+                  embargoed = tableIn s .embargoed;
+                };
             blocks = a .blocks;
           };
       clients = sides;
@@ -51,6 +56,17 @@ withLists s a entries sides =
       held = a .held;
       dirty = a .dirty;
     }
+
+-- the service with another entry of file f
+abbrev pub withEntryAt : Service → ℕ → Entry → Service
+withEntryAt s f e = withLists s (storesOf s) (set (tableIn s .files) f e) (s .clients)
+
+-- the clients' sides stay as they are
+pub only-entry :
+    (s : Service) (f : ℕ) (e : Entry)
+    → withFile s f (record { entry = e; sides = sidesAt s f }) (storesOf s) ≡ withEntryAt s f e
+only-entry s f e =
+    ap (withLists s (storesOf s) (set (tableIn s .files) f e)) (set-getD (s .clients) f noSides)
 
 -- storing twice, and storing what is there
 pub twice :

@@ -8,13 +8,13 @@ use Rattle.protocol.specs.declared.entry.Entry.{Entry}
 use Rattle.service.specs.declared.service.Service.{Service}
 
 abbrev pub serviceOf :
-    Sizes → List Entry → Bool → List Bool → List ℕ → List Sides → List ℕ → List Bool → List Bool → Service
-serviceOf given files recovering reported blocks clients copies held dirty =
+    Sizes → List Entry → Bool → List Bool → List Bool → List ℕ → List Sides → List ℕ → List Bool → List Bool → Service
+serviceOf given files recovering reported embargoed blocks clients copies held dirty =
     record {
       sizes = given;
       server =
           record {
-            table = record { files = files; recovering = recovering; reported = reported };
+            table = record { files = files; recovering = recovering; reported = reported; embargoed = embargoed };
             blocks = blocks;
           };
       clients = clients;

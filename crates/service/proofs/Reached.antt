@@ -16,14 +16,14 @@ use Rattle.protocol.proofs.Kept.{promises}
 use Rattle.service.specs.declared.service.Service.{Service}
 use Rattle.service.specs.Contents.{entryAt}
 use Rattle.service.specs.Fresh.{fresh}
-use Rattle.service.specs.Demand3.{refused, after, Memory, blank, delays, fed, Recovery, none, since, recoveryAfter}
+use Rattle.service.specs.Demand3.{refused, after, Memory, blank, remembered, Recovery, none, since, recoveryAfter}
 use Rattle.service.specs.Demand3.{ReadIsLatest, EndRestores}
 use Rattle.service.specs.NothingBehind.{NothingBehind}
 use Rattle.service.proofs.Views.{Sized}
 use Rattle.service.proofs.Invariant.{Sound}
 use Rattle.service.proofs.Owing.{Owed}
 use Rattle.service.proofs.NothingBehind.{nothing-behind, after-owed}
-use Rattle.service.proofs.Consistent.{sized, after-kept, read-latest, end-restores, fresh-runs}
+use Rattle.service.proofs.Consistent.{sized, after-kept, read-latest, end-restores, fresh-sound}
 
 module _ (z : Sizes) where
   -- the invariant, with the reference memory and the recovery under way
@@ -37,11 +37,11 @@ module _ (z : Sizes) where
       promises (inForce z .clients) bound
 
   pub reached-fresh : Reached (fresh z) blank none
-  reached-fresh = fresh-runs z (Running (inForce z .clients)) (Recovering (inForce z .clients)) kept-promises
+  reached-fresh = fresh-sound z (Running (inForce z .clients)) (Recovering (inForce z .clients)) kept-promises
 
   module _ (s : Service) (m : Memory) (r : Recovery) (h : Reached s m r) where
     pub reached-after :
-        (x : Step) → Reached (after s x) (fed m x (refused s x) (delays s)) (recoveryAfter s r x (refused s x))
+        (x : Step) → Reached (after s x) (remembered s m x) (recoveryAfter s r x (refused s x))
     reached-after x =
         after-kept (in-force-permitted z) (Running (inForce z .clients)) (Recovering (inForce z .clients)) kept-promises
         s m r x h
@@ -67,9 +67,9 @@ module _ (z : Sizes) where
       → f < inForce z .files
       → eqb (numberOf (entryAt s f .version)) 0 ≡ false
   version-not-zero s m none h f hf =
-      h .views f 0 hf (in-force-permitted z .someBlock) .sound .clients .versionNotZero
+      h .stands .views f 0 hf (in-force-permitted z .someBlock) .sound .clients .versionNotZero
   version-not-zero s m (since t) h f hf =
-      h .views f 0 hf (in-force-permitted z .someBlock) .sound .clients .versionNotZero
+      h .stands .views f 0 hf (in-force-permitted z .someBlock) .sound .clients .versionNotZero
 
 -- what every client that is last writer, or marked, has to write back
 module _ (z : Sizes) (s : Service) (m : Memory) (r : Recovery) (h : Reached z s m r) (owed : Owed (inForce z) s) where

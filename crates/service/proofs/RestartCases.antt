@@ -10,29 +10,29 @@ use Rattle.protocol.specs.declared.reply.Reply.the-variants.{Value, Refused, An
 use Rattle.protocol.specs.declared.step.Step.{Step}
 use Rattle.protocol.specs.Book.{latest}
 use Rattle.protocol.specs.Reply.{grantsValues}
-use Rattle.file.specs.FileStep.{fileStep, afterRestart}
+use Rattle.file.specs.FileStep.{fileStep, afterForgetting, afterDropping}
 use Rattle.access.specs.BlockStep.{blockStep}
 use Rattle.table.specs.TableStep.{tableStep}
 use Rattle.service.specs.declared.service.Service.{Service}
-use Rattle.service.specs.Demand3.{refused, after, Memory, blank, delays, fed}
+use Rattle.service.specs.Demand3.{after, Memory, blank, remembered}
 use Rattle.service.specs.NothingBehind.{afterSteps}
 use Rattle.service.specs.Step.{stepOf}
 use Rattle.service.specs.Fresh.{fresh}
-use Rattle.service.specs.Restart.{restartedBelow, grantsBelow, allStep}
+use Rattle.service.specs.Embargo.{forgottenBelow, grantsBelow, droppedBelow, allStep}
 use Rattle.service.proofs.Run.{freshDefault, OR, OW, RD, WR, FL, AN, XX, RP, BT, grantUncached}
 
 -- the reference memory after the steps
-abbrev bookAfter : Service → Memory → List Step → Memory
+abbrev pub bookAfter : Service → Memory → List Step → Memory
 bookAfter s m [] = m
-bookAfter s m (x ∷ xs) = bookAfter (after s x) (fed m x (refused s x) (delays s)) xs
+bookAfter s m (x ∷ xs) = bookAfter (after s x) (remembered s m x) xs
 
-abbrev reply : List Step → Step → Reply
+abbrev pub reply : List Step → Step → Reply
 reply xs x = stepOf (afterSteps freshDefault xs) x .reply
 
 abbrev calls : List Step → Step → List ℕ
 calls xs x = stepOf (afterSteps freshDefault xs) x .calls
 
-abbrev bookAt : List Step → ℕ
+abbrev pub bookAt : List Step → ℕ
 bookAt xs = latest (bookAfter freshDefault blank xs 0 0)
 
 abbrev brokenOff : List Step
@@ -74,7 +74,7 @@ pub record Cases : Type 0 where
   pub answerRead : reply answering (RD 1 0 0) ≡ Value 7
 
 pub cases : Cases
-unfolding fresh stepOf fileStep blockStep tableStep allStep afterRestart restartedBelow grantsBelow grantsValues stateOf permissionAtGrant count stored
+unfolding fresh stepOf fileStep blockStep tableStep allStep afterForgetting afterDropping forgottenBelow grantsBelow droppedBelow grantsValues stateOf permissionAtGrant count stored
 cases =
     record {
       absent = refl;

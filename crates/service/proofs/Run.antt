@@ -9,7 +9,7 @@ use Rattle.protocol.specs.declared.reply.Reply.{Reply}
 use Rattle.decision.specs.declared.state.FileState.{FileState}
 use Rattle.protocol.specs.declared.step.Step.{Step}
 use Rattle.protocol.specs.declared.step.Step.the-variants.{Open, Close, Read, Write, Flush, Answer, Crash, Report, End}
-use Rattle.protocol.specs.declared.step.Step.the-variants.{Restart}
+use Rattle.protocol.specs.declared.step.Step.the-variants.{Restart, Embargo, Lift}
 use Rattle.sizes.specs.Sizes.{defaultSizes}
 use Rattle.records.specs.Version.{versionOf}
 use Rattle.decision.specs.State.{stateOf}
@@ -60,6 +60,12 @@ EN = End
 
 abbrev pub BT : ℕ → Step
 BT i = Restart i
+
+abbrev pub EM : ℕ → ℕ → Step
+EM i f = Embargo i f
+
+abbrev pub LF : ℕ → Step
+LF i = Lift i
 
 -- G latest previous permission
 abbrev pub grant : ℕ → ℕ → Grant

@@ -25,7 +25,7 @@ use Rattle.protocol.specs.declared.step.Step.the-variants.{Crash}
 use Rattle.protocol.specs.Client.{sideOf}
 use Rattle.protocol.specs.Entry.{crashedEntry}
 use Rattle.protocol.specs.Reply.{letterOf, isRefused, noCalls, noGrants}
-use Rattle.protocol.specs.Step.{classOf}
+use Rattle.protocol.specs.Step.{classOf, clientOf}
 use Rattle.blocks.specs.Stores.{Stores, lent}
 use Rattle.access.specs.BlockStep.{blockStep}
 use Rattle.access.specs.BlockStep.{Leaves as LeavesBlock}
@@ -48,12 +48,13 @@ use Rattle.words.proofs.Listing.{getD-listed, listed-set}
 use Rattle.words.proofs.Places.{others-held}
 use Rattle.service.specs.declared.service.Service.{Service}
 use Rattle.service.specs.declared.outcome.Outcome.{Outcome}
-use Rattle.service.specs.Contents.{tableIn, fileAt, withFile, clientAt, reportedAt}
+use Rattle.service.specs.Contents.{tableIn, fileAt, withFile, clientAt, reportedAt, embargoedAt}
 use Rattle.service.specs.Step.{stepOf, fileOutcome}
-use Rattle.service.specs.Lent.{lentFlags, recoveringHeld, reportedHeld, serviceHeld, isSide, mayChange, mayReport, Keeps}
+use Rattle.service.specs.Lent.{lentFlags, recoveringHeld, reportedHeld, embargoedHeld, serviceHeld, isSide, mayChange, mayReport}
+use Rattle.service.specs.Lent.{Keeps}
 use Rattle.service.specs.Served.{Serves, SweptBy}
 use Rattle.service.proofs.Arms.Result.{file-result, block-result, table-result}
-use Rattle.service.proofs.NineFlags.{same-flags}
+use Rattle.service.proofs.LentFlags.{flag-embargoed, same-flags}
 
 outcome-as :
     (s s′ : Service) (r r′ : Reply) (k k′ : List ℕ)
@@ -92,6 +93,15 @@ file-at given flags a f t there =
       getD-listed maxFiles (λ g. sidesHeld t g) noSides f there,
     )
 
+-- the flag of a client, at its wrapped place, is that of the client that stands there
+abbrev pub flagOf : List Bool → ℕ → Bool
+flagOf flags i = getD flags (maxClients + 1 + i % maxClients) false
+
+embargoed-at :
+    (given : Sizes) (t : List ℕ) (flags : List Bool) (a : Stores) (i : ℕ)
+    → embargoedAt (serviceHeld given t flags a) (i % maxClients) ≡ flagOf flags i
+embargoed-at given t flags a i = flag-embargoed flags (i % maxClients) (mod-lt i (omega arith))
+
 -- ---- on a file
 
 module _
@@ -107,7 +117,8 @@ module _
     (calls : List ℕ)
     (class : classOf x ≡ OnFile f)
     (holds :
-    Holds (fileStep sizes (recoveringHeld flags) (fileHeld t₀ (f % maxFiles)) a₀ x) (f % maxFiles) t₀ t reply calls b c h d) where
+    Holds (fileStep sizes (flagOf flags (clientOf x)) (recoveringHeld flags) (fileHeld t₀ (f % maxFiles)) a₀ x) (f % maxFiles) t₀ t reply
+    calls b c h d) where
   file-keeps : Keeps x reply t₀ flags t flags
   file-keeps =
       record {
@@ -129,14 +140,16 @@ module _
         taken =
             λ given force.
             let s = serviceHeld given t₀ flags a₀ in
-            let after : SharedFile → FileAfter = λ y. fileStep sizes (recoveringHeld flags) y a₀ x in
-            let held = after (fileHeld t₀ (f % maxFiles)) in
+            let after : Bool → SharedFile → FileAfter = λ e y. fileStep sizes e (recoveringHeld flags) y a₀ x in
+            let held = after (flagOf flags (clientOf x)) (fileHeld t₀ (f % maxFiles)) in
             outcome-as _ _ _ _ _ _
             (ap (λ (a : Stores). serviceHeld given t flags a) (holds .storesAfter)
             ∙ puts-service given flags a₀ (held .stores) (f % maxFiles) (held .file) t₀ t there (holds .puts))
             (holds .replyAfter)
             (holds .callsAfter)
-            ∙ ap (λ (y : SharedFile). fileOutcome s (f % maxFiles) (after y)) (sym (file-at given flags a₀ (f % maxFiles) t₀ there))
+            ∙ ap₂ (λ (e : Bool) (y : SharedFile). fileOutcome s (f % maxFiles) (after e y))
+            (sym (embargoed-at given t₀ flags a₀ (clientOf x)))
+            (sym (file-at given flags a₀ (f % maxFiles) t₀ there))
             ∙ file-result s x sizes force f class;
         quiet = quiet;
         keeps = file-keeps;
@@ -149,7 +162,7 @@ pub block-serves :
     (h d : List Bool) (reply : Reply)
     → classOf x ≡ OnBlock i f
     → own ≡ sideHeld (wordAt t (f % maxFiles) (10 + i % maxClients))
-    → LeavesBlock (blockStep sizes (recoveringHeld flags) (getD flags (i % maxClients) false) own a₀ x) reply b c h d
+    → LeavesBlock (blockStep sizes (flagOf flags i) (recoveringHeld flags) (getD flags (i % maxClients) false) own a₀ x) reply b c h d
     → Serves sizes x t flags a₀ t flags (lent b c h d) reply noCalls
 block-serves sizes x i f t flags a₀ own b c h d reply class is l =
     let file : f % maxFiles < maxFiles = mod-lt f (omega arith) in
@@ -167,7 +180,7 @@ block-serves sizes x i f t flags a₀ own b c h d reply class is l =
           let told : reportedAt s (i % maxClients) ≡ getD flags (i % maxClients) false =
           getD-take maxClients flags (i % maxClients) false client in
           block-result s x sizes force i f reply b c h d class
-          (rw (side, told) l);
+          (rw (side, told, embargoed-at given t flags a₀ i) l);
       quiet = λ e. refl;
       keeps =
           record { refused = λ e. (refl, refl); words = λ g k there below stays. refl; reports = λ e. refl };
@@ -181,8 +194,15 @@ is-side k e =
     let side : isSide k ≡ true = not-false (isSide k) e in
     (leb-true 10 k (and-left (leb 10 k) (ltb k 18) side), ltb-true k 18 (and-right (leb 10 k) (ltb k 18) side))
 
-recovery-as : (v w : Recovery) → v .recovering ≡ w .recovering → v .reported ≡ w .reported → v ≡ w
-recovery-as v w a b = ap₂ (λ (r : Bool) (l : List Bool). record { recovering = r; reported = l }) a b
+recovery-as :
+    (v w : Recovery)
+    → v .recovering ≡ w .recovering
+    → v .reported ≡ w .reported
+    → v .embargoed ≡ w .embargoed
+    → v ≡ w
+recovery-as v w a b c =
+    ap₂ (λ (r : Bool) (l : List Bool). record { recovering = r; reported = l; embargoed = v .embargoed }) a b
+    ∙ ap (λ (l : List Bool). record { recovering = w .recovering; reported = w .reported; embargoed = l }) c
 
 module _
     (sizes : Sizes)
@@ -197,6 +217,7 @@ module _
     (is : o ≡ recoveryStep sizes v x)
     (recovers : v .recovering ≡ recoveringHeld flags₀)
     (reports : v .reported ≡ reportedHeld flags₀)
+    (embargoes : v .embargoed ≡ embargoedHeld flags₀)
     (size : length flags₀ ≡ lentFlags)
     (done : SweptBy sizes o t₀ flags₀ t flags reply) where
   -- a refusal leaves the rows, and stores the flags as they were
@@ -207,7 +228,8 @@ module _
         done .rows .stays (ap (λ (o : RecoveryOutcome). o .sweep) is ∙ stays .0),
         same-flags flags flags₀ (done .flagsLong ∙ size) size
             (done .recovers ∙ ap (λ (w : Recovery). w .recovering) rests ∙ recovers)
-            (done .reports ∙ ap (λ (w : Recovery). w .reported) rests ∙ reports),
+            (done .reports ∙ ap (λ (w : Recovery). w .reported) rests ∙ reports)
+            (done .embargoes ∙ ap (λ (w : Recovery). w .embargoed) rests ∙ embargoes),
       )
 
   pub table-serves : Serves sizes x t₀ flags₀ a t flags a reply noCalls
@@ -218,8 +240,8 @@ module _
         taken =
             λ given force.
             let s = serviceHeld given t₀ flags₀ a in
-            let same : v ≡ recoveryIn (tableIn s) = recovery-as v (recoveryIn (tableIn s)) recovers reports in
-            outcome-as _ _ _ _ _ _ (rw (swept-sides (done .rows), done .recovers, done .reports)) (done .same) refl
+            let same : v ≡ recoveryIn (tableIn s) = recovery-as v (recoveryIn (tableIn s)) recovers reports embargoes in
+            outcome-as _ _ _ _ _ _ (rw (swept-sides (done .rows), done .recovers, done .reports, done .embargoes)) (done .same) refl
             ∙ table-result s x sizes force o (listed maxFiles (λ f. entryHeld t f)) class
             (is ∙ ap (λ (w : Recovery). recoveryStep sizes w x) same)
             (done .rows .files);
@@ -243,21 +265,24 @@ module _ (sizes : Sizes) (t₀ t : List ℕ) (flags₀ flags : List Bool) (v : R
       → o ≡ recoveryStep sizes v Crash
       → v .recovering ≡ recoveringHeld flags₀
       → v .reported ≡ reportedHeld flags₀
+      → v .embargoed ≡ embargoedHeld flags₀
       → length flags₀ ≡ lentFlags
       → SweepsRows (sizes .files) (λ f. crashedEntry (sizes .clients) (entryHeld t₀ f)) t₀ t
       → recoveringHeld flags ≡ o .recovery .recovering
       → reportedHeld flags ≡ o .recovery .reported
+      → embargoedHeld flags ≡ o .recovery .embargoed
       → length flags ≡ lentFlags
       → Serves sizes Crash t₀ flags₀ a t flags a Done noCalls
   unfolding recoveryStep
-  crash-serves a p is recovers reports size rows recovers′ reports′ long =
-      table-serves sizes Crash t₀ t flags₀ flags a v o Done refl is recovers reports size
+  crash-serves a p is recovers reports embargoes size rows recovers′ reports′ embargoes′ long =
+      table-serves sizes Crash t₀ t flags₀ flags a v o Done refl is recovers reports embargoes size
       (record {
         rows =
             subst⁻¹ (λ (s : Sweep). Swept sizes s t₀ t) (ap (λ (o : RecoveryOutcome). o .sweep) is)
             (swept-crash sizes (p .files) t₀ t rows);
         recovers = recovers′;
         reports = reports′;
+        embargoes = embargoes′;
         flagsLong = long ∙ sym size;
         same = sym (ap (λ (o : RecoveryOutcome). o .reply) is);
       })

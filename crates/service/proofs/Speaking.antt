@@ -1,6 +1,6 @@
 -- A step that is served and said is taken. Assumes nothing.
 use Prim.Native.Nat.{ℕ, _%_, _<_, _≤_}
-use mathlib.Core.Path.{_≡_, refl, sym, ap, _∙_, subst, subst⁻¹}
+use mathlib.Core.Path.{_≡_, refl, sym, ap, _∙_, subst⁻¹}
 use mathlib.Core.Bool.{Bool, false}
 use mathlib.Core.List.{List}
 use native.Mathlib.Omega.{arith}
@@ -16,16 +16,17 @@ use Rattle.protocol.specs.declared.reply.Granting.{Granting}
 use Rattle.protocol.specs.Reply.{letterOf, noCalls, noGrants}
 use Rattle.protocol.specs.declared.step.Numbers.{Numbers}
 use Rattle.protocol.specs.declared.step.Step.{Step}
-use Rattle.protocol.specs.Step.{kinds, numbersOf, stepAsked}
+use Rattle.protocol.specs.Step.{Class}
+use Rattle.protocol.specs.Step.{OnAll}
+use Rattle.protocol.specs.Step.{kinds, classOf, numbersOf, stepAsked}
 use Rattle.protocol.proofs.Numbers.{asked-back, kind-low}
 use Rattle.blocks.specs.Stores.{Stores}
 use Rattle.words.specs.Said.{calls?, replySaid, callsSaid, grantsSaid, SaysIn}
 use Rattle.service.specs.declared.service.Service.{Service}
 use Rattle.service.specs.declared.outcome.Outcome.{Outcome}
 use Rattle.service.specs.Step.{stepOf}
-use Rattle.service.specs.Lent.{serviceHeld, outcomeAsked, Keeps, Stepped}
+use Rattle.service.specs.Lent.{serviceHeld, outcomeAsked, mayChange, mayReport, Keeps, Stepped}
 use Rattle.service.specs.Served.{Serves, ServesAll}
-use Rattle.protocol.specs.declared.step.Step.the-variants.{Restart}
 
 -- the calls are read back: those that went out, or none
 calls-back :
@@ -72,7 +73,7 @@ module _ (given : Sizes) (kind i f b v : ℕ) (t₀ : List ℕ) (flags₀ : List
   -- a kind that is none
   pub stepped-none :
       (words : List ℕ) (said : ℕ)
-      → 11 < kind
+      → 13 < kind
       → SaysIn words₀ said words (Refused 1) noCalls noGrants
       → Stepped given kind i f b v t₀ flags₀ a₀ words₀ t₀ flags₀ a₀ words said
   stepped-none words said past says =
@@ -102,26 +103,28 @@ module _ (given : Sizes) (kind i f b v : ℕ) (t₀ : List ℕ) (flags₀ : List
 -- ---- a step on all files
 
 pub stepped-all :
-    (given : Sizes) (i f b v : ℕ) (t₀ : List ℕ) (flags₀ : List Bool) (a₀ : Stores) (words₀ : List ℕ) (sizes : Sizes)
-    (t : List ℕ) (flags : List Bool) (a : Stores) (words : List ℕ) (said : ℕ)
-    (kind : ℕ)
-    → kind ≡ 11
+    (given : Sizes) (kind i f b v : ℕ) (x : Step) (t₀ : List ℕ) (flags₀ : List Bool) (a₀ : Stores) (words₀ : List ℕ)
+    (sizes : Sizes) (t : List ℕ) (flags : List Bool) (a : Stores) (words : List ℕ) (said : ℕ)
+    → kind < kinds
+    → stepAsked kind i f b v ≡ x
+    → classOf x ≡ OnAll
     → sizes ≡ inForce given
-    → ServesAll sizes (Restart i) t₀ flags₀ a₀ words₀ t flags a words said
+    → ServesAll sizes x t₀ flags₀ a₀ words₀ t flags a words said
     → Stepped given kind i f b v t₀ flags₀ a₀ words₀ t flags a words said
-stepped-all given i f b v t₀ flags₀ a₀ words₀ sizes t flags a words said kind is force serves =
-    subst⁻¹ (λ k. Stepped given k i f b v t₀ flags₀ a₀ words₀ t flags a words said) is
-    (said-of given 11 i f b v t₀ flags₀ a₀ words₀ (stepOf (serviceHeld given t₀ flags₀ a₀) (Restart i)) t flags a words said
-    refl
+stepped-all given kind i f b v x t₀ flags₀ a₀ words₀ sizes t flags a words said known is class force serves =
+    let s = serviceHeld given t₀ flags₀ a₀ in
+    said-of given kind i f b v t₀ flags₀ a₀ words₀ (stepOf s x) t flags a words said
+    (when _ _ (lt-ltb kind kinds known) ∙ ap (stepOf s) is)
     (serves .long)
     (serves .flagsLong)
     (serves .service given force)
     (serves .says given force)
     (λ e. serves .silent given force)
+    (subst⁻¹ (λ (y : Step). Keeps y (stepOf s x .reply) t₀ flags₀ t flags) is
     (record {
       refused = serves .refused given force;
-      words = λ g k there below stays. conflict refl stays;
-      reports = λ e. conflict refl e;
+      words = λ g k there below stays. conflict refl (ap (λ (class : Class). mayChange class g k) (sym class) ∙ stays);
+      reports = λ e. conflict refl (ap mayReport (sym class) ∙ e);
     }))
 
 -- ---- a step that is given as a value

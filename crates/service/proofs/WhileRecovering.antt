@@ -6,7 +6,8 @@ use mathlib.Core.Bool.{Bool, true, false, cond, not, _&&_, _||_}
 use mathlib.Core.List.{List}
 use lib.ListN.{set, length}
 use lib.Seq.{ext-getD}
-use borrow.Author.Tests.{leb-false, not-false}
+use lib.Dec.{ltb}
+use borrow.Author.Tests.{leb-false, lt-ltb, not-false}
 use Rattle.records.specs.Record.{isOpen}
 use Rattle.sizes.specs.declared.sizes.Sizes.{Sizes}
 use Rattle.sizes.specs.Sizes.{Permitted, cell}
@@ -21,13 +22,13 @@ use Rattle.protocol.proofs.Promises.{Promises}
 use Rattle.blocks.specs.Stores.{valueRead, readStores}
 use Rattle.table.specs.TableStep.{noEntry}
 use Rattle.service.specs.declared.service.Service.{Service}
-use Rattle.service.specs.Contents.{tableIn, entryAt, blockAt, reportedAt, clientAt, heldAt, storesOf, withStores}
+use Rattle.service.specs.Contents.{tableIn, entryAt, blockAt, reportedAt, embargoedAt, clientAt, heldAt, storesOf, withStores}
 use Rattle.service.specs.Demand3.{Memory, atBlock, delays, tableOf, NoOpenWaits}
 use Rattle.service.proofs.Tests.{conflict}
 use Rattle.service.proofs.Lists.{count-none}
-use Rattle.service.proofs.Views.{inside, viewOf, reportsOf, client-is, held-is, value-is}
+use Rattle.service.proofs.Views.{In, viewOf, heardOf, client-is, held-is, value-is}
 use Rattle.service.proofs.BlockSteps.{write-step}
-use Rattle.service.proofs.TableSteps.{crash-step, report-step, end-step}
+use Rattle.service.proofs.TableSteps.{aside, aside-blank, crash-step, report-step, end-step}
 use Rattle.service.proofs.Accepted.{Passed, testsOf, doneOf}
 use Rattle.service.proofs.Invariant.{rowIn, table-length, row-is, Runs, InRecovery, Recovers, after-block}
 use Rattle.service.proofs.Invariant.{after-table}
@@ -35,16 +36,17 @@ use Rattle.service.proofs.Invariant.{block-here, block-elsewhere}
 
 -- a step that is not cut off in recovery does not need the server
 own-step :
-    (recovering reported needsServer : Bool)
+    (recovering reported needs : Bool)
     → recovering ≡ true
-    → (recovering && (reported || needsServer)) ≡ false
-    → needsServer ≡ false
-own-step true true needsServer state e = conflict refl e
-own-step true false needsServer state e = e
-own-step false reported needsServer state e = conflict state refl
+    → ((reported || needs) && recovering) ≡ false
+    → needs ≡ false
+own-step true true needs state e = conflict refl e
+own-step true false true state e = conflict refl e
+own-step true false false state e = refl
+own-step false reported needs state e = conflict state refl
 
 -- a read that does not need the server fetches nothing
-no-fetch :
+pub no-fetch :
     (own : ClientFile) (held : Bool) → readNeedsServer own held ≡ false → (own .opens .caching && not held) ≡ false
 no-fetch own held e = by-flags (isOpen (own .opens)) (own .opens .caching) held e
   where
@@ -54,7 +56,7 @@ no-fetch own held e = by-flags (isOpen (own .opens)) (own .opens .caching) held 
     by-flags true false held e = refl
     by-flags false caching held e = conflict refl e
 
-unfetched :
+pub unfetched :
     (s : Service) (caching : Bool) (i f b : ℕ)
     → (caching && not (heldAt s i f b)) ≡ false
     → withStores s (readStores caching i f b (storesOf s)) ≡ s
@@ -82,70 +84,76 @@ module _
     (r : Recovers z Recovering s m t) where
   pub read-kept :
       (i f b : ℕ)
+      → embargoedAt s i ≡ false
       → Passed (testsOf z s (Read i f b))
       → (valueRead (clientAt s i f .opens .caching) i f b (storesOf s) ≡ latest (m f b))
       × Recovers z Recovering (doneOf z s (Read i f b) .service) m t
-  read-kept i f b (client, (file, (block, (cut, _)))) =
+  read-kept i f b unbarred (client, (file, (block, (_, (cut, _))))) =
       let hi : i < z .clients = leb-false (z .clients) i client in
+      let here : In z s i = record { below = hi; unbarred = unbarred } in
       let hf : f < z .files = leb-false (z .files) f file in
       let hb : b < z .blocks = leb-false (z .blocks) b block in
       let v : View = viewOf z s f b in
       let needs : Bool = readNeedsServer (clientAt s i f) (heldAt s i f b) in
       let own : needs ≡ false = own-step (tableIn s .recovering) (reportedAt s i) needs (r .state) cut in
       let shown : needs ≡ readNeedsServer (v .client i) (v .held i) =
-      λ k. readNeedsServer (client-is z s f b hi k) (held-is z s f b hi k) in
+      λ k. readNeedsServer (client-is z s f b here k) (held-is z s f b here k) in
       let none = no-fetch (clientAt s i f) (heldAt s i f b) own in (
-        value-is z s f b hi
-            ∙ promises .readsOwn v (m f b) i (reportsOf z s) (rowIn z t f) (r .views f b hf hb) hi (sym shown ∙ own),
+        value-is z s f b here
+            ∙ promises .readsOwn v (m f b) i (heardOf z s) (rowIn z t f) (r .views f b hf hb) hi (sym shown ∙ own),
         subst⁻¹ (λ s′. Recovers z Recovering s′ m t) (unfetched s (clientAt s i f .opens .caching) i f b none) r,
       )
 
   pub write-kept :
       (i f b v : ℕ)
+      → embargoedAt s i ≡ false
       → Passed (testsOf z s (Write i f b v))
       → Recovers z Recovering (doneOf z s (Write i f b v) .service) (atBlock m f b (wrote i v (delays s i f))) t
-  write-kept i f b v (client, (file, (block, (cut, _)))) =
+  write-kept i f b v unbarred (client, (file, (block, (_, (cut, _))))) =
       let hi : i < z .clients = leb-false (z .clients) i client in
+      let shown : In z s i = record { below = hi; unbarred = unbarred } in
       let hf : f < z .files = leb-false (z .files) f file in
       let hb : b < z .blocks = leb-false (z .blocks) b block in
       let needs : Bool = writeNeedsServer (clientAt s i f) in
       let own : needs ≡ false = own-step (tableIn s .recovering) (reportedAt s i) needs (r .state) cut in
-      let own′ = subst (λ c. writeNeedsServer c ≡ false) (client-is z s f b hi) own in
-      let p = write-step most (r .sized) hi hf hb v in
+      let own′ = subst (λ c. writeNeedsServer c ≡ false) (client-is z s f b shown) own in
+      let p = write-step most (r .sized) shown hf hb v in
       let s′ : Service = doneOf z s (Write i f b v) .service in
       let noted : History → History = wrote i v (delays s i f) in
       let m′ : Memory = atBlock m f b noted in
       let same : noted (m f b) ≡ wrote i v (viewOf z s f b .client i .opens .caching) (m f b) =
-      ap (λ (c : ClientFile). wrote i v (c .opens .caching) (m f b)) (client-is z s f b hi) in
+      ap (λ (c : ClientFile). wrote i v (c .opens .caching) (m f b)) (client-is z s f b shown) in
       let before = r .views f b hf hb in
-      let kept = promises .writesOwn (viewOf z s f b) (m f b) i v (reportsOf z s) (rowIn z t f) before hi own′ in
-      let here : Recovering (writtenView (viewOf z s f b) i v) (m′ f b) (reportsOf z s) (rowIn z t f) =
-      subst⁻¹ (λ k. Recovering (writtenView (viewOf z s f b) i v) k (reportsOf z s) (rowIn z t f))
+      let kept = promises .writesOwn (viewOf z s f b) (m f b) i v (heardOf z s) (rowIn z t f) before hi own′ in
+      let here : Recovering (writtenView (viewOf z s f b) i v) (m′ f b) (heardOf z s) (rowIn z t f) =
+      subst⁻¹ (λ k. Recovering (writtenView (viewOf z s f b) i v) k (heardOf z s) (rowIn z t f))
       (block-here m f b noted ∙ same) kept in
-      let views : InRecovery z Recovering (reportsOf z s) t s′ m′ =
-      after-block z (λ g w k. Recovering w k (reportsOf z s) (rowIn z t g)) (r .views) p here
+      let views : InRecovery z Recovering (heardOf z s) t s′ m′ =
+      after-block z (λ g w k. Recovering w k (heardOf z s) (rowIn z t g)) (r .views) p here
       (block-elsewhere m f b noted) in
       record {
         sized = p .sized;
         state = p .recovering ∙ r .state;
         rows = r .rows;
-        views = subst⁻¹ (λ reported. InRecovery z Recovering reported t s′ m′) (p .reported) views;
+        views = subst⁻¹ (λ reported. InRecovery z Recovering reported t s′ m′) (p .heard) views;
       }
 
   pub crash-kept : Recovers z Recovering (doneOf z s Crash .service) m t
   crash-kept =
       after-table (crash-step most (r .sized)) refl (r .rows)
       (λ f b hf hb.
-      promises .crashesAgain (viewOf z s f b) (m f b) (reportsOf z s) (rowIn z t f) (r .views f b hf hb))
+      promises .crashesAgain (viewOf z s f b) (m f b) (heardOf z s) (aside most (r .sized)) (rowIn z t f)
+      (r .views f b hf hb) (aside-blank most (r .sized) f b))
 
   pub report-kept :
       (i : ℕ) → Passed (testsOf z s (Report i)) → Recovers z Recovering (doneOf z s (Report i) .service) m t
-  report-kept i (client, (_, (again, _))) =
+  report-kept i (client, (unbarred, (_, (again, _)))) =
       let hi : i < z .clients = leb-false (z .clients) i client in
-      let again′ = subst (λ x. x ≡ false) (inside (z .clients) false (reportedAt s) hi) again in
-      after-table (report-step most (r .sized) hi) (r .state) (r .rows)
+      let here : In z s i = record { below = hi; unbarred = unbarred } in
+      let again′ : heardOf z s i ≡ false = rw (lt-ltb i (z .clients) hi, again, unbarred) in
+      after-table (report-step most (r .sized) here) (r .state) (r .rows)
       (λ f b hf hb.
-      promises .reports (viewOf z s f b) (m f b) i (reportsOf z s) (rowIn z t f) (r .views f b hf hb) hi again′)
+      promises .reports (viewOf z s f b) (m f b) i (heardOf z s) (rowIn z t f) (r .views f b hf hb) hi again′)
 
   -- the service after the end, with the table that was to be given back, and no open waits
   pub end-kept :
@@ -153,12 +161,15 @@ module _
       → let s′ = doneOf z s End .service in
       Runs z Running s′ m × (tableOf s′ ≡ t) × NoOpenWaits s′
   end-kept (_, (missing, _)) =
-      let all : (i : ℕ) → i < z .clients → reportsOf z s i ≡ true =
+      let all : (i : ℕ) → i < z .clients → heardOf z s i ≡ true =
       λ i hi.
-      sym (inside (z .clients) false (reportedAt s) hi)
-      ∙ not-false (reportedAt s i) (count-none (z .clients) (λ j. not (reportedAt s j)) missing i hi) in
+      rw (
+        lt-ltb i (z .clients) hi,
+        not-false (reportedAt s i || embargoedAt s i)
+            (count-none (z .clients) (λ j. not (reportedAt s j || embargoedAt s j)) missing i hi),
+      ) in
       let ended : (f b : ℕ) → f < z .files → b < z .blocks → _ =
-      λ f b hf hb. promises .ends (viewOf z s f b) (m f b) (reportsOf z s) (rowIn z t f) (r .views f b hf hb) all in
+      λ f b hf hb. promises .ends (viewOf z s f b) (m f b) (heardOf z s) (rowIn z t f) (r .views f b hf hb) all in
       let size : length (tableOf s) ≡ z .files = table-length most (r .sized) in
       let row : (f : ℕ) → f < length (tableOf s) → rowIn z (tableOf s) f ≡ rowIn z t f =
       λ f h.

@@ -11,7 +11,7 @@ use Rattle.protocol.specs.Client.{sideOf}
 use Rattle.blocks.specs.Stores.{Stores, blockIn, copyIn, heldIn, dirtyIn}
 use Rattle.protocol.specs.declared.shared.SharedFile.{SharedFile}
 use Rattle.table.specs.declared.table.Table.{Table}
-use Rattle.table.specs.TableStep.{entryIn, sidesIn, isReported}
+use Rattle.table.specs.TableStep.{entryIn, sidesIn, isReported, isEmbargoed}
 use Rattle.service.specs.declared.service.Service.{Service}
 
 -- the sizes in force
@@ -34,6 +34,10 @@ blockAt s f b = blockIn (storesOf s) f b
 -- whether client i has reported
 abbrev pub reportedAt : Service → ℕ → Bool
 reportedAt s i = isReported (tableIn s .reported) i
+
+-- whether client i is under embargo
+abbrev pub embargoedAt : Service → ℕ → Bool
+embargoedAt s i = isEmbargoed (tableIn s .embargoed) i
 
 -- the clients' sides of file f, client i's, and its copy of block b
 abbrev pub sidesAt : Service → ℕ → Sides
@@ -89,6 +93,7 @@ withFile s f x a =
                   files = set (tableIn s .files) f (x .entry);
                   recovering = tableIn s .recovering;
                   reported = tableIn s .reported;
+                  embargoed = tableIn s .embargoed;
                 };
             blocks = a .blocks;
           };

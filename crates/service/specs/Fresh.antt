@@ -20,6 +20,7 @@ fresh z =
                   files = replicate maxFiles (freshEntry maxClients);
                   recovering = false;
                   reported = replicate maxClients false;
+                  embargoed = replicate maxClients false;
                 };
             blocks = replicate maxPlaces 0;
           };

@@ -1,5 +1,5 @@
 -- The service that lent arrays hold, and what a step leaves in them. Any words and flags hold some service.
-use Prim.Native.Nat.{ℕ, _+_, _%_, _/_, _<_, _≤_}
+use Prim.Native.Nat.{ℕ, _+_, _*_, _%_, _/_, _<_, _≤_}
 use mathlib.Core.Path.{_≡_}
 use mathlib.Core.Bool.{Bool, true, false, cond, not, _&&_}
 use mathlib.Core.List.{List}
@@ -22,9 +22,9 @@ use Rattle.service.specs.declared.service.Service.{Service}
 use Rattle.service.specs.declared.outcome.Outcome.{Outcome}
 use Rattle.service.specs.Step.{stepOf}
 
--- the flags: who has reported, and after them whether the server recovers
+-- the flags: who has reported, after them whether the server recovers, and last who is under embargo
 abbrev pub lentFlags : ℕ
-lentFlags = maxClients + 1
+lentFlags = 2 * maxClients + 1
 
 abbrev pub recoveringHeld : List Bool → Bool
 recoveringHeld flags = getD flags maxClients false
@@ -32,12 +32,16 @@ recoveringHeld flags = getD flags maxClients false
 abbrev pub reportedHeld : List Bool → List Bool
 reportedHeld flags = take maxClients flags
 
+abbrev pub embargoedHeld : List Bool → List Bool
+embargoedHeld flags = listed maxClients (λ i. getD flags (maxClients + 1 + i) false)
+
 abbrev pub tableHeld : List ℕ → List Bool → Table
 tableHeld t flags =
     record {
       files = listed maxFiles (λ f. entryHeld t f);
       recovering = recoveringHeld flags;
       reported = reportedHeld flags;
+      embargoed = embargoedHeld flags;
     }
 
 abbrev pub serviceHeld : Sizes → List ℕ → List Bool → Stores → Service
@@ -71,7 +75,7 @@ mayChange (OnBlock i f) g k = false
 mayChange OnTable g k = not (isSide k)
 mayChange OnAll g k = true
 
--- whether it may change who has reported, and whether the server recovers
+-- whether it may change who has reported, whether the server recovers, and who is under embargo
 abbrev pub mayReport : Class → Bool
 mayReport (OnFile f) = false
 mayReport (OnBlock i f) = false

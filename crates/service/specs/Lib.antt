@@ -1,6 +1,6 @@
 -- The service, in reading order.
 pub mod Contents
-pub mod Restart
+pub mod Embargo
 pub mod Step
 pub mod Lent
 pub mod Served
@@ -8,3 +8,4 @@ pub mod Fresh
 pub mod Demand3
 pub mod Plain
 pub mod NothingBehind
+pub mod Aside

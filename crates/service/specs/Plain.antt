@@ -1,5 +1,5 @@
--- Demand 3 as document 01 has it, for lists in which no client restarts: the reference memory is the plain book, a number
--- for each file and block.
+-- Demand 3 as document 01 has it, for lists in which no client restarts, is put under embargo or is told: the reference
+-- memory is the plain book, a number for each file and block.
 use Prim.Native.Nat.{ℕ}
 use mathlib.Core.Path.{_≡_}
 use mathlib.Core.Bool.{Bool, true, false, cond, _&&_}
@@ -8,7 +8,7 @@ use lib.Dec.{eqb}
 use Rattle.protocol.specs.declared.reply.Reply.the-variants.{Value}
 use Rattle.protocol.specs.declared.step.Step.{Step}
 use Rattle.protocol.specs.declared.step.Step.the-variants.{Open, Close, Read, Write, Flush, Answer, Crash, Report, End}
-use Rattle.protocol.specs.declared.step.Step.the-variants.{Restart}
+use Rattle.protocol.specs.declared.step.Step.the-variants.{Restart, Embargo, Lift}
 use Rattle.sizes.specs.declared.sizes.Sizes.{Sizes}
 use Rattle.service.specs.declared.service.Service.{Service}
 use Rattle.service.specs.Step.{stepOf}
@@ -35,26 +35,31 @@ noted k Crash refusal = k
 noted k (Report i) refusal = k
 noted k End refusal = k
 noted k (Restart i) refusal = k
+noted k (Embargo i f) refusal = k
+noted k (Lift i) refusal = k
 
 -- "Every accepted read gives the number that the book has for its file and block just before that read."
 abbrev pub ReadIsBooked : Service → Book → Step → Type 0
 ReadIsBooked s k x = (i f b : ℕ) → x ≡ Read i f b → refused s x ≡ false → stepOf s x .reply ≡ Value (k f b)
 
-abbrev pub isRestart : Step → Bool
-isRestart (Open mode i f) = false
-isRestart (Close mode i f) = false
-isRestart (Read i f b) = false
-isRestart (Write i f b v) = false
-isRestart (Flush i f b) = false
-isRestart (Answer i f) = false
-isRestart Crash = false
-isRestart (Report i) = false
-isRestart End = false
-isRestart (Restart i) = true
+-- a restart, an embargo or the end of one
+abbrev pub isOnAll : Step → Bool
+isOnAll (Open mode i f) = false
+isOnAll (Close mode i f) = false
+isOnAll (Read i f b) = false
+isOnAll (Write i f b v) = false
+isOnAll (Flush i f b) = false
+isOnAll (Answer i f) = false
+isOnAll Crash = false
+isOnAll (Report i) = false
+isOnAll End = false
+isOnAll (Restart i) = true
+isOnAll (Embargo i f) = true
+isOnAll (Lift i) = true
 
-abbrev pub NoRestarts : List Step → Type 0
-NoRestarts [] = Unit {0}
-NoRestarts (x ∷ xs) = (isRestart x ≡ false) × NoRestarts xs
+abbrev pub Plain : List Step → Type 0
+Plain [] = Unit {0}
+Plain (x ∷ xs) = (isOnAll x ≡ false) × Plain xs
 
 -- both hold at each step of the list
 abbrev pub PlainlyHolds : Service → Book → Recovery → List Step → Type 0
@@ -64,9 +69,9 @@ PlainlyHolds s k r (x ∷ xs) =
     × EndRestores s r x
     × PlainlyHolds (after s x) (noted k x (refused s x)) (recoveryAfter s r x (refused s x)) xs
 
--- for every list of steps without restarts, from the service s on
+-- for every such list of steps, from the service s on
 pub record PlainlyConsistent (s : Service) : Type 0 where
-  pub always : (steps : List Step) → NoRestarts steps → PlainlyHolds s zeros none steps
+  pub always : (steps : List Step) → Plain steps → PlainlyHolds s zeros none steps
 
 -- for any sizes
 abbrev pub PlainDemand3 : Type 0

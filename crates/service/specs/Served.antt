@@ -1,6 +1,6 @@
 -- What a step leaves, as the code finds it: by the sizes in force, with its reply as a value. Derived: the contract of
 -- `take_step` does not mention it.
-use Prim.Native.Nat.{ℕ, _*_, _%_, _≤_}
+use Prim.Native.Nat.{ℕ, _+_, _*_, _%_, _≤_}
 use mathlib.Core.Path.{_≡_}
 use mathlib.Core.Bool.{Bool, true, false, cond}
 use mathlib.Core.List.{List}
@@ -18,9 +18,9 @@ use Rattle.table.specs.declared.recovery.RecoveryOutcome.{RecoveryOutcome}
 use Rattle.table.specs.Swept.{Swept}
 use Rattle.words.specs.Said.{calls?, SaysIn, SaidSoFar}
 use Rattle.service.specs.declared.outcome.Outcome.{Outcome}
-use Rattle.service.specs.Restart.{restartedBelow, grantsBelow}
+use Rattle.service.specs.Embargo.{forgottenBelow, grantsBelow, droppedBelow}
 use Rattle.service.specs.Step.{stepOf}
-use Rattle.service.specs.Lent.{recoveringHeld, reportedHeld, serviceHeld, Keeps}
+use Rattle.service.specs.Lent.{recoveringHeld, reportedHeld, embargoedHeld, serviceHeld, Keeps}
 
 -- the mode of an open or a close, by its kind
 abbrev pub modeAsked : ℕ → Mode
@@ -49,24 +49,33 @@ pub record SweptBy
   pub rows : Swept sizes (done .sweep) t₀ t
   pub recovers : recoveringHeld flags ≡ done .recovery .recovering
   pub reports : reportedHeld flags ≡ done .recovery .reported
+  pub embargoes : embargoedHeld flags ≡ done .recovery .embargoed
   pub flagsLong : length flags ≡ length flags₀
   pub same : reply ≡ done .reply
 
--- the restart of client i on the files below k: the service that the arrays hold, and the words in which the grants are
--- said so far, `at` of them
-pub record Restarts
-    (sizes : Sizes) (i k : ℕ) (t₀ : List ℕ) (a₀ : Stores) (words₀ t : List ℕ) (a : Stores) (words : List ℕ) (at : ℕ)
+-- the server has forgotten client i on the files below k: the service that the arrays hold, and the words in which the
+-- grants are said so far, after the words `pre`; there are `at` words in all
+pub record Forgets
+    (sizes : Sizes) (i k : ℕ) (t₀ : List ℕ) (a₀ : Stores) (words₀ pre t : List ℕ) (a : Stores) (words : List ℕ) (at : ℕ)
     : Type 0 where
   pub long : length t ≡ length t₀
-  pub few : at ≤ 4 * k
+  pub few : at ≤ length pre + 4 * k
   pub service :
       (given : Sizes) (flags : List Bool)
-      → serviceHeld given t flags a ≡ restartedBelow sizes i k (serviceHeld given t₀ flags a₀)
+      → serviceHeld given t flags a ≡ forgottenBelow sizes i k (serviceHeld given t₀ flags a₀)
   pub said :
       (given : Sizes) (flags : List Bool)
-      → SaidSoFar words₀ (grantsBelow sizes i k (serviceHeld given t₀ flags a₀)) words
+      → SaidSoFar words₀ pre (grantsBelow sizes i k (serviceHeld given t₀ flags a₀)) words
   pub count :
-      (given : Sizes) (flags : List Bool) → at ≡ 4 * length (grantsBelow sizes i k (serviceHeld given t₀ flags a₀))
+      (given : Sizes) (flags : List Bool)
+      → at ≡ length pre + 4 * length (grantsBelow sizes i k (serviceHeld given t₀ flags a₀))
+
+-- client i has dropped what it had of the files below k
+pub record Drops (sizes : Sizes) (i k : ℕ) (t₀ : List ℕ) (a₀ : Stores) (t : List ℕ) (a : Stores) : Type 0 where
+  pub long : length t ≡ length t₀
+  pub service :
+      (given : Sizes) (flags : List Bool)
+      → serviceHeld given t flags a ≡ droppedBelow sizes i k (serviceHeld given t₀ flags a₀)
 
 -- the same as `Serves`, of a step that may grant the opens of others: it is said too
 pub record ServesAll

@@ -1,16 +1,17 @@
-// The lent flags: who has reported, and after them whether the server recovers.
+// The lent flags: who has reported, after them whether the server recovers, and last who is under embargo.
 ghost use mathlib.Core.Path.{_≡_};
 ghost use lib.ListN.{length};
-ghost use Rattle.service.specs.Lent.{lentFlags, recoveringHeld, reportedHeld};
+ghost use Rattle.service.specs.Lent.{lentFlags, recoveringHeld, reportedHeld, embargoedHeld};
 use sizes::MAX_CLIENTS;
 use table::Recovery;
 
-pub const FLAGS: usize = MAX_CLIENTS + 1;
+pub const FLAGS: usize = 2 * MAX_CLIENTS + 1;
 
 pub fn recovery_of(flags: &[bool; FLAGS]) -> Recovery
     requires { ⌜ length (now flags) ≡ lentFlags ⌝ }
     ensures { λ r. ⌜ (r .recovering ≡ recoveringHeld (now (flags .entry)))
-        × (r .reported ≡ reportedHeld (now (flags .entry))) ⌝ }
+        × (r .reported ≡ reportedHeld (now (flags .entry)))
+        × (r .embargoed ≡ embargoedHeld (now (flags .entry))) ⌝ }
 {
     Recovery {
         recovering: flags[8],
@@ -24,6 +25,16 @@ pub fn recovery_of(flags: &[bool; FLAGS]) -> Recovery
             flags[6],
             flags[7],
         ],
+        embargoed: [
+            flags[9],
+            flags[10],
+            flags[11],
+            flags[12],
+            flags[13],
+            flags[14],
+            flags[15],
+            flags[16],
+        ],
     }
 }
 
@@ -31,9 +42,11 @@ pub fn put_recovery(flags: &mut [bool; FLAGS], recovery: Recovery)
     requires { ⌜ length (now flags) ≡ lentFlags ⌝ }
     ensures { λ r. ⌜ (recoveringHeld (now (flags .exit)) ≡ recovery .recovering)
         × (reportedHeld (now (flags .exit)) ≡ recovery .reported)
+        × (embargoedHeld (now (flags .exit)) ≡ recovery .embargoed)
         × (length (now (flags .exit)) ≡ lentFlags) ⌝ }
 {
     let reports = recovery.reported;
+    let embargoed = recovery.embargoed;
     flags[0] = reports[0];
     flags[1] = reports[1];
     flags[2] = reports[2];
@@ -43,4 +56,12 @@ pub fn put_recovery(flags: &mut [bool; FLAGS], recovery: Recovery)
     flags[6] = reports[6];
     flags[7] = reports[7];
     flags[8] = recovery.recovering;
+    flags[9] = embargoed[0];
+    flags[10] = embargoed[1];
+    flags[11] = embargoed[2];
+    flags[12] = embargoed[3];
+    flags[13] = embargoed[4];
+    flags[14] = embargoed[5];
+    flags[15] = embargoed[6];
+    flags[16] = embargoed[7];
 }

@@ -64,6 +64,7 @@ pub fn hold(
     let state = server.table;
     let files = state.files;
     let reported = state.reported;
+    let embargoed = state.embargoed;
     let clients = service.clients;
     hold_files(files, clients, table);
     put_recovery(
@@ -71,6 +72,7 @@ pub fn hold(
         Recovery {
             recovering: state.recovering,
             reported,
+            embargoed,
         },
     );
     let all_blocks = server.blocks;
@@ -110,6 +112,7 @@ pub fn hold_fresh(
         Recovery {
             recovering: false,
             reported: [false; MAX_CLIENTS],
+            embargoed: [false; MAX_CLIENTS],
         },
     );
     *blocks = [0; MAX_PLACES];
@@ -125,10 +128,12 @@ pub fn held_table(table: &[u64; WORDS], flags: &[bool; FLAGS]) -> Table
 {
     let recovery = recovery_of(flags);
     let reported = recovery.reported;
+    let embargoed = recovery.embargoed;
     Table {
         files: held_files(table),
         recovering: recovery.recovering,
         reported,
+        embargoed,
     }
 }
 

@@ -1,10 +1,10 @@
 // The two sides together: the server with its state table and blocks, the clients with their copies, and the steps
 // that the service takes. A service can be held in lent arrays.
 mod crashing;
+mod embargo;
 mod flags;
 mod holding;
 mod outcome;
-mod restarting;
 mod service;
 mod step;
 mod taking;

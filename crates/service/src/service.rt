@@ -1,5 +1,6 @@
 // The whole service, and the fresh one.
 ghost use mathlib.Core.Path.{_≡_};
+ghost use Rattle.service.specs.Aside.{SetsAside};
 ghost use Rattle.service.specs.Demand3.{Consistent};
 ghost use Rattle.service.specs.Fresh.{fresh};
 ghost use Rattle.service.specs.NothingBehind.{LeavesNothing};
@@ -35,12 +36,13 @@ pub struct Service {
 
 impl Service {
     // The fresh service of these sizes. From it every list of steps is consistent, which is Demand 3, plainly so where no
-    // client restarts, and leaves nothing behind.
+    // client restarts or is put under embargo; it leaves nothing behind, and sets aside whoever is under embargo.
     pub fn new(sizes: Sizes) -> Self
         ensures { λ r. ⌜ r ≡ fresh sizes ⌝ }
         ensures { λ r. ⌜ Consistent r ⌝ }
         ensures { λ r. ⌜ PlainlyConsistent r ⌝ }
         ensures { λ r. ⌜ LeavesNothing r ⌝ }
+        ensures { λ r. ⌜ SetsAside r ⌝ }
     {
         let none = ClientFile::none();
         let sides = Sides {
@@ -51,6 +53,7 @@ impl Service {
             files: [entry; MAX_FILES],
             recovering: false,
             reported: [false; MAX_CLIENTS],
+            embargoed: [false; MAX_CLIENTS],
         };
         let server = Server {
             table,

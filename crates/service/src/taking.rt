@@ -1,5 +1,6 @@
 // The one step function: a step on the service that lent arrays hold, its numbers in, a letter and words out.
 ghost use mathlib.Core.Path.{_≡_};
+ghost use mathlib.Core.List.{List};
 ghost use Prim.Native.Nat.{ℕ, _<_};
 ghost use lib.ListN.{length};
 ghost use Rattle.sizes.specs.Sizes.{Permitted};
@@ -11,10 +12,12 @@ ghost use Rattle.words.specs.Rows.{tableWords};
 ghost use Rattle.words.specs.Said.{saidRoom};
 ghost use Rattle.service.specs.Lent.{lentFlags, Stepped};
 ghost use Rattle.service.specs.Served.{modeAsked, SweptBy, Serves};
+use crate::embargo::embargo_client;
+use crate::embargo::lift_embargo;
+use crate::embargo::restart_client;
 use crate::flags::FLAGS;
 use crate::flags::put_recovery;
 use crate::flags::recovery_of;
-use crate::restarting::restart_client;
 use access::read_block;
 use access::write_block;
 use file::Response;
@@ -70,9 +73,9 @@ pub fn take_step(
             given,
             kind,
             client,
+            file,
             table,
             flags,
-            blocks,
             copies,
             held,
             dirty,
@@ -99,14 +102,14 @@ pub fn take_step(
     say(reply, calls, words)
 }
 
-// The same for a kind that is past those that `respond` knows: a restart, or no step.
+// The same for a kind that is past those that `respond` knows: a step on all files, or no step.
 fn take_other(
     given: Sizes,
     kind: u64,
     client: usize,
+    file: usize,
     table: &mut [u64; WORDS],
     flags: &mut [bool; FLAGS],
-    blocks: &mut [u64; MAX_PLACES],
     copies: &mut [u64; MAX_CELLS],
     held: &mut [bool; MAX_CELLS],
     dirty: &mut [bool; MAX_CELLS],
@@ -116,27 +119,29 @@ fn take_other(
     requires { ⌜ length (now table) ≡ tableWords ⌝ }
     requires { ⌜ length (now flags) ≡ lentFlags ⌝ }
     requires { ⌜ length (now words) ≡ saidRoom ⌝ }
-    ensures { λ r. ⌜ ((f b v : ℕ) → Stepped given kind client f b v (now (table .entry)) (now (flags .entry))
-        (lent (now (blocks .entry)) (now (copies .entry)) (now (held .entry)) (now (dirty .entry)))
+    ensures { λ r. ⌜ ((blocks : List ℕ) (b v : ℕ) → Stepped given kind client file b v (now (table .entry)) (now (flags .entry))
+        (lent blocks (now (copies .entry)) (now (held .entry)) (now (dirty .entry)))
         (now (words .entry)) (now (table .exit)) (now (flags .exit))
-        (lent (now (blocks .exit)) (now (copies .exit)) (now (held .exit)) (now (dirty .exit)))
+        (lent blocks (now (copies .exit)) (now (held .exit)) (now (dirty .exit)))
         (now (words .exit)) r) ⌝ }
 {
-    if kind != 11 {
-        return say(Reply::Refused(NO_STEP), [0; MAX_CLIENTS], words);
-    }
     let sizes = given.in_force();
-    restart_client(
-        sizes,
-        client,
-        table,
-        flags,
-        blocks,
-        copies,
-        held,
-        dirty,
-        words,
-    )
+    match kind {
+        11 => restart_client(sizes, client, table, flags, copies, held, dirty, words),
+        12 => embargo_client(
+            sizes,
+            client,
+            file,
+            table,
+            flags,
+            copies,
+            held,
+            dirty,
+            words,
+        ),
+        13 => lift_embargo(sizes, client, table, flags, copies, held, dirty, words),
+        _ => say(Reply::Refused(NO_STEP), [0; MAX_CLIENTS], words),
+    }
 }
 
 // The steps on a file, on a block and on the table, by the sizes in force, the reply as a value. An arm for each kind:
@@ -166,10 +171,12 @@ fn respond(
         (r .reply) (r .calls) ⌝ }
 {
     let recovering = flags[8];
+    let embargoed = flags[9 + client % MAX_CLIENTS];
     let mode = mode_asked(kind);
     match kind {
         0 | 1 => open(
             sizes,
+            embargoed,
             recovering,
             mode,
             client,
@@ -179,11 +186,21 @@ fn respond(
             held,
             dirty,
         ),
-        2 | 3 => silent(close(sizes, recovering, mode, client, file, table, dirty)),
+        2 | 3 => silent(close(
+            sizes,
+            embargoed,
+            recovering,
+            mode,
+            client,
+            file,
+            table,
+            dirty,
+        )),
         4 => {
             let own = side_of(table[file % MAX_FILES * ROW + (10 + client % MAX_CLIENTS)]);
             silent(read_block(
                 sizes,
+                embargoed,
                 recovering,
                 flags[client % MAX_CLIENTS],
                 own,
@@ -200,6 +217,7 @@ fn respond(
             let own = side_of(table[file % MAX_FILES * ROW + (10 + client % MAX_CLIENTS)]);
             silent(write_block(
                 sizes,
+                embargoed,
                 recovering,
                 flags[client % MAX_CLIENTS],
                 own,
@@ -215,6 +233,7 @@ fn respond(
         }
         6 => silent(flush(
             sizes,
+            embargoed,
             recovering,
             client,
             file,
@@ -226,6 +245,7 @@ fn respond(
         )),
         7 => silent(answer(
             sizes,
+            embargoed,
             recovering,
             client,
             file,

@@ -197,7 +197,13 @@ all-of-word = (
                       of-none _ [] _ refl refl,
                       (
                         of-more _ [] _ (λ a. of-none _ (a ∷ []) _ refl refl),
-                        tt,
+                        (
+                          of-two _ _ (λ a b. (refl, refl)),
+                          (
+                            of-more _ [] _ (λ a. of-none _ (a ∷ []) _ refl refl),
+                            tt,
+                          ),
+                        ),
                       ),
                     ),
                   ),

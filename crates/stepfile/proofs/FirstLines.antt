@@ -10,7 +10,7 @@ use borrow.Author.Tests.{ne-eqb, eqb-true, ltb-true, ltb-false}
 use Rattle.records.specs.declared.record.Mode.the-variants.{Read as ForRead, Write as ForWrite}
 use Rattle.protocol.specs.declared.step.Step.{Step}
 use Rattle.protocol.specs.declared.step.Step.the-variants.{Open, Close, Read, Write, Flush, Answer, Crash, Report, End}
-use Rattle.protocol.specs.declared.step.Step.the-variants.{Restart}
+use Rattle.protocol.specs.declared.step.Step.the-variants.{Restart, Embargo, Lift}
 use Rattle.stepfile.specs.declared.parsed.Parsed.{Parsed}
 use Rattle.stepfile.specs.declared.parsed.Parsed.the-variants.{Is, NoStep}
 use Rattle.stepfile.specs.declared.parsed.Read.the-variants.{Line}
@@ -104,6 +104,8 @@ word-no-lf Crash = (refl, (refl, tt))
 word-no-lf (Report i) = (refl, (refl, tt))
 word-no-lf End = (refl, (refl, tt))
 word-no-lf (Restart i) = (refl, (refl, tt))
+word-no-lf (Embargo i f) = (refl, (refl, tt))
+word-no-lf (Lift i) = (refl, (refl, tt))
 
 pub step-no-lf : (s : Step) → NoLF (stepText s)
 step-no-lf s = no-lf-append (wordOf s) (valuesText (numbersOf s)) (word-no-lf s) (values-no-lf (numbersOf s))

@@ -10,7 +10,7 @@ use Rattle.sizes.specs.declared.sizes.Sizes.{Sizes}
 use Rattle.records.specs.declared.record.Mode.the-variants.{Read as ForRead, Write as ForWrite}
 use Rattle.protocol.specs.declared.step.Step.{Step}
 use Rattle.protocol.specs.declared.step.Step.the-variants.{Open, Close, Read, Write, Flush, Answer, Crash, Report, End}
-use Rattle.protocol.specs.declared.step.Step.the-variants.{Restart}
+use Rattle.protocol.specs.declared.step.Step.the-variants.{Restart, Embargo, Lift}
 use Rattle.stepfile.specs.declared.parsed.Parsed.{Parsed}
 use Rattle.stepfile.specs.declared.parsed.Parsed.the-variants.{Is, NoStep}
 use Rattle.stepfile.specs.Text.{decimal, valuesText}
@@ -40,6 +40,8 @@ word-two Crash = refl
 word-two (Report i) = refl
 word-two End = refl
 word-two (Restart i) = refl
+word-two (Embargo i f) = refl
+word-two (Lift i) = refl
 
 numbers-most : (s : Step) → length (numbersOf s) ≤ 4
 numbers-most (Open m i f) = omega arith
@@ -52,6 +54,8 @@ numbers-most Crash = omega arith
 numbers-most (Report i) = omega arith
 numbers-most End = omega arith
 numbers-most (Restart i) = omega arith
+numbers-most (Embargo i f) = omega arith
+numbers-most (Lift i) = omega arith
 
 pub step-most : (s : Step) → EachFits (numbersOf s) → length (stepText s) ≤ 86
 step-most s fits =

@@ -9,7 +9,7 @@ use borrow.Author.Tests.{ltb-true, ltb-false, ne-eqb}
 use Rattle.records.specs.declared.record.Mode.the-variants.{Read as ForRead, Write as ForWrite}
 use Rattle.protocol.specs.declared.step.Step.{Step}
 use Rattle.protocol.specs.declared.step.Step.the-variants.{Open, Close, Read, Write, Flush, Answer, Crash, Report, End}
-use Rattle.protocol.specs.declared.step.Step.the-variants.{Restart}
+use Rattle.protocol.specs.declared.step.Step.the-variants.{Restart, Embargo, Lift}
 use Rattle.stepfile.specs.declared.parsed.Parsed.the-variants.{Is}
 use Rattle.stepfile.specs.Text.{decimal, argumentText, valuesText}
 use Rattle.stepfile.specs.Grammar.{Reading, found, nothing, onward, isDigit, digitsOn, numeral, argument, Shape, whole, taking, noWord, shapeOf, shaped, step, alone, parseLine}
@@ -103,6 +103,8 @@ step-back Crash fits l h = shaped-back _ [] _ refl fits l h
 step-back (Report i) fits l h = shaped-back _ (i ∷ []) _ refl fits l h
 step-back End fits l h = shaped-back _ [] _ refl fits l h
 step-back (Restart i) fits l h = shaped-back _ (i ∷ []) _ refl fits l h
+step-back (Embargo i f) fits l h = shaped-back _ (i ∷ f ∷ []) _ refl fits l h
+step-back (Lift i) fits l h = shaped-back _ (i ∷ []) _ refl fits l h
 
 pub reads-back : (s : Step) → EachFits (numbersOf s) → parseLine (stepText s) ≡ Is s
 unfolding parseLine

@@ -7,7 +7,7 @@ use lib.Dec.{eqb, leb, ltb}
 use Rattle.records.specs.declared.record.Mode.the-variants.{Read as ForRead, Write as ForWrite}
 use Rattle.protocol.specs.declared.step.Step.{Step}
 use Rattle.protocol.specs.declared.step.Step.the-variants.{Open, Close, Read, Write, Flush, Answer, Crash, Report, End}
-use Rattle.protocol.specs.declared.step.Step.the-variants.{Restart}
+use Rattle.protocol.specs.declared.step.Step.the-variants.{Restart, Embargo, Lift}
 use Rattle.stepfile.specs.declared.parsed.Parsed.{Parsed}
 use Rattle.stepfile.specs.declared.parsed.Parsed.the-variants.{Is, NoStep}
 use Rattle.stepfile.specs.Text.{bytes}
@@ -63,7 +63,7 @@ four f = taking (λ a. three (f a))
 
 -- "OR, OW, CR, CW (open, close; read, write) and AN (reply) with station, file; RD and FL with station, file, block;
 -- WR with station, file, block, value; XX crash; RP station; EN end." "A restarted station says so (BT station)"
--- (document 02, Wish 8).
+-- (document 02, Wish 8). "put aside (EM station, file)", "told (LF station)" (Wish 9).
 abbrev pub words : List (List ℕ × Shape)
 words =
     (bytes "OR", two (Open ForRead))
@@ -78,6 +78,8 @@ words =
     ∷ (bytes "RP", one Report)
     ∷ (bytes "EN", whole End)
     ∷ (bytes "BT", one Restart)
+    ∷ (bytes "EM", two Embargo)
+    ∷ (bytes "LF", one Lift)
     ∷ []
 
 abbrev pub same : List ℕ → List ℕ → Bool

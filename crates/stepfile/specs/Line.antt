@@ -2,7 +2,7 @@
 -- call as station:kind; or V value; or N refusal; or A, followed, if an open was granted, by its station and its G
 -- fields; else K". "Writing back now tells how many blocks it sent, .. and a reply line prints it directly after A,
 -- before any grant" (document 02, Wish 5). A restart "prints K, then each granted open as after A, by ascending file"
--- (Wish 8).
+-- (Wish 8), and an embargo "A 0, then grants as BT does" (Wish 9).
 use Prim.Native.Nat.{ℕ}
 use mathlib.Core.Bool.{cond}
 use mathlib.Core.List.{List, [], _∷_, _++_}

@@ -4,7 +4,7 @@ use mathlib.Core.List.{List, [], _∷_, _++_}
 use Rattle.records.specs.declared.record.Mode.the-variants.{Read as ForRead, Write as ForWrite}
 use Rattle.protocol.specs.declared.step.Step.{Step}
 use Rattle.protocol.specs.declared.step.Step.the-variants.{Open, Close, Read, Write, Flush, Answer, Crash, Report, End}
-use Rattle.protocol.specs.declared.step.Step.the-variants.{Restart}
+use Rattle.protocol.specs.declared.step.Step.the-variants.{Restart, Embargo, Lift}
 use Rattle.stepfile.specs.Text.{bytes, valuesText}
 
 abbrev pub wordOf : Step → List ℕ
@@ -20,6 +20,8 @@ wordOf Crash = bytes "XX"
 wordOf (Report i) = bytes "RP"
 wordOf End = bytes "EN"
 wordOf (Restart i) = bytes "BT"
+wordOf (Embargo i f) = bytes "EM"
+wordOf (Lift i) = bytes "LF"
 
 abbrev pub numbersOf : Step → List ℕ
 numbersOf (Open m i f) = i ∷ f ∷ []
@@ -32,6 +34,8 @@ numbersOf Crash = []
 numbersOf (Report i) = i ∷ []
 numbersOf End = []
 numbersOf (Restart i) = i ∷ []
+numbersOf (Embargo i f) = i ∷ f ∷ []
+numbersOf (Lift i) = i ∷ []
 
 abbrev pub stepText : Step → List ℕ
 stepText s = wordOf s ++ valuesText (numbersOf s)

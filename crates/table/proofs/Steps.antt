@@ -22,15 +22,15 @@ use Rattle.table.specs.Recovery.{kept, recovered, recoveryStep, tableAft
 
 -- the state of the recovery in a table
 abbrev pub recoveryIn : Table → Recovery
-recoveryIn t = record { recovering = t .recovering; reported = t .reported }
+recoveryIn t = record { recovering = t .recovering; reported = t .reported; embargoed = t .embargoed }
 
 acted-so :
     (z : Sizes) (t : Table) (clients : List Sides) (y : TableAct)
     → acted z t clients y ≡ tableAfter z (t .files) clients (recovered z (recoveryIn t) y)
 acted-so z t clients (reports i) =
-    split (eqb (firstOf (reportTests z (t .recovering) (t .reported) i)) 0) (λ e. rw e) (λ e. rw e)
+    split (eqb (firstOf (reportTests z (t .recovering) (t .reported) (t .embargoed) i)) 0) (λ e. rw e) (λ e. rw e)
 acted-so z t clients ends =
-    split (eqb (firstOf (endTests z (t .recovering) (t .reported))) 0) (λ e. rw e) (λ e. rw e)
+    split (eqb (firstOf (endTests z (t .recovering) (t .reported) (t .embargoed))) 0) (λ e. rw e) (λ e. rw e)
 acted-so z t clients crashes = refl
 acted-so z t clients nothing = refl
 
@@ -54,8 +54,8 @@ refused-rests :
     (z : Sizes) (v : Recovery) (y : TableAct)
     → isRefused (recovered z v y .reply) ≡ true
     → (recovered z v y .sweep ≡ Stay) × (recovered z v y .recovery ≡ v)
-refused-rests z v (reports i) = unless-accepted (reportTests z (v .recovering) (v .reported) i) v _ refl
-refused-rests z v ends = unless-accepted (endTests z (v .recovering) (v .reported)) v _ refl
+refused-rests z v (reports i) = unless-accepted (reportTests z (v .recovering) (v .reported) (v .embargoed) i) v _ refl
+refused-rests z v ends = unless-accepted (endTests z (v .recovering) (v .reported) (v .embargoed)) v _ refl
 refused-rests z v crashes = λ refused. conflict refused refl
 refused-rests z v nothing = λ refused. conflict refused refl
 

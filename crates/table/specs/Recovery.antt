@@ -50,20 +50,28 @@ kept v reply = record { recovery = v; reply = reply; sweep = Stay }
 abbrev pub recovered : Sizes → Recovery → TableAct → RecoveryOutcome
 recovered z v crashes =
     record {
-      recovery = record { recovering = true; reported = filled (z .clients) false (v .reported) };
+      recovery =
+          record {
+            recovering = true;
+            reported = filled (z .clients) false (v .reported);
+            embargoed = v .embargoed;
+          };
       reply = Done;
       sweep = Crashes;
     }
 recovered z v (reports i) =
-    tested (reportTests z (v .recovering) (v .reported) i) (λ k. kept v (Refused k))
+    tested (reportTests z (v .recovering) (v .reported) (v .embargoed) i) (λ k. kept v (Refused k))
     (record {
-      recovery = record { recovering = v .recovering; reported = set (v .reported) i true };
+      recovery =
+          record { recovering = v .recovering; reported = set (v .reported) i true; embargoed = v .embargoed };
       reply = Done;
       sweep = Reports i;
     })
 recovered z v ends =
-    tested (endTests z (v .recovering) (v .reported)) (λ k. kept v (Refused k))
-    (kept (record { recovering = false; reported = filled (z .clients) false (v .reported) }) Done)
+    tested (endTests z (v .recovering) (v .reported) (v .embargoed)) (λ k. kept v (Refused k))
+    (kept
+    (record { recovering = false; reported = filled (z .clients) false (v .reported); embargoed = v .embargoed })
+    Done)
 recovered z v nothing = kept v Done
 
 unfoldable pub recoveryStep : Sizes → Recovery → Step → RecoveryOutcome
@@ -78,6 +86,7 @@ tableAfter z entries clients o =
             files = filesAfter z (o .sweep) entries clients;
             recovering = o .recovery .recovering;
             reported = o .recovery .reported;
+            embargoed = o .recovery .embargoed;
           };
       reply = o .reply;
     }

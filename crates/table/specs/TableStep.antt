@@ -1,7 +1,7 @@
 -- The steps on the whole table: a crash, a report and the end of a recovery. z are the sizes in force; what lies past
 -- them is neither looked at nor changed.
 use Prim.Native.Nat.{ℕ}
-use mathlib.Core.Bool.{Bool, true, false, not}
+use mathlib.Core.Bool.{Bool, true, false, not, _||_}
 use mathlib.Core.List.{List, [], _∷_}
 use lib.Dec.{ltb}
 use lib.ListN.{getD, set}
@@ -13,10 +13,11 @@ use Rattle.protocol.specs.declared.client.Sides.{Sides}
 use Rattle.protocol.specs.declared.entry.Entry.{Entry}
 use Rattle.protocol.specs.declared.reply.Reply.the-variants.{Refused, Done}
 use Rattle.protocol.specs.declared.step.Step.{Step}
+use Rattle.protocol.specs.declared.step.Step.the-variants.{Report}
 use Rattle.protocol.specs.Step.{TableAct, crashes, reports, ends, nothing, tableAct}
 use Rattle.protocol.specs.Entry.{crashedEntry, reportedEntry}
 use Rattle.protocol.specs.Client.{sideOf}
-use Rattle.protocol.specs.Refusal.{Test, tested, noSuchClient}
+use Rattle.protocol.specs.Refusal.{Test, tested, noSuchClient, setAside}
 use Rattle.table.specs.declared.table.Table.{Table}
 use Rattle.table.specs.declared.table.TableOutcome.{TableOutcome}
 
@@ -47,28 +48,41 @@ isReported reported i = getD reported i false
 abbrev pub hasReported : List Bool → ℕ → Test
 hasReported reported i = (isReported reported i, 7)
 
--- how many of n clients have not reported
-abbrev pub missing : ℕ → List Bool → ℕ
-missing n reported = count n (λ i. not (isReported reported i))
+-- "recovery doesn't wait for such stations" (document 02, Wish 9): whom the server need not hear any more
+abbrev pub isEmbargoed : List Bool → ℕ → Bool
+isEmbargoed embargoed i = getD embargoed i false
 
-abbrev pub reportMissing : Sizes → List Bool → Test
-reportMissing z reported = (ltb 0 (missing (z .clients) reported), 8)
+abbrev pub isHeard : List Bool → List Bool → ℕ → Bool
+isHeard reported embargoed i = isReported reported i || isEmbargoed embargoed i
 
--- "report 2, 6, 7; end 6, 8; crash none"
-abbrev pub reportTests : Sizes → Bool → List Bool → ℕ → List Test
-reportTests z recovering reported i = noSuchClient z i ∷ notRecovering recovering ∷ hasReported reported i ∷ []
+-- how many of n clients it has still to hear
+abbrev pub missing : ℕ → List Bool → List Bool → ℕ
+missing n reported embargoed = count n (λ i. not (isHeard reported embargoed i))
 
-abbrev pub endTests : Sizes → Bool → List Bool → List Test
-endTests z recovering reported = notRecovering recovering ∷ reportMissing z reported ∷ []
+abbrev pub reportMissing : Sizes → List Bool → List Bool → Test
+reportMissing z reported embargoed = (ltb 0 (missing (z .clients) reported embargoed), 8)
+
+-- "report 2, 6, 7; end 6, 8; crash none"; "20 .., after 4" (the same)
+abbrev pub reportTests : Sizes → Bool → List Bool → List Bool → ℕ → List Test
+reportTests z recovering reported embargoed i =
+    noSuchClient z i
+    ∷ setAside (isEmbargoed embargoed i) (Report i)
+    ∷ notRecovering recovering
+    ∷ hasReported reported i
+    ∷ []
+
+abbrev pub endTests : Sizes → Bool → List Bool → List Bool → List Test
+endTests z recovering reported embargoed = notRecovering recovering ∷ reportMissing z reported embargoed ∷ []
 
 -- "the server's readers, writers, permissions, last writers, waits and reports are lost; nothing at a station
--- changes; recovery begins"
+-- changes; recovery begins"; "Embargoes survive a crash"
 abbrev pub crashed : Sizes → Table → Table
 crashed z t =
     record {
       files = stored (z .files) (λ f. f) (λ f. crashedEntry (z .clients) (entryIn t f)) (t .files);
       recovering = true;
       reported = filled (z .clients) false (t .reported);
+      embargoed = t .embargoed;
     }
 
 -- "a station gives counts, permissions and marks for all files; the table takes them"
@@ -78,12 +92,18 @@ reported z t clients i =
       files = stored (z .files) (λ f. f) (λ f. reportedEntry (entryIn t f) i (sideOf (sidesIn clients f) i)) (t .files);
       recovering = t .recovering;
       reported = set (t .reported) i true;
+      embargoed = t .embargoed;
     }
 
 -- "after eight reports the service runs again"; "the eight reports .. follow the settings" (document 02, Wish 7)
 abbrev pub ended : Sizes → Table → Table
 ended z t =
-    record { files = t .files; recovering = false; reported = filled (z .clients) false (t .reported) }
+    record {
+      files = t .files;
+      recovering = false;
+      reported = filled (z .clients) false (t .reported);
+      embargoed = t .embargoed;
+    }
 
 -- "A refusal gives only its number; server, stations and every lent buffer stay as they came."
 abbrev pub unlessTested : List Test → Table → Table → TableOutcome
@@ -93,8 +113,9 @@ unlessTested ts t after =
 abbrev pub acted : Sizes → Table → List Sides → TableAct → TableOutcome
 acted z t clients crashes = record { table = crashed z t; reply = Done }
 acted z t clients (reports i) =
-    unlessTested (reportTests z (t .recovering) (t .reported) i) t (reported z t clients i)
-acted z t clients ends = unlessTested (endTests z (t .recovering) (t .reported)) t (ended z t)
+    unlessTested (reportTests z (t .recovering) (t .reported) (t .embargoed) i) t (reported z t clients i)
+acted z t clients ends =
+    unlessTested (endTests z (t .recovering) (t .reported) (t .embargoed)) t (ended z t)
 acted z t clients nothing = record { table = t; reply = Done }
 
 -- a step that is not on the whole table leaves it as it came

@@ -25,6 +25,8 @@ pub enum Sweep {
 pub struct Recovery {
     pub recovering: bool,
     pub reported: [bool; MAX_CLIENTS],
+    // The clients under embargo, for which it does not wait.
+    pub embargoed: [bool; MAX_CLIENTS],
 }
 
 // The state of the recovery after a step, the reply, and what the entries do.
@@ -52,9 +54,11 @@ impl Recovery {
         ensures { λ r. ⌜ Fits (r .sweep) ⌝ }
     {
         let reports = self.reported;
+        let embargoed = self.embargoed;
         let recovery = Recovery {
             recovering: true,
             reported: without_reports(reports, sizes.clients),
+            embargoed,
         };
         RecoveryOutcome {
             recovery,
@@ -69,7 +73,8 @@ impl Recovery {
         ensures { λ r. ⌜ Fits (r .sweep) ⌝ }
     {
         let reports = self.reported;
-        let refusal = report_refusal(sizes, self.recovering, reports, client);
+        let embargoed = self.embargoed;
+        let refusal = report_refusal(sizes, self.recovering, reports, embargoed, client);
         if refusal != 0 {
             return self.kept(Reply::Refused(refusal));
         }
@@ -88,13 +93,15 @@ impl Recovery {
         ensures { λ r. ⌜ Fits (r .sweep) ⌝ }
     {
         let reports = self.reported;
-        let refusal = end_refusal(sizes, self.recovering, reports);
+        let embargoed = self.embargoed;
+        let refusal = end_refusal(sizes, self.recovering, reports, embargoed);
         if refusal != 0 {
             return self.kept(Reply::Refused(refusal));
         }
         let ended = Recovery {
             recovering: false,
             reported: without_reports(reports, sizes.clients),
+            embargoed,
         };
         ended.kept(Reply::Done)
     }

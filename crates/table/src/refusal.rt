@@ -10,6 +10,7 @@ use protocol::NO_CLIENT;
 use protocol::NOT_IN_RECOVERY;
 use protocol::REPORT_MISSING;
 use protocol::REPORTED;
+use protocol::UNDER_EMBARGO;
 use protocol::refused_if;
 use sizes::MAX_CLIENTS;
 use sizes::Sizes;
@@ -18,44 +19,55 @@ pub fn report_refusal(
     sizes: Sizes,
     recovering: bool,
     reported: [bool; MAX_CLIENTS],
+    embargoed: [bool; MAX_CLIENTS],
     client: usize,
 ) -> u8
-    ensures { λ r. ⌜ r ≡ firstOf (reportTests sizes recovering reported client) ⌝ }
+    ensures { λ r. ⌜ r ≡ firstOf (reportTests sizes recovering reported embargoed client) ⌝ }
 {
-    let again = refused_if(has_reported(reported, client), REPORTED, 0);
+    let again = refused_if(is_among(reported, client), REPORTED, 0);
     let running = refused_if(!recovering, NOT_IN_RECOVERY, again);
-    refused_if(sizes.clients <= client, NO_CLIENT, running)
+    let aside = refused_if(is_among(embargoed, client), UNDER_EMBARGO, running);
+    refused_if(sizes.clients <= client, NO_CLIENT, aside)
 }
 
-pub fn end_refusal(sizes: Sizes, recovering: bool, reported: [bool; MAX_CLIENTS]) -> u8
+pub fn end_refusal(
+    sizes: Sizes,
+    recovering: bool,
+    reported: [bool; MAX_CLIENTS],
+    embargoed: [bool; MAX_CLIENTS],
+) -> u8
     requires { ⌜ Permitted sizes ⌝ }
-    ensures { λ r. ⌜ r ≡ firstOf (endTests sizes recovering reported) ⌝ }
+    ensures { λ r. ⌜ r ≡ firstOf (endTests sizes recovering reported embargoed) ⌝ }
 {
-    let left = count_missing(reported, sizes.clients);
+    let left = count_missing(reported, embargoed, sizes.clients);
     let waiting = refused_if(0 < left, REPORT_MISSING, 0);
     refused_if(!recovering, NOT_IN_RECOVERY, waiting)
 }
 
-// Whether the client has reported; one that is not there has not.
-fn has_reported(reported: [bool; MAX_CLIENTS], client: usize) -> bool
-    ensures { λ r. ⌜ r ≡ isReported reported client ⌝ }
+// Whether the client is one of those that have reported, or are under embargo; one that is not there is not.
+fn is_among(flags: [bool; MAX_CLIENTS], client: usize) -> bool
+    ensures { λ r. ⌜ r ≡ isReported flags client ⌝ }
 {
     if client < MAX_CLIENTS {
-        reported[client]
+        flags[client]
     } else {
         false
     }
 }
 
-// How many of the clients have not reported.
-fn count_missing(reported: [bool; MAX_CLIENTS], clients: usize) -> usize
+// How many of the clients the server has still to hear.
+fn count_missing(
+    reported: [bool; MAX_CLIENTS],
+    embargoed: [bool; MAX_CLIENTS],
+    clients: usize,
+) -> usize
     requires { ⌜ clients ≤ maxClients ⌝ }
-    ensures { λ r. ⌜ r ≡ missing clients reported ⌝ }
+    ensures { λ r. ⌜ r ≡ missing clients reported embargoed ⌝ }
 {
     let mut count: usize = 0;
     let mut i = 0;
     while i < clients {
-        count += one_if(!reported[i]);
+        count += one_if(!(reported[i] | embargoed[i]));
         i += 1;
     }
     count

@@ -9,6 +9,8 @@ pub struct Table {
     pub recovering: bool,
     // The clients that have reported in this recovery.
     pub reported: [bool; MAX_CLIENTS],
+    // The clients under embargo. They survive a crash.
+    pub embargoed: [bool; MAX_CLIENTS],
 }
 
 // The table after a step on all of it, and the reply.

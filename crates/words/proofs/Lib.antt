@@ -7,4 +7,5 @@ pub mod Filling
 pub mod Loading
 pub mod OwnRow
 pub mod SaidWords
+pub mod SaidGranting
 pub mod SaidGrants

@@ -17,6 +17,7 @@ use Rattle.protocol.specs.declared.reply.Reply.{Reply}
 use Rattle.protocol.specs.declared.reply.Reply.the-variants.{Waiting, AnsweredGrant}
 use Rattle.protocol.specs.Reply.{letterOf, valuesOf, grantValues, noGrants, grantsValues}
 use Rattle.words.specs.Words.{callsHeld}
+use Rattle.words.specs.Rows.{listed}
 use Rattle.words.specs.Said.{saidRoom, calls?, grantSaid, grantsSaid, replySaid, Says, SaysIn, Begun}
 
 pub begun-none : (ws : List ℕ) → Begun ws 0 [] ws
@@ -74,6 +75,19 @@ second-as a b c vs e = ap (λ x. a ∷ x ∷ vs) e
 pub ungranted : grantsValues noGrants ≡ []
 unfolding grantsValues
 ungranted = refl
+
+-- K with no words after it grants nothing to others; nor does an answer with one word, or with five
+pub none-done : (ws : List ℕ) → grantsSaid 75 ws ≡ noGrants
+unfolding listed
+none-done ws = refl
+
+pub none-answered : {ws₀ vs ws : List ℕ} → Begun ws₀ 1 vs ws → grantsSaid 321 ws ≡ noGrants
+unfolding listed
+none-answered b = refl
+
+pub none-further : {ws₀ vs ws : List ℕ} → Begun ws₀ 5 vs ws → grantsSaid 1345 ws ≡ noGrants
+unfolding listed
+none-further b = refl
 
 -- a reply that has its values in the first words, and grants nothing to others
 pub says-values :

@@ -61,15 +61,19 @@ replySaid said words =
 abbrev pub callsSaid : ℕ → List ℕ → List ℕ
 callsSaid said words = cond (calls? (letterSaid said)) (callsHeld (getD words 0 0)) noCalls
 
--- the opens of others that were granted, four words each, after the letter K alone
+-- the opens of others that were granted, four words each: after the letter K alone, and after an answer that granted one
+-- itself
 abbrev pub grantingSaid : List ℕ → ℕ → Granting
 grantingSaid words k = record { client = getD words k 0 % 256; grant = grantSaid words (k + 1) }
 
+abbrev pub grantsFrom : ℕ → ℕ → List ℕ → List Granting
+grantsFrom from count words =
+    listed maxFiles (λ k. cond (ltb (from + 4 * k) count) (grantingSaid words (from + 4 * k)) noGranting)
+
 abbrev pub grantsSaid : ℕ → List ℕ → List Granting
 grantsSaid said words =
-    cond (eqb (letterSaid said) 75)
-    (listed maxFiles (λ k. cond (ltb (4 * k) (said / 256)) (grantingSaid words (4 * k)) noGranting))
-    noGrants
+    cond (eqb (letterSaid said) 75) (grantsFrom 0 (said / 256) words)
+    (cond (eqb (letterSaid said) 65) (grantsFrom 5 (said / 256) words) noGrants)
 
 -- ---- what says a reply
 
@@ -107,8 +111,8 @@ abbrev pub grantsFlat : List Granting → List ℕ
 grantsFlat [] = []
 grantsFlat (g ∷ gs) = (g .client ∷ grantValues (g .grant)) ++ grantsFlat gs
 
--- These were said in the first words, every word past them is as it came, and each can be read back.
-pub record SaidSoFar (words₀ : List ℕ) (gs : List Granting) (words : List ℕ) : Type 0 where
+-- These were said directly after the words `pre`, every word past them is as it came, and each can be read back.
+pub record SaidSoFar (words₀ pre : List ℕ) (gs : List Granting) (words : List ℕ) : Type 0 where
   pub named : Named gs
-  pub begun : Begun words₀ (4 * length gs) (grantsFlat gs) words
-  pub back : (j : ℕ) → j < length gs → grantingSaid words (4 * j) ≡ getD gs j noGranting
+  pub begun : Begun words₀ (length pre + 4 * length gs) (pre ++ grantsFlat gs) words
+  pub back : (j : ℕ) → j < length gs → grantingSaid words (length pre + 4 * j) ≡ getD gs j noGranting

@@ -9,7 +9,7 @@ ghost use Rattle.sizes.specs.Sizes.{maxFiles};
 ghost use Rattle.protocol.specs.Reply.{grantValues, noGranting, noGrants};
 ghost use Rattle.records.specs.Version.{versionOf};
 ghost use Rattle.words.specs.Said.{saidRoom, Begun, SaysIn, grantSaid, answerSaid, replySaid, callsSaid};
-ghost use Rattle.words.specs.Said.{grantingSaid, grantsSaid};
+ghost use Rattle.words.specs.Said.{grantingSaid, grantsFrom, grantsSaid};
 use crate::words::calls_of;
 use crate::words::calls_word;
 use crate::words::wide;
@@ -162,13 +162,14 @@ pub fn calls_with(said: u64, words: &[u64; SAID]) -> [u8; MAX_CLIENTS]
     [0; MAX_CLIENTS]
 }
 
-// The k-th of the opens of others that were granted, where so many words were said.
-fn granting_at(count: u64, k: usize, words: &[u64; SAID]) -> Granting
+// The k-th of the opens of others that were granted, where so many words were said; they stand from a word on.
+fn granting_at(from: usize, count: u64, k: usize, words: &[u64; SAID]) -> Granting
     requires { ⌜ length (now words) ≡ saidRoom ⌝ }
+    requires { ⌜ from ≤ 5 ⌝ }
     requires { ⌜ k < maxFiles ⌝ }
-    ensures { λ r. ⌜ r ≡ cond (ltb (4 * k) count) (grantingSaid (now (words .entry)) (4 * k)) noGranting ⌝ }
+    ensures { λ r. ⌜ r ≡ cond (ltb (from + 4 * k) count) (grantingSaid (now (words .entry)) (from + 4 * k)) noGranting ⌝ }
 {
-    let at = 4 * k;
+    let at = from + 4 * k;
     if (at as u64) < count {
         return Granting {
             client: (words[at] % 256) as u8,
@@ -178,21 +179,34 @@ fn granting_at(count: u64, k: usize, words: &[u64; SAID]) -> Granting
     Granting::none()
 }
 
+fn grants_from(from: usize, count: u64, words: &[u64; SAID]) -> [Granting; MAX_FILES]
+    requires { ⌜ length (now words) ≡ saidRoom ⌝ }
+    requires { ⌜ from ≤ 5 ⌝ }
+    ensures { λ r. ⌜ r ≡ grantsFrom from count (now (words .entry)) ⌝ }
+{
+    let none = Granting::none();
+    let mut grants = [none; MAX_FILES];
+    let mut k: usize = 0;
+    while k < MAX_FILES {
+        let granting = granting_at(from, count, k, words);
+        grants[k] = granting;
+        k += 1;
+    }
+    grants
+}
+
 // The opens of others that were granted.
 pub fn grants_of(said: u64, words: &[u64; SAID]) -> [Granting; MAX_FILES]
     requires { ⌜ length (now words) ≡ saidRoom ⌝ }
     ensures { λ r. ⌜ r ≡ grantsSaid said (now (words .entry)) ⌝ }
 {
-    let none = Granting::none();
-    if said % 256 != 75 {
-        return [none; MAX_FILES];
+    let letter = said % 256;
+    match letter {
+        75 => grants_from(0, said / 256, words),
+        65 => grants_from(5, said / 256, words),
+        _ => {
+            let none = Granting::none();
+            [none; MAX_FILES]
+        }
     }
-    let mut grants = [none; MAX_FILES];
-    let mut k: usize = 0;
-    while k < MAX_FILES {
-        let granting = granting_at(said / 256, k, words);
-        grants[k] = granting;
-        k += 1;
-    }
-    grants
 }

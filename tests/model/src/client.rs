@@ -134,7 +134,7 @@ impl ClientFile {
         self.last_writer_flag = false;
     }
 
-    /// The client's part of a restart: counts, permission, mark and copy go.
+    /// The client's part of a restart or of a lift: counts, permission, mark and copy go.
     pub fn restart(&mut self, sizes: Sizes) {
         self.record = Record::default();
         self.last_writer_flag = false;

@@ -40,6 +40,10 @@ impl ClientSet {
         ClientSet(self.0 & other.0)
     }
 
+    pub fn or(self, other: Self) -> Self {
+        ClientSet(self.0 | other.0)
+    }
+
     pub fn minus(self, other: Self) -> Self {
         ClientSet(self.0 & !other.0)
     }

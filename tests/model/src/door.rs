@@ -1,4 +1,5 @@
-//! Who can cause a refusal: for each step the tests that document 01 lists for it, in the order of their numbers.
+//! Who can cause a refusal: for each step the tests that document 01 lists for it, in the order of their numbers; 20
+//! comes after 4, and 21 after 20 (document 02, Wish 9).
 
 use crate::{ClientFile, Entry, Kind, Mode, Refusal, Service, Step};
 
@@ -22,6 +23,7 @@ impl Service {
     pub fn may_open(&self, mode: Mode, client: u64, file: u64) -> Admission {
         self.client_exists(client)?;
         self.file_exists(file)?;
+        self.without_embargo(client)?;
         self.running()?;
         self.nothing_waits(file)?;
         unless(self.at_client(client, file).record.count(mode) == u8::MAX, Refusal::CountAtLimit)?;
@@ -31,6 +33,7 @@ impl Service {
     pub fn may_close(&self, mode: Mode, client: u64, file: u64) -> Admission {
         self.client_exists(client)?;
         self.file_exists(file)?;
+        self.without_embargo(client)?;
         self.running()?;
         self.nothing_waits(file)?;
         unless(self.at_client(client, file).record.count(mode) == 0, Refusal::NotOpen)
@@ -42,6 +45,9 @@ impl Service {
         self.file_exists(file)?;
         self.block_exists(block)?;
         let copy = self.at_client(client, file);
+        if self.is_embargoed(client) {
+            unless(read_needs_server(copy, block), Refusal::UnderEmbargo)?;
+        }
         if self.server.recovering {
             unless(self.has_reported(client) || read_needs_server(copy, block), Refusal::Recovering)?;
         }
@@ -54,6 +60,9 @@ impl Service {
         self.file_exists(file)?;
         self.block_exists(block)?;
         let copy = self.at_client(client, file);
+        if self.is_embargoed(client) {
+            unless(write_needs_server(copy), Refusal::UnderEmbargo)?;
+        }
         if self.server.recovering {
             unless(self.has_reported(client) || write_needs_server(copy), Refusal::Recovering)?;
         }
@@ -64,6 +73,7 @@ impl Service {
         self.client_exists(client)?;
         self.file_exists(file)?;
         self.block_exists(block)?;
+        self.without_embargo(client)?;
         self.running()?;
         unless(!self.at_client(client, file).copies.dirty[block as usize], Refusal::NotDirty)
     }
@@ -73,12 +83,13 @@ impl Service {
     pub fn may_reply(&self, client: u64, file: u64) -> Result<Kind, Refusal> {
         self.client_exists(client)?;
         self.file_exists(file)?;
-        self.running()?;
-        self.entry(file).callback(self.sizes(), client as usize).ok_or(Refusal::NoCallback)
+        self.without_embargo(client)?;
+        self.called(client, file)
     }
 
     pub fn may_report(&self, client: u64) -> Admission {
         self.client_exists(client)?;
+        self.without_embargo(client)?;
         self.in_recovery()?;
         unless(self.has_reported(client), Refusal::AlreadyReported)
     }
@@ -91,6 +102,19 @@ impl Service {
     /// "BT tests 2 only" (document 02, Wish 8).
     pub fn may_restart(&self, client: u64) -> Admission {
         self.client_exists(client)
+    }
+
+    /// "EM is tested as a reply is, never by 20" (document 02, Wish 9).
+    pub fn may_embargo(&self, client: u64, file: u64) -> Admission {
+        self.client_exists(client)?;
+        self.file_exists(file)?;
+        self.called(client, file).map(|_| ())
+    }
+
+    /// "LF tests 2 and 21."
+    pub fn may_lift(&self, client: u64) -> Admission {
+        self.client_exists(client)?;
+        unless(!self.is_embargoed(client), Refusal::NotUnderEmbargo)
     }
 
     /// The refusal that this step would get now, if any.
@@ -106,6 +130,8 @@ impl Service {
             Step::Report { client } => self.may_report(client),
             Step::End => self.may_end(),
             Step::Restart { client } => self.may_restart(client),
+            Step::Embargo { client, file } => self.may_embargo(client, file),
+            Step::Lift { client } => self.may_lift(client),
         }
         .err()
     }
@@ -122,6 +148,15 @@ impl Service {
         unless(block >= self.sizes().blocks as u64, Refusal::NoSuchBlock)
     }
 
+    fn is_embargoed(&self, client: u64) -> bool {
+        self.server.embargoed.contains(client as usize)
+    }
+
+    /// For a step that needs the server.
+    fn without_embargo(&self, client: u64) -> Admission {
+        unless(self.is_embargoed(client), Refusal::UnderEmbargo)
+    }
+
     fn running(&self) -> Admission {
         unless(self.server.recovering, Refusal::Recovering)
     }
@@ -132,6 +167,12 @@ impl Service {
 
     fn has_reported(&self, client: u64) -> bool {
         self.server.reported.contains(client as usize)
+    }
+
+    #[inline(always)]
+    fn called(&self, client: u64, file: u64) -> Result<Kind, Refusal> {
+        self.running()?;
+        self.entry(file).callback(self.sizes(), client as usize).ok_or(Refusal::NoCallback)
     }
 
     fn nothing_waits(&self, file: u64) -> Admission {

@@ -144,8 +144,8 @@ impl Entry {
         }
     }
 
-    /// What the server forgets of a client that has restarted: its record, that it is the last writer, and "any waiting
-    /// open of its own .., with the calls of that open" (document 02, Wish 8).
+    /// What the server forgets of a client that has restarted or is put under embargo: its record, that it is the last
+    /// writer, and "any waiting open of its own .., with the calls of that open" (document 02, Wish 8).
     pub fn forget(&mut self, sizes: Sizes, client: usize) {
         self.records[client] = Record::default();
         if self.last_writer == ClientField::of(client) {
@@ -171,7 +171,7 @@ impl Entry {
         self.waiting.read(sizes).filter(|waiting| waiting.callbacks.is_empty())
     }
 
-    /// The server's part of a restart on one file. Gives the open of another that is granted by it.
+    /// The server's part of a restart or an embargo on one file. Gives the open of another that is granted by it.
     pub fn restart(&mut self, sizes: Sizes, client: usize) -> Option<WaitingOpen> {
         self.forget(sizes, client);
         if self.count_as_answered(sizes, client) { self.open_due(sizes) } else { None }

@@ -1,15 +1,20 @@
 //! The image of the server (document 02, Wish 2), written into a lent buffer and read again. It begins with the sizes
-//! in force, one byte each (Wish 7); then come three sections, each after its count.
+//! in force, one byte each (Wish 7); then come four sections, each after its count, the last of them of the clients
+//! under embargo (Wish 9).
 
-use crate::{BLOCKS, CLIENTS, FILES, Record, Refusal, Service, Settings, Sizes};
+use crate::{BLOCKS, CLIENTS, ClientSet, FILES, Record, Refusal, Service, Settings, Sizes};
 
 /// Bytes of a count: "two bytes, low byte first".
 pub const COUNT_BYTES: usize = 2;
-/// Bytes of an entry of each section: files, opens, blocks.
-pub const ENTRY_BYTES: [usize; 3] = [6, 5, 10];
+/// Bytes of an entry of each section: files, opens, blocks, embargoes.
+pub const ENTRY_BYTES: [usize; 4] = [6, 5, 10, 1];
 /// With the largest sizes and every entry listed.
-pub const LONGEST_IMAGE: usize =
-    3 + 3 * COUNT_BYTES + FILES * ENTRY_BYTES[0] + FILES * CLIENTS * ENTRY_BYTES[1] + FILES * BLOCKS * ENTRY_BYTES[2];
+pub const LONGEST_IMAGE: usize = 3
+    + ENTRY_BYTES.len() * COUNT_BYTES
+    + FILES * ENTRY_BYTES[0]
+    + FILES * CLIENTS * ENTRY_BYTES[1]
+    + FILES * BLOCKS * ENTRY_BYTES[2]
+    + CLIENTS * ENTRY_BYTES[3];
 
 /// "Last writer or 255."
 const NO_LAST_WRITER: u8 = 255;
@@ -30,11 +35,12 @@ impl Service {
         Ok(image.len())
     }
 
-    /// "Reading tests 17 only." Takes versions and blocks and is otherwise a crash.
+    /// "Reading tests 17 only." Takes versions, blocks and embargoes and is otherwise a crash.
     pub fn read_image(&mut self, bytes: &[u8]) -> Result<(), Refusal> {
         let sizes = self.sizes();
         let contents = Contents::read(sizes, bytes).ok_or(Refusal::NoImage)?;
         self.server.crash(sizes);
+        self.server.set_embargoes(sizes, contents.embargoed);
         for (file, entry) in self.server.entries[..sizes.files].iter_mut().enumerate() {
             entry.version.0 = contents.versions[file];
             entry.blocks[..sizes.blocks].copy_from_slice(&contents.blocks[file][..sizes.blocks]);
@@ -54,7 +60,13 @@ impl Service {
     fn image(&self) -> Vec<u8> {
         let sizes = self.sizes();
         let mut image = [sizes.clients, sizes.files, sizes.blocks].map(|size| size as u8).to_vec();
-        for section in [self.listed_files(sizes), self.listed_opens(sizes), self.listed_blocks(sizes)] {
+        let sections = [
+            self.listed_files(sizes),
+            self.listed_opens(sizes),
+            self.listed_blocks(sizes),
+            self.listed_embargoes(sizes),
+        ];
+        for section in sections {
             image.extend((section.len() as u16).to_le_bytes());
             image.extend(section.concat());
         }
@@ -101,18 +113,24 @@ impl Service {
         }
         listed
     }
+
+    /// "A last section of embargoed stations, ascending" (document 02, Wish 9).
+    fn listed_embargoes(&self, sizes: Sizes) -> Vec<Vec<u8>> {
+        self.server.embargoed.and(sizes.client_set()).members().map(|client| vec![client as u8]).collect()
+    }
 }
 
 /// What a reading takes from an image.
 struct Contents {
     versions: [u32; FILES],
     blocks: [[u64; BLOCKS]; FILES],
+    embargoed: ClientSet,
 }
 
 impl Contents {
     /// None if no service of these sizes is written as these bytes.
     fn read(sizes: Sizes, bytes: &[u8]) -> Option<Self> {
-        let mut contents = Contents { versions: [1; FILES], blocks: [[0; BLOCKS]; FILES] };
+        let mut contents = Contents { versions: [1; FILES], blocks: [[0; BLOCKS]; FILES], embargoed: ClientSet::NONE };
         let mut rest = Rest(bytes);
         for size in [sizes.clients, sizes.files, sizes.blocks] {
             holds(usize::from(rest.byte()?) == size)?;
@@ -120,6 +138,7 @@ impl Contents {
         contents.read_files(sizes, &mut rest)?;
         read_opens(sizes, &mut rest)?;
         contents.read_blocks(sizes, &mut rest)?;
+        contents.read_embargoes(sizes, &mut rest)?;
         holds(rest.0.is_empty())?;
         Some(contents)
     }
@@ -147,6 +166,16 @@ impl Contents {
             let value = rest.number::<8>()?;
             holds(value != 0)?;
             self.blocks[file][block] = value;
+        }
+        Some(())
+    }
+
+    fn read_embargoes(&mut self, sizes: Sizes, rest: &mut Rest) -> Option<()> {
+        let mut ascent = Ascent::default();
+        for _ in 0..rest.count()? {
+            let client = rest.below(sizes.clients)?;
+            ascent.goes_on((client, 0))?;
+            self.embargoed = self.embargoed.with(client);
         }
         Some(())
     }

@@ -21,11 +21,15 @@ pub enum Outcome {
     Restarted {
         granted: Vec<GrantedOpen>,
     },
+    /// An embargo, with the opens of others that it granted, by ascending file: `A 0`.
+    Embargoed {
+        granted: Vec<GrantedOpen>,
+    },
     /// Any other accepted step, and a line SET: `K`.
     Done,
 }
 
-/// A waiting open that a restart has granted.
+/// A waiting open that a restart or an embargo has granted.
 #[derive(Clone, Copy, PartialEq, Eq, Debug)]
 pub struct GrantedOpen {
     pub opener: usize,
@@ -64,12 +68,14 @@ pub enum Refusal {
     BufferTooShort = 16,
     NoImage = 17,
     SettingOutOfRange = 19,
+    UnderEmbargo = 20,
+    NotUnderEmbargo = 21,
 }
 
 impl Refusal {
     /// Those that a line of a step file can get.
-    pub const NUMBERS: [usize; 15] = [1, 2, 3, 4, 5, 6, 7, 8, 9, 10, 11, 12, 13, 14, 19];
-    pub const LAST_NUMBER: usize = 19;
+    pub const NUMBERS: [usize; 17] = [1, 2, 3, 4, 5, 6, 7, 8, 9, 10, 11, 12, 13, 14, 19, 20, 21];
+    pub const LAST_NUMBER: usize = 21;
 
     pub fn number(self) -> usize {
         self as usize

@@ -7,12 +7,13 @@ use crate::{Callbacks, Entry, Grant, GrantedOpen, Outcome, Service, Sizes, State
 
 const BUFFER: usize = 64 * 1024;
 
-/// Room for any line but a restart's. The longest, of fewer than 500 bytes, explains an open that waits for seven
-/// clients.
+/// Room for any line but those of a restart and of an embargo. The longest, of fewer than 500 bytes, explains an open
+/// that waits for seven clients.
 const LINE_ROOM: usize = 512;
 
-/// Room for a restart's line, explained: 64 grants with their sentences and 512 writes that are lost.
-const RESTART_ROOM: usize = 36 * 1024;
+/// Room for the line of a restart or an embargo, explained: 64 grants with their sentences and 512 writes that are
+/// lost.
+const LONG_ROOM: usize = 36 * 1024;
 
 pub struct Printer<W> {
     to: W,
@@ -48,7 +49,16 @@ impl<W: Write> Printer<W> {
 
     /// An output line that has no input line.
     pub fn line(&mut self, write: impl FnOnce(&mut Text)) -> Result<()> {
-        self.make_room(LINE_ROOM)?;
+        self.line_in(LINE_ROOM, write)
+    }
+
+    /// One that may list 512 writes.
+    pub fn long_line(&mut self, write: impl FnOnce(&mut Text)) -> Result<()> {
+        self.line_in(LONG_ROOM, write)
+    }
+
+    fn line_in(&mut self, room: usize, write: impl FnOnce(&mut Text)) -> Result<()> {
+        self.make_room(room)?;
         let mut text = Text::new(&mut self.buffer, self.filled);
         write(&mut text);
         text.byte(b'\n');
@@ -91,7 +101,7 @@ impl<W: Write> Printer<W> {
 
 #[inline(always)]
 fn room_for(outcome: &Outcome) -> usize {
-    if matches!(outcome, Outcome::Restarted { .. }) { RESTART_ROOM } else { LINE_ROOM }
+    if matches!(outcome, Outcome::Restarted { .. } | Outcome::Embargoed { .. }) { LONG_ROOM } else { LINE_ROOM }
 }
 
 impl Text<'_> {
@@ -123,11 +133,19 @@ impl Text<'_> {
             }
             Outcome::Restarted { granted } => {
                 self.bytes(b" K");
-                for GrantedOpen { opener, grant, .. } in granted {
-                    self.grant_to(*opener, grant);
-                }
+                self.grants(granted);
+            }
+            Outcome::Embargoed { granted } => {
+                self.bytes(b" A 0");
+                self.grants(granted);
             }
             Outcome::Done => self.bytes(b" K"),
+        }
+    }
+
+    fn grants(&mut self, granted: &[GrantedOpen]) {
+        for GrantedOpen { opener, grant, .. } in granted {
+            self.grant_to(*opener, grant);
         }
     }
 

@@ -35,6 +35,8 @@ pub fn take_line<T: Taker>(bytes: &[u8], taker: T) -> (T::Answer, usize) {
         b"RP" => line.step(taker, |l| Some(Step::Report { client: l.number()? })),
         b"EN" => line.step(taker, |_| Some(Step::End)),
         b"BT" => line.step(taker, |l| Some(Step::Restart { client: l.number()? })),
+        b"EM" => line.step(taker, |l| Some(Step::Embargo { client: l.number()?, file: l.number()? })),
+        b"LF" => line.step(taker, |l| Some(Step::Lift { client: l.number()? })),
         _ => no_step(bytes, taker),
     }
 }

@@ -1,8 +1,8 @@
 //! The seams at which the fault study replaces one rule by a wrong one. The plain model takes every default.
 
 use crate::{
-    Admission, BLOCKS, Callbacks, ClientFile, Entry, Grant, Kind, Mode, Outcome, Refusal, Server, Service, Settings,
-    Sizes, WaitingOpen,
+    Admission, BLOCKS, Callbacks, ClientFile, Entry, Grant, GrantedOpen, Kind, Mode, Outcome, Refusal, Server, Service,
+    Settings, Sizes, WaitingOpen,
 };
 
 pub trait Rules {
@@ -46,6 +46,12 @@ pub trait Rules {
     fn may_restart(service: &Service, client: u64) -> Admission {
         service.may_restart(client)
     }
+    fn may_embargo(service: &Service, client: u64, file: u64) -> Admission {
+        service.may_embargo(client, file)
+    }
+    fn may_lift(service: &Service, client: u64) -> Admission {
+        service.may_lift(client)
+    }
 
     fn callbacks_due(sizes: Sizes, entry: &Entry, opener: usize, mode: Mode) -> Callbacks {
         entry.callbacks_due(sizes, opener, mode)
@@ -79,6 +85,8 @@ pub trait Rules {
     fn write(file: &mut ClientFile, block: usize, value: u64, server: &mut [u64; BLOCKS]) {
         file.write(block, value, server);
     }
+    /// After an accepted write of a client under embargo; the server's blocks are those of the file.
+    fn wrote_under_embargo(_server: &mut [u64; BLOCKS], _block: usize, _value: u64) {}
     fn flush(file: &mut ClientFile, block: usize, server: &mut [u64; BLOCKS]) {
         file.flush(block, server);
     }
@@ -123,6 +131,42 @@ pub trait Rules {
     }
     fn restart_reports(server: &mut Server, client: usize) {
         server.count_as_reported(client);
+    }
+    /// "A restart lifts too."
+    fn restart_lifts(server: &mut Server, client: usize) {
+        server.end_embargo(client);
+    }
+
+    /// "The server forgets it as in Wish 8": gives the open of another that the embargo grants on this file. The step
+    /// names `of`.
+    fn embargo_at_server(
+        sizes: Sizes,
+        server: &mut Server,
+        file: usize,
+        client: usize,
+        _of: usize,
+    ) -> Option<WaitingOpen> {
+        server.entries[file].restart(sizes, client)
+    }
+    /// "But the station doesn't know." The server's blocks are those of the file.
+    fn embargo_at_client(_sizes: Sizes, _file: &mut ClientFile, _server: &mut [u64; BLOCKS]) {}
+    fn put_under_embargo(server: &mut Server, client: usize) {
+        server.put_under_embargo(client);
+    }
+    /// "Prints A 0, then grants as BT does."
+    fn embargo_answer(granted: Vec<GrantedOpen>) -> Outcome {
+        Outcome::Embargoed { granted }
+    }
+
+    /// "Telling it drops all it holds, counts too." The server's blocks are those of the file.
+    fn lift_at_client(sizes: Sizes, file: &mut ClientFile, _server: &mut [u64; BLOCKS]) {
+        file.restart(sizes);
+    }
+    fn lift_reports(server: &mut Server, client: usize) {
+        server.count_as_reported(client);
+    }
+    fn end_embargo(server: &mut Server, client: usize) {
+        server.end_embargo(client);
     }
 }
 

@@ -8,11 +8,18 @@ pub struct Server {
     pub recovering: bool,
     /// The clients that have reported since the latest crash.
     pub reported: ClientSet,
+    /// The clients under embargo (document 02, Wish 9). A crash leaves them.
+    pub embargoed: ClientSet,
 }
 
 impl Server {
     pub fn fresh() -> Self {
-        Server { entries: std::array::from_fn(|_| Entry::fresh()), recovering: false, reported: ClientSet::NONE }
+        Server {
+            entries: std::array::from_fn(|_| Entry::fresh()),
+            recovering: false,
+            reported: ClientSet::NONE,
+            embargoed: ClientSet::NONE,
+        }
     }
 
     pub fn crash(&mut self, sizes: Sizes) {
@@ -26,7 +33,7 @@ impl Server {
         self.forget_reports(sizes);
     }
 
-    /// "During recovery the restart stands as an empty report" (document 02, Wish 8).
+    /// "During recovery the restart stands as an empty report" (document 02, Wish 8), and so does a lift (Wish 9).
     pub fn count_as_reported(&mut self, client: usize) {
         if self.recovering {
             self.reported = self.reported.with(client);
@@ -37,8 +44,22 @@ impl Server {
         self.reported = self.reported.minus(sizes.client_set());
     }
 
-    /// The clients that have still to report.
+    /// The clients that have still to report: "recovery doesn't wait for" those under embargo (document 02, Wish 9).
     pub fn reports_missing(&self, sizes: Sizes) -> ClientSet {
-        sizes.client_set().minus(self.reported)
+        sizes.client_set().minus(self.reported).minus(self.embargoed)
+    }
+
+    pub fn put_under_embargo(&mut self, client: usize) {
+        self.embargoed = self.embargoed.with(client);
+    }
+
+    pub fn end_embargo(&mut self, client: usize) {
+        self.embargoed = self.embargoed.without(client);
+    }
+
+    /// The embargoes of the clients in force are these; what lies past them stays.
+    pub fn set_embargoes(&mut self, sizes: Sizes, embargoed: ClientSet) {
+        let past = self.embargoed.minus(sizes.client_set());
+        self.embargoed = embargoed.and(sizes.client_set()).or(past);
     }
 }

@@ -60,6 +60,8 @@ impl Service {
             Step::Report { client } => self.report::<R>(client),
             Step::End => self.end::<R>(),
             Step::Restart { client } => self.restart::<R>(client),
+            Step::Embargo { client, file } => self.embargo::<R>(client, file),
+            Step::Lift { client } => self.lift::<R>(client),
         }
         .unwrap_or_else(Outcome::Refused)
     }
@@ -120,6 +122,9 @@ impl Service {
         let (client, file) = (client as usize, file as usize);
         let server = &mut self.server.entries[file].blocks;
         R::write(&mut self.clients[client].files[file], block as usize, value, server);
+        if self.server.embargoed.contains(client) {
+            R::wrote_under_embargo(server, block as usize, value);
+        }
         Ok(Outcome::Done)
     }
 
@@ -171,6 +176,39 @@ impl Service {
             R::restart_at_client(sizes, &mut self.clients[client].files[file], blocks);
         }
         R::restart_reports(&mut self.server, client);
+        R::restart_lifts(&mut self.server, client);
         Ok(Outcome::Restarted { granted })
+    }
+
+    /// On all files, ascending, whichever the step names.
+    fn embargo<R: Rules>(&mut self, client: u64, of: u64) -> Answer {
+        R::may_embargo(self, client, of)?;
+        let client = client as usize;
+        let sizes = self.sizes();
+        let mut granted = Vec::new();
+        for file in 0..sizes.files {
+            let due = R::embargo_at_server(sizes, &mut self.server, file, client, of as usize);
+            if let Some(WaitingOpen { opener, mode, .. }) = due {
+                granted.push(GrantedOpen { opener, file, grant: self.grant::<R>(opener, file, mode) });
+            }
+            let blocks = &mut self.server.entries[file].blocks;
+            R::embargo_at_client(sizes, &mut self.clients[client].files[file], blocks);
+        }
+        R::put_under_embargo(&mut self.server, client);
+        Ok(R::embargo_answer(granted))
+    }
+
+    /// The server has nothing of the client.
+    fn lift<R: Rules>(&mut self, client: u64) -> Answer {
+        R::may_lift(self, client)?;
+        let client = client as usize;
+        let sizes = self.sizes();
+        for file in 0..sizes.files {
+            let blocks = &mut self.server.entries[file].blocks;
+            R::lift_at_client(sizes, &mut self.clients[client].files[file], blocks);
+        }
+        R::lift_reports(&mut self.server, client);
+        R::end_embargo(&mut self.server, client);
+        Ok(Outcome::Done)
     }
 }

@@ -22,6 +22,8 @@ pub enum Step {
     Report { client: u64 },
     End,
     Restart { client: u64 },
+    Embargo { client: u64, file: u64 },
+    Lift { client: u64 },
 }
 
 impl Step {
@@ -33,8 +35,9 @@ impl Step {
             | Step::Reply { client, file }
             | Step::Read { client, file, .. }
             | Step::Write { client, file, .. }
-            | Step::Flush { client, file, .. } => Some((client, file)),
-            Step::Crash | Step::Report { .. } | Step::End | Step::Restart { .. } => None,
+            | Step::Flush { client, file, .. }
+            | Step::Embargo { client, file } => Some((client, file)),
+            Step::Crash | Step::Report { .. } | Step::End | Step::Restart { .. } | Step::Lift { .. } => None,
         }
     }
 

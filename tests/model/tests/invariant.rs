@@ -67,11 +67,23 @@ fn files_with_restarts_keep_the_invariant() {
     assert!(tally.waits() > 1000 && tally.recoveries() > 500);
 }
 
+/// Every sort of embargo is met, and what comes of it.
 #[test]
-fn the_other_files_have_no_restart() {
+fn files_with_embargoes_keep_the_invariant() {
+    let tally = hold(FileKind::Embargo, 0..64, 2000);
+    assert!(tally.embargoes().embargoes() > 1500 && tally.embargoes().least() > 15, "{}", tally.embargoes());
+    assert!(tally.restarts().least() > 10, "{}", tally.restarts());
+    assert!(tally.waits() > 1000 && tally.recoveries() > 500);
+    let met = |number| tally.refused(number) > 500;
+    assert!(met(Refusal::UnderEmbargo) && met(Refusal::NotUnderEmbargo), "{tally}");
+}
+
+#[test]
+fn the_other_files_have_no_restart_and_no_embargo() {
     for kind in [FileKind::Hot, FileKind::Wide, FileKind::Session] {
         assert_eq!(hold(kind, 0..8, 1000).restarts().restarts(), 0);
     }
+    assert_eq!(hold(FileKind::Restart, 0..8, 1000).embargoes().embargoes(), 0);
 }
 
 #[test]
@@ -79,13 +91,14 @@ fn sessions_keep_the_invariant() {
     hold(FileKind::Session, 0..4, 30_000);
 }
 
-/// Some eight million lines; run it with `--release` and `--ignored`.
+/// Some twelve million lines; run it with `--release` and `--ignored`.
 #[test]
-#[ignore = "takes a minute"]
+#[ignore = "takes minutes"]
 fn long_runs_keep_the_invariant() {
     hold(FileKind::Hot, 1000..3000, 2000);
     hold(FileKind::Wide, 1000..1500, 2000);
     hold(FileKind::Restart, 1000..2000, 2000);
+    hold(FileKind::Embargo, 1000..3000, 2000);
     hold(FileKind::Session, 1000..1010, 100_000);
 }
 
@@ -125,7 +138,15 @@ const LEFT_DIRTY: [Step; 3] = [
     Step::Close { mode: Mode::Write, client: 0, file: 0 },
 ];
 
-const SPOILT: [Spoilt; 23] = [
+/// Client 0 is under embargo, with what it wrote in its copy; client 1 has file 0 open for read.
+const PUT_ASIDE: [Step; 4] = [
+    Step::Open { mode: Mode::Write, client: 0, file: 0 },
+    Step::Write { client: 0, file: 0, block: 3, value: 7 },
+    Step::Open { mode: Mode::Read, client: 1, file: 0 },
+    Step::Embargo { client: 0, file: 0 },
+];
+
+const SPOILT: [Spoilt; 25] = [
     ("A1", &[], |service| service.server.entries[0].records[0] = RECORD),
     ("A2", &[], |service| service.server.entries[0].last_writer = ClientField(0)),
     ("B1", &[Step::Crash], |service| service.server.entries[0].waiting = waiting(0, 1)),
@@ -175,7 +196,29 @@ const SPOILT: [Spoilt; 23] = [
         service.server.entries[0].version = VersionField(u32::MAX);
         service.server.entries[0].waiting = waiting(0, 1);
     }),
+    ("E1", &PUT_ASIDE, |service| service.server.entries[0].records[0] = RECORD),
+    ("E2", &PUT_ASIDE, |service| {
+        service.server.recovering = true;
+        service.server.reported = ClientSet::only(0);
+    }),
 ];
+
+/// Each part of what the server must not have of a client under embargo.
+const PARTS_OF_E1: [fn(&mut Service); 4] = [
+    |service| service.server.entries[0].records[0] = RECORD,
+    |service| service.server.entries[0].last_writer = ClientField(0),
+    |service| service.server.entries[0].waiting = waiting(0, 1),
+    |service| service.server.entries[0].waiting = waiting(1, 0),
+];
+
+#[test]
+fn the_server_has_nothing_of_a_client_under_embargo() {
+    for spoil in PARTS_OF_E1 {
+        let mut run = Run::of(&PUT_ASIDE);
+        spoil(&mut run.service);
+        assert!(broken_clauses(&run.service, &run.demand3, 0..1).any(|broken| broken == ("E1", 0)));
+    }
+}
 
 #[test]
 fn every_clause_notices_a_spoilt_service() {

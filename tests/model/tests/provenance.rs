@@ -30,21 +30,50 @@ struct Reads {
     writes: Vec<Vec<Noted>>,
     /// Of each client's block: the lines at which it came to the copy.
     copied: Vec<Vec<u64>>,
+    /// Of each client: the line that put it under embargo, if it is.
+    embargoed: [Option<u64>; CLIENTS],
     checked: u64,
     after_a_loss: u64,
+    without_promise: u64,
 }
 
 impl Reads {
     fn new() -> Self {
         let (places, copies) = (FILES * BLOCKS, CLIENTS * FILES * BLOCKS);
         let (writes, copied) = (vec![vec![]; places], vec![vec![]; copies]);
-        Reads { line: 0, memory: ReferenceMemory::default(), writes, copied, checked: 0, after_a_loss: 0 }
+        Reads {
+            line: 0,
+            memory: ReferenceMemory::default(),
+            writes,
+            copied,
+            embargoed: [None; CLIENTS],
+            checked: 0,
+            after_a_loss: 0,
+            without_promise: 0,
+        }
     }
 
-    fn check(&mut self, step: &Step, Reading { place, source, origin, lost }: &Reading) {
+    fn check(&mut self, step: &Step, reading: &Reading) {
         self.checked += 1;
+        let Reading { place, source, embargo, .. } = reading;
+        let copy = place.client * FILES * BLOCKS + place.file * BLOCKS + place.block;
+        match source {
+            Source::OwnCopy { since, .. } => assert_eq!(Some(since), self.copied[copy].last(), "line {}", self.line),
+            Source::Fetched => self.copied[copy].push(self.line),
+            Source::Server => {}
+        }
+        assert_eq!(*embargo, self.embargoed[place.client], "line {}", self.line);
+        match embargo {
+            Some(_) => {
+                assert!(matches!(source, Source::OwnCopy { .. }), "line {}", self.line);
+                self.without_promise += 1;
+            }
+            None => self.check_origin(step, reading),
+        }
+    }
+
+    fn check_origin(&mut self, step: &Step, Reading { place, origin, lost, .. }: &Reading) {
         let at = place.file * BLOCKS + place.block;
-        let copy = place.client * FILES * BLOCKS + at;
         let expected = self.memory.expected(step).expect("the step is a read");
         let latest = self.writes[at].last();
         match (origin, self.writes[at].iter().rfind(|write| write.fate != Fate::Lost)) {
@@ -59,11 +88,6 @@ impl Reads {
         let lost_latest = latest.filter(|write| write.fate == Fate::Lost).map(|write| (write.line, write.client));
         assert_eq!(lost.map(|write| (write.line, write.client)), lost_latest, "line {}", self.line);
         self.after_a_loss += u64::from(lost.is_some());
-        match source {
-            Source::OwnCopy { since, .. } => assert_eq!(Some(since), self.copied[copy].last(), "line {}", self.line),
-            Source::Fetched => self.copied[copy].push(self.line),
-            Source::Server => {}
-        }
     }
 
     /// The writes at risk of this client, of these blocks, have this fate.
@@ -80,9 +104,14 @@ impl Distortion for Reads {
         let delayed = matches!(told, Told::Written { in_copy: true, .. });
         match told {
             Told::Read(reading) => self.check(step, reading),
-            Told::Written { place, in_copy, .. } => {
+            Told::Written { place, in_copy, embargo, .. } => {
                 let at = place.file * BLOCKS + place.block;
-                let fate = if *in_copy { Fate::AtRisk } else { Fate::Safe };
+                assert_eq!(*embargo, self.embargoed[place.client], "line {}", self.line);
+                let fate = match (embargo, *in_copy) {
+                    (Some(_), _) => Fate::Lost,
+                    (None, true) => Fate::AtRisk,
+                    (None, false) => Fate::Safe,
+                };
                 self.writes[at].push(Noted { line: self.line, client: place.client, fate });
                 if *in_copy {
                     self.copied[place.client * FILES * BLOCKS + at].push(self.line);
@@ -99,7 +128,15 @@ impl Distortion for Reads {
                 let file = granted.opening.file;
                 self.decide(*client, file * BLOCKS..(file + 1) * BLOCKS, Fate::Safe);
             }
-            Told::Restarted { client, .. } => self.decide(*client, 0..FILES * BLOCKS, Fate::Lost),
+            Told::Restarted { client, .. } => {
+                self.decide(*client, 0..FILES * BLOCKS, Fate::Lost);
+                self.embargoed[*client] = None;
+            }
+            Told::Embargoed { client, .. } => {
+                self.decide(*client, 0..FILES * BLOCKS, Fate::Lost);
+                self.embargoed[*client] = Some(self.line);
+            }
+            Told::Lifted { client, .. } => self.embargoed[*client] = None,
             _ => {}
         }
         self.memory.feed(step, matches!(told, Told::Refused(_)), delayed);
@@ -108,16 +145,18 @@ impl Distortion for Reads {
 
 #[test]
 fn the_latest_write_and_the_copy_are_told() {
-    let (mut checked, mut after_a_loss) = (0, 0);
+    let (mut checked, mut after_a_loss, mut without_promise) = (0, 0, 0);
     for kind in FileKind::ALL {
         for seed in 0..30 {
             let mut reads = Reads::new();
             distorted(Service::fresh(), false, &step_file(kind, seed, 2000), &mut reads);
             checked += reads.checked;
             after_a_loss += reads.after_a_loss;
+            without_promise += reads.without_promise;
         }
     }
     assert!(checked > 50_000 && after_a_loss > 500, "{checked}, {after_a_loss}");
+    assert!(without_promise > 500, "{without_promise}");
 }
 
 #[test]
@@ -132,6 +171,46 @@ fn the_text_bears_out_every_sentence_of_a_read() {
     }
     assert!(provenance.reads() > 50_000, "{provenance}");
     assert!(provenance.reads_after_a_loss() > 500 && provenance.writes_lost() > 500, "{provenance}");
+    assert!(provenance.least_of_embargoes() > 500, "{provenance}");
+}
+
+/// A line in which one word is wrong, for each part of the sentences about embargoes.
+#[test]
+fn the_text_shows_a_wrong_embargo() {
+    let before = "OW 0 0\nWR 0 0 0 5\nOW 0 1\nWR 0 1 0 6\nOR 1 0\nEM 0 0\n";
+    let after = "RD 0 0 0\nWR 0 0 0 7\nRD 0 0 0\nOR 0 2\nLF 1\nRD 1 0 0\nLF 0\nOR 0 0\nRD 0 0 0\n";
+    check_wrong(
+        &[before, after].concat(),
+        &[
+            (6, "A 0 1", "A 1 1"),
+            (6, "station 0 is put", "station 1 is put"),
+            (6, "is put under embargo", "restarts"),
+            (6, "open: 0 1;", "open: 0;"),
+            (6, "file 0 block 0 at line 2, ", ""),
+            (6, "block 0 at line 4", "block 0 at line 3"),
+            (6, "; station 1 has", "; station 2 has"),
+            (7, "V 5", "V 0"),
+            (7, ", dirty", ""),
+            (7, "since line 2", "since line 1"),
+            (7, "nothing is promised: it is under embargo since line 6", "written by station 0 at line 2"),
+            (7, "embargo since line 6", "embargo since line 5"),
+            (7, "embargo since line 6", "embargo, as the image has it"),
+            (8, "; lost: it is under embargo since line 6", ""),
+            (8, "since line 6", "since line 5"),
+            (9, "V 7", "V 5"),
+            (9, "since line 8", "since line 2"),
+            (10, "station 0", "station 1"),
+            (10, "since line 6", "since line 9"),
+            (11, "station 1", "station 0"),
+            (12, "V 0", "V 5"),
+            (12, "as at the start", "never written"),
+            (12, "at line 8 was lost", "at line 2 was lost"),
+            (13, "open: 0 1", "open: none"),
+            (13, "station 0 is told", "station 1 is told"),
+            (15, "V 0", "V 7"),
+            (15, "; the write of station 0 at line 8 was lost", ""),
+        ],
+    );
 }
 
 /// A line in which one word is wrong, for each part of the sentences of restarts and of reads after them.

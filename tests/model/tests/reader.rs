@@ -20,6 +20,8 @@ fn plainly_read(line: &[u8]) -> Option<Step> {
         ("RP", &[client]) => Step::Report { client },
         ("EN", &[]) => Step::End,
         ("BT", &[client]) => Step::Restart { client },
+        ("EM", &[client, file]) => Step::Embargo { client, file },
+        ("LF", &[client]) => Step::Lift { client },
         _ => return None,
     })
 }
@@ -49,7 +51,8 @@ fn assert_read_alike(line: &[u8]) {
 fn generated_lines_are_read_alike() {
     let mut steps = 0;
     let malformed = (0..20).map(|seed| (FileKind::Malformed, seed));
-    for (kind, seed) in malformed.chain((0..10).map(|seed| (FileKind::Restart, 4 * seed + 3))) {
+    let spoilt = [FileKind::Restart, FileKind::Embargo].map(|kind| (0..10).map(move |seed| (kind, 4 * seed + 3)));
+    for (kind, seed) in malformed.chain(spoilt.into_iter().flatten()) {
         for line in step_file(kind, seed, 2000).split(|&byte| byte == b'\n') {
             assert_read_alike(line);
             steps += usize::from(plainly_read(line).is_some());
@@ -61,7 +64,7 @@ fn generated_lines_are_read_alike() {
 /// Every line of up to three bytes from those that matter.
 #[test]
 fn short_lines_are_read_alike() {
-    let bytes = b"XENRPODWBT 019\t\r\0";
+    let bytes = b"XENRPODWBTMLF 019\t\r\0";
     assert_read_alike(b"");
     for &first in bytes {
         assert_read_alike(&[first]);

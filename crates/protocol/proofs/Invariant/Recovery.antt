@@ -5,6 +5,7 @@ use mathlib.Core.Path.{_≡_, refl, sym, _∙_, ap, subst}
 use mathlib.Core.Bool.{Bool, true, false, cond, false≢true}
 use mathlib.Core.Logic.{inr}
 use mathlib.Core.List.{List}
+use native.Mathlib.Omega.{arith}
 use lib.Dec.{ltb}
 use lib.ListN.{length, length-set, List·getD-eq-default}
 use lib.Seq.{ext-getD, getD-set-same, getD-set-other}
@@ -15,39 +16,55 @@ use Rattle.protocol.specs.declared.client.ClientFile.{ClientFile}
 use Rattle.protocol.specs.declared.entry.Entry.{Entry}
 use Rattle.sizes.specs.Sizes.{nobody}
 use Rattle.records.specs.Record.{notOpen}
+use Rattle.decision.specs.Lists.{filled}
+use Rattle.decision.specs.State.{recordIn}
+use Rattle.protocol.specs.Client.{noClient}
 use Rattle.protocol.specs.Entry.{recordAt, waits, crashedEntry, reportedEntry}
 use Rattle.protocol.specs.Book.{History}
 use Rattle.protocol.specs.Table.{Row, rowOf}
-use Rattle.decision.proofs.Storing.{length-stored}
+use Rattle.decision.proofs.Storing.{length-stored, getD-stored}
 use Rattle.protocol.proofs.View.{View, at, crashedView, reportedView}
 use Rattle.protocol.proofs.Invariant.{Clients, LastWriter, Agrees, everybody, Running, Recovering}
 use Rattle.protocol.proofs.Invariant.Flags.{conflict, split, change}
 use Rattle.protocol.proofs.Invariant.Last.{last-none, last-one, last-same}
 use Rattle.protocol.proofs.Invariant.Change.{marked-is-client}
 
--- the table after a crash, which has heard nobody
+-- no record is left of anybody
+cleared : (n : ℕ) (l : List ClientRecord) (s : ℕ) → length l ≡ n → recordIn (filled n notOpen l) s ≡ notOpen
+cleared n l s size =
+    split (ltb s n)
+    (λ e.
+    getD-stored n (λ j. j) (λ j. notOpen) l notOpen s (ltb-true s n e) (rw size (ltb-true s n e)) (λ j above _. omega arith))
+    (λ e.
+    List·getD-eq-default (filled n notOpen l) notOpen
+    (rw (length-stored n (λ j. j) (λ j. notOpen) l, size) (ltb-false s n e)))
+
+-- the table after a crash, which has heard those alone that have nothing
 crashed-table :
-    (n : ℕ) (e : Entry) (client : ℕ → ClientFile)
+    (n : ℕ) (e : Entry) (client : ℕ → ClientFile) (heard : ℕ → Bool)
     → n ≤ nobody
     → length (e .records) ≡ n
-    → Agrees n (crashedEntry n e .records) (crashedEntry n e .last) client (λ s. false)
-crashed-table n e client bound size =
+    → ((s : ℕ) → heard s ≡ true → client s ≡ noClient)
+    → Agrees n (crashedEntry n e .records) (crashedEntry n e .last) client heard
+crashed-table n e client heard bound size nothing =
     record {
       size = length-stored n (λ j. j) (λ j. notOpen) (e .records) ∙ size;
-      known = λ s t. absurd (false≢true t);
-      lastWriter = last-none bound (λ s t _. false≢true t);
+      known = λ s t. cleared n (e .records) s size ∙ sym (ap (λ (c : ClientFile). c .opens) (nothing s t));
+      lastWriter = last-none bound
+          (λ s t m. conflict m (ap (λ (c : ClientFile). c .marked) (nothing s t)));
     }
 
 pub crash-kept :
-    (n : ℕ) (v : View) (k : History)
+    (n : ℕ) (v : View) (k : History) (heard : ℕ → Bool)
     → n ≤ nobody
     → Running n v k
-    → Recovering n (crashedView n v) k (λ i. false) (rowOf (v .entry))
-crash-kept n v k bound h =
+    → ((s : ℕ) → heard s ≡ true → v .client s ≡ noClient)
+    → Recovering n (crashedView n v) k heard (rowOf (v .entry))
+crash-kept n v k heard bound h nothing =
     record {
       sound = h .sound;
       booked = h .booked;
-      table = crashed-table n (v .entry) (v .client) bound (h .table .size);
+      table = crashed-table n (v .entry) (v .client) heard bound (h .table .size) nothing;
       calls = length-stored n (λ j. j) (λ j. 0) (v .entry .calls) ∙ h .calls;
       noneWaits = le-ltb nobody n bound;
       before = h .table;
@@ -55,15 +72,16 @@ crash-kept n v k bound h =
     }
 
 pub crash-again-kept :
-    (n : ℕ) (v : View) (k : History) (reported : ℕ → Bool) (row : Row)
+    (n : ℕ) (v : View) (k : History) (reported heard : ℕ → Bool) (row : Row)
     → n ≤ nobody
     → Recovering n v k reported row
-    → Recovering n (crashedView n v) k (λ i. false) row
-crash-again-kept n v k reported row bound h =
+    → ((s : ℕ) → heard s ≡ true → v .client s ≡ noClient)
+    → Recovering n (crashedView n v) k heard row
+crash-again-kept n v k reported heard row bound h nothing =
     record {
       sound = h .sound;
       booked = h .booked;
-      table = crashed-table n (v .entry) (v .client) bound (h .table .size);
+      table = crashed-table n (v .entry) (v .client) heard bound (h .table .size) nothing;
       calls = length-stored n (λ j. j) (λ j. 0) (v .entry .calls) ∙ h .calls;
       noneWaits = le-ltb nobody n bound;
       before = h .before;

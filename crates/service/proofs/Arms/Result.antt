@@ -10,7 +10,7 @@ use Rattle.protocol.specs.declared.entry.Entry.{Entry}
 use Rattle.protocol.specs.declared.reply.Reply.{Reply}
 use Rattle.protocol.specs.Step.{OnFile, OnBlock, OnTable}
 use Rattle.protocol.specs.declared.step.Step.{Step}
-use Rattle.protocol.specs.Step.{classOf}
+use Rattle.protocol.specs.Step.{classOf, clientOf}
 use Rattle.blocks.specs.Stores.{Stores, lent}
 use Rattle.access.specs.BlockStep.{blockStep}
 use Rattle.access.specs.BlockStep.{Leaves as LeavesBlock}
@@ -22,7 +22,7 @@ use Rattle.table.specs.Recovery.{recoveryStep, filesAfter, tableAfter}
 use Rattle.table.proofs.Steps.{recoveryIn, as-taken}
 use Rattle.service.specs.declared.service.Service.{Service}
 use Rattle.service.specs.declared.outcome.Outcome.{Outcome}
-use Rattle.service.specs.Contents.{sizesOf, tableIn, reportedAt, clientAt, fileAt, storesOf, withStores}
+use Rattle.service.specs.Contents.{sizesOf, tableIn, reportedAt, embargoedAt, clientAt, fileAt, storesOf, withStores}
 use Rattle.service.specs.Step.{fileOutcome, blockOutcome, tableOutcome, stepOf}
 use Rattle.service.proofs.Arms.{file-arm, block-arm, table-arm}
 
@@ -31,12 +31,13 @@ module _ (s : Service) (x : Step) (z : Sizes) (inForce : z ≡ sizesOf s) where
       (f : ℕ)
       → classOf x ≡ OnFile f
       → fileOutcome s (f % maxFiles)
-      (fileStep z (tableIn s .recovering) (fileAt s (f % maxFiles)) (storesOf s) x)
+      (fileStep z (embargoedAt s (clientOf x % maxClients)) (tableIn s .recovering) (fileAt s (f % maxFiles)) (storesOf s) x)
       ≡ stepOf s x
   file-result f class =
       ap
       (λ (z : Sizes).
-      fileOutcome s (f % maxFiles) (fileStep z (tableIn s .recovering) (fileAt s (f % maxFiles)) (storesOf s) x))
+      fileOutcome s (f % maxFiles)
+      (fileStep z (embargoedAt s (clientOf x % maxClients)) (tableIn s .recovering) (fileAt s (f % maxFiles)) (storesOf s) x))
       inForce
       ∙ sym (file-arm s x f class)
 
@@ -44,7 +45,8 @@ module _ (s : Service) (x : Step) (z : Sizes) (inForce : z ≡ sizesOf s) where
       (i f : ℕ) (reply : Reply) (b c : List ℕ) (h d : List Bool)
       → classOf x ≡ OnBlock i f
       → LeavesBlock
-      (blockStep z (tableIn s .recovering) (reportedAt s (i % maxClients)) (clientAt s (i % maxClients) (f % maxFiles))
+      (blockStep z (embargoedAt s (i % maxClients)) (tableIn s .recovering) (reportedAt s (i % maxClients))
+      (clientAt s (i % maxClients) (f % maxFiles))
       (storesOf s)
       x)
       reply b c h d
@@ -56,7 +58,8 @@ module _ (s : Service) (x : Step) (z : Sizes) (inForce : z ≡ sizesOf s) where
       ∙ ap
       (λ (z : Sizes).
       blockOutcome s
-      (blockStep z (tableIn s .recovering) (reportedAt s (i % maxClients)) (clientAt s (i % maxClients) (f % maxFiles))
+      (blockStep z (embargoedAt s (i % maxClients)) (tableIn s .recovering) (reportedAt s (i % maxClients))
+      (clientAt s (i % maxClients) (f % maxFiles))
       (storesOf s)
       x))
       inForce
@@ -68,7 +71,12 @@ module _ (s : Service) (x : Step) (z : Sizes) (inForce : z ≡ sizesOf s) where
       tableOutcome s
       (record {
         table =
-            record { files = entries; recovering = o .recovery .recovering; reported = o .recovery .reported };
+            record {
+              files = entries;
+              recovering = o .recovery .recovering;
+              reported = o .recovery .reported;
+              embargoed = o .recovery .embargoed;
+            };
         reply = o .reply;
       })
 

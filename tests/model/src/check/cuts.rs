@@ -1,7 +1,7 @@
 //! Lines after which a step file is worth cutting short. Only the summary shows the state table, so a file is played
 //! once more up to a line where the table is halfway: an open partly answered, a client that has closed one of several
 //! write opens, a callback whose reason a flush has taken away, a recovery half reported or just ended, a client just
-//! restarted.
+//! restarted, put under embargo or lifted, a write under embargo.
 
 use super::Witness;
 use crate::{Mode, Outcome, Service, State, Step};
@@ -16,6 +16,10 @@ pub struct Cuts {
     recovered: Option<usize>,
     restarted: Option<usize>,
     restarted_in_recovery: Option<usize>,
+    embargoed: Option<usize>,
+    embargoed_in_recovery: Option<usize>,
+    written_under_embargo: Option<usize>,
+    lifted: Option<usize>,
 }
 
 impl Cuts {
@@ -29,6 +33,10 @@ impl Cuts {
             self.recovered,
             self.restarted,
             self.restarted_in_recovery,
+            self.embargoed,
+            self.embargoed_in_recovery,
+            self.written_under_embargo,
+            self.lifted,
         ];
         lines.into_iter().flatten().map(|line| first_lines(input, line)).collect()
     }
@@ -59,7 +67,7 @@ fn is_reason_gone(service: &Service, step: &Step) -> bool {
 }
 
 fn is_half_reported(service: &Service) -> bool {
-    let all = service.sizes().client_set();
+    let all = service.sizes().client_set().minus(service.server.embargoed);
     let missing = service.server.reports_missing(service.sizes());
     service.server.recovering && missing != all && !missing.is_empty()
 }
@@ -85,6 +93,21 @@ impl Witness for Cuts {
         if matches!(outcome, Outcome::Restarted { .. }) {
             let moment = if service.server.recovering { &mut self.restarted_in_recovery } else { &mut self.restarted };
             *moment = line;
+        }
+        if matches!(outcome, Outcome::Embargoed { .. }) {
+            self.embargoed = line;
+        }
+        if service.server.recovering && !service.server.embargoed.and(service.sizes().client_set()).is_empty() {
+            self.embargoed_in_recovery = line;
+        }
+        if *outcome == Outcome::Done {
+            match *step {
+                Step::Lift { .. } => self.lifted = line,
+                Step::Write { client, .. } if service.server.embargoed.contains(client as usize) => {
+                    self.written_under_embargo = line;
+                }
+                _ => {}
+            }
         }
     }
 

@@ -1,5 +1,5 @@
 //! Demand 3 over a whole run: reads by the reference memory, and the table that a recovery brings back, without the
-//! clients that restarted since the crash.
+//! clients that restarted since the crash. One under embargo has nothing in it.
 
 use super::{ReferenceMemory, StateTable, Witness};
 use crate::{Outcome, Service, Step};

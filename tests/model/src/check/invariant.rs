@@ -3,7 +3,9 @@
 use std::ops::Range;
 
 use super::{BlockWrites, Demand3, TableEntry, Witness};
-use crate::{BLOCKS, CLIENTS, ClientFile, Entry, Kind, Mode, Outcome, Server, Service, Sizes, Step, WaitingOpen};
+use crate::{
+    BLOCKS, CLIENTS, ClientFile, Entry, Kind, Mode, Outcome, Record, Server, Service, Sizes, Step, WaitingOpen,
+};
 
 /// A clause that does not hold after the step of this line.
 #[derive(Clone, Copy, PartialEq, Eq, Debug)]
@@ -14,8 +16,8 @@ pub struct BrokenClause {
 }
 
 /// One file: both ends of it, the reference memory's writes, and in a recovery the table's entry before it, without the
-/// clients that restarted since. The words are the clauses' own: a client is marked when it has the last-writer flag, its
-/// label is the cached version.
+/// clients that restarted since. The words are the clauses' own: a client is in when it is not under embargo, marked
+/// when it has the last-writer flag; its label is the cached version.
 pub struct FileView<'a> {
     sizes: Sizes,
     server: &'a Server,
@@ -28,8 +30,8 @@ pub struct FileView<'a> {
 type Clause = fn(&FileView) -> bool;
 
 /// A: while running. B: while recovering. S, L, D: always, on the clients' own records. M: always, of marks and of the
-/// last writer. W: while an open waits.
-pub const CLAUSES: [(&str, Clause); 23] = [
+/// last writer. W: while an open waits. All these are of the clients that are in. E: of those under embargo.
+pub const CLAUSES: [(&str, Clause); 25] = [
     ("A1", |file| file.recovering() || file.each(|s| file.record_agrees(s))),
     ("A2", |file| file.recovering() || file.each(|s| file.last_writer(s) == file.marked(s))),
     ("B1", |file| file.running() || file.waiting().is_none()),
@@ -66,10 +68,16 @@ pub const CLAUSES: [(&str, Clause); 23] = [
         let is_latest_safe = |b: usize| file.entry.blocks[b] == file.memory[b].latest_safe();
         (0..file.sizes.blocks).all(|b| file.memory[b].has_one_at_risk() && is_latest_safe(b))
     }),
-    ("D6", |file| file.copies(|s, b| file.dirty(s, b) == (file.memory[b].at_risk() == Some(s)))),
+    ("D6", |file| {
+        let none_is_out = |b: usize| file.memory[b].at_risk().is_none_or(|s| file.is_in(s));
+        file.copies(|s, b| file.dirty(s, b) == (file.memory[b].at_risk() == Some(s)))
+            && (0..file.sizes.blocks).all(none_is_out)
+    }),
     ("M1", |file| file.each(|s| implies(file.marked(s) || file.last_writer(s), file.any_dirty(s) && !file.writes(s)))),
     ("WS", |file| file.waiting().is_none_or(|open| file.callbacks_suffice(&open))),
     ("W6", |file| file.waiting().is_none_or(|open| implies(open.mode == Mode::Write, file.version() < u32::MAX))),
+    ("E1", |file| (0..file.sizes.clients).all(|s| implies(!file.is_in(s), file.server_has_nothing_of(s)))),
+    ("E2", |file| file.running() || (0..file.sizes.clients).all(|s| implies(!file.is_in(s), !file.reported(s)))),
 ];
 
 fn implies(premise: bool, conclusion: bool) -> bool {
@@ -77,11 +85,26 @@ fn implies(premise: bool, conclusion: bool) -> bool {
 }
 
 impl FileView<'_> {
+    /// Of the clients that are in.
     fn each(&self, holds: impl Fn(usize) -> bool) -> bool {
-        (0..self.sizes.clients).all(holds)
+        (0..self.sizes.clients).all(|s| !self.is_in(s) || holds(s))
     }
 
-    /// Pairs of different clients.
+    fn is_in(&self, s: usize) -> bool {
+        !self.server.embargoed.contains(s)
+    }
+
+    /// Neither record nor last writer, wait or callback, nor a place in the table that the recovery brings back.
+    fn server_has_nothing_of(&self, s: usize) -> bool {
+        let in_wait = |open: WaitingOpen| open.opener == s || open.callbacks.kind(s).is_some();
+        let in_table = |table: &TableEntry| table.records[s] != Record::default() || table.last_writer == Some(s);
+        self.entry.records[s] == Record::default()
+            && !self.last_writer(s)
+            && !self.waiting().is_some_and(in_wait)
+            && !self.before_recovery.is_some_and(in_table)
+    }
+
+    /// Pairs of different clients that are in.
     fn pairs(&self, holds: impl Fn(usize, usize) -> bool) -> bool {
         self.each(|s| self.each(|t| s == t || holds(s, t)))
     }
@@ -199,7 +222,7 @@ pub fn broken_clauses<'a>(
     })
 }
 
-/// Checks every clause after every step: for the file of the step, or for all files if it names none.
+/// Checks every clause after every step: for the file of the step, or for all files if it names none or is an embargo.
 #[derive(Default)]
 pub struct Invariant {
     demand3: Demand3,
@@ -227,7 +250,8 @@ impl Witness for Invariant {
         self.demand3.after(service, step, outcome);
         if self.broken.is_none() {
             let sizes = service.sizes();
-            let files = step.existing_place(sizes).map_or(0..sizes.files, |(_, file)| file..file + 1);
+            let on_one = step.existing_place(sizes).filter(|_| !matches!(step, Step::Embargo { .. }));
+            let files = on_one.map_or(0..sizes.files, |(_, file)| file..file + 1);
             let first = broken_clauses(service, &self.demand3, files).next();
             self.broken = first.map(|(name, file)| BrokenClause { name, file, line: self.line + 1 });
         }

@@ -1,15 +1,16 @@
 //! The reference memory (document 01: the plain book): for each file and block the accepted writes, newest first, each
 //! safe or at risk. A restart takes the writes at risk of its client away, and a read must give "the latest write not
-//! lost" (document 02, Wish 8).
+//! lost" (document 02, Wish 8). An embargo takes them away too, and the writes that its client makes until it is lifted
+//! or restarts are never listed; of its reads nothing is promised (Wish 9).
 
-use crate::{BLOCKS, FILES, Step};
+use crate::{BLOCKS, ClientSet, FILES, Step};
 
 /// An accepted write that is not lost.
 #[derive(Clone, Copy, PartialEq, Eq, Debug)]
 pub struct KeptWrite {
     pub client: usize,
     pub value: u64,
-    /// It has reached the server. Otherwise it is at risk: a restart of its client loses it.
+    /// It has reached the server. Otherwise it is at risk: a restart or an embargo of its client loses it.
     pub safe: bool,
 }
 
@@ -19,11 +20,13 @@ pub struct BlockWrites(Vec<KeptWrite>);
 
 pub struct ReferenceMemory {
     blocks: Vec<[BlockWrites; BLOCKS]>,
+    /// The clients under embargo, by the steps alone.
+    embargoed: ClientSet,
 }
 
 impl Default for ReferenceMemory {
     fn default() -> Self {
-        ReferenceMemory { blocks: vec![Default::default(); FILES] }
+        ReferenceMemory { blocks: vec![Default::default(); FILES], embargoed: ClientSet::NONE }
     }
 }
 
@@ -77,10 +80,16 @@ impl ReferenceMemory {
         &self.blocks[file]
     }
 
-    /// The value that an accepted read must give; none for any other step.
+    pub fn embargoed(&self) -> ClientSet {
+        self.embargoed
+    }
+
+    /// The value that an accepted read must give; none for one under embargo, and for any other step.
     pub fn expected(&self, step: &Step) -> Option<u64> {
         match *step {
-            Step::Read { file, block, .. } => Some(self.blocks[file as usize][block as usize].latest()),
+            Step::Read { client, file, block } if !self.embargoed.contains(client as usize) => {
+                Some(self.blocks[file as usize][block as usize].latest())
+            }
             _ => None,
         }
     }
@@ -92,6 +101,7 @@ impl ReferenceMemory {
             return;
         }
         match *step {
+            Step::Write { client, .. } if self.embargoed.contains(client as usize) => {}
             Step::Write { client, file, block, value } => {
                 let write = KeptWrite { client: client as usize, value, safe: !delayed };
                 self.blocks[file as usize][block as usize].wrote(write);
@@ -101,9 +111,19 @@ impl ReferenceMemory {
                 self.blocks[file as usize].iter_mut().for_each(|writes| writes.came(client as usize));
             }
             Step::Restart { client } => {
-                self.blocks.iter_mut().flatten().for_each(|writes| writes.lost(client as usize));
+                self.lost(client as usize);
+                self.embargoed = self.embargoed.without(client as usize);
             }
+            Step::Embargo { client, .. } => {
+                self.lost(client as usize);
+                self.embargoed = self.embargoed.with(client as usize);
+            }
+            Step::Lift { client } => self.embargoed = self.embargoed.without(client as usize),
             _ => {}
         }
+    }
+
+    fn lost(&mut self, client: usize) {
+        self.blocks.iter_mut().flatten().for_each(|writes| writes.lost(client));
     }
 }

@@ -1,6 +1,7 @@
-//! Provenance by the text alone. From the input lines and an explainer's own replies a plain book is kept of the accepted
-//! writes to each block, safe, at risk or lost, and the sentences of every accepted read and of every restart are held to
-//! it. The book also has the line of each copy, whether the copy is dirty, and how often each station has each file open.
+//! Provenance by the text alone. From the input lines and an explainer's own replies a plain book is kept of the
+//! accepted writes to each block, safe, at risk or lost, and the sentences of every accepted read, of every restart and
+//! of all that is said of embargoes are held to it. The book also has the line and the value of each copy, whether the
+//! copy is dirty, how often each station has each file open, and since which line it is under embargo.
 
 use std::collections::{BTreeMap, HashMap};
 use std::fmt;
@@ -19,7 +20,12 @@ pub struct Provenance {
     /// Reads of blocks whose latest write was lost.
     after_a_loss: u64,
     restarts: u64,
+    embargoes: u64,
     writes_lost: u64,
+    /// Reads and writes under embargo.
+    reads_without_promise: u64,
+    writes_in_vain: u64,
+    refused_under_embargo: u64,
 }
 
 /// A line that says what the text before it does not bear out.
@@ -44,6 +50,12 @@ impl Provenance {
         self.writes_lost
     }
 
+    /// The least of what embargoes bring about.
+    pub fn least_of_embargoes(&self) -> u64 {
+        let Provenance { embargoes, reads_without_promise, writes_in_vain, refused_under_embargo, .. } = self;
+        *embargoes.min(reads_without_promise).min(writes_in_vain).min(refused_under_embargo)
+    }
+
     /// Checks the explained lines of a whole file, of a run that begins with an image or not.
     pub fn check(&mut self, input: &[u8], output: &[u8], image: Option<&[u8]>) -> Result<(), Unfounded> {
         let mut book = TextBook::new(image);
@@ -63,7 +75,8 @@ impl Provenance {
 impl fmt::Display for Provenance {
     fn fmt(&self, out: &mut fmt::Formatter) -> fmt::Result {
         let Provenance { lines, from_the_server, from_a_copy, from_a_dirty_copy, unwritten, .. } = self;
-        let Provenance { after_a_loss, restarts, writes_lost, .. } = self;
+        let Provenance { after_a_loss, restarts, embargoes, writes_lost, .. } = self;
+        let Provenance { reads_without_promise, writes_in_vain, refused_under_embargo, .. } = self;
         writeln!(out, "lines {lines}")?;
         writeln!(out, "accepted reads {}", self.reads())?;
         writeln!(
@@ -74,7 +87,9 @@ impl fmt::Display for Provenance {
             out,
             "of blocks that no line wrote {unwritten}, of blocks whose latest write was lost {after_a_loss}"
         )?;
-        write!(out, "restarts {restarts}, blocks whose writes they lost {writes_lost}")
+        writeln!(out, "restarts {restarts}, embargoes {embargoes}, blocks whose writes they lost {writes_lost}")?;
+        writeln!(out, "under embargo: reads {reads_without_promise}, writes {writes_in_vain}")?;
+        write!(out, "refused under embargo {refused_under_embargo}")
     }
 }
 
@@ -95,7 +110,7 @@ struct Write<'a> {
 struct Writes<'a> {
     at_the_server: Option<Write<'a>>,
     in_a_copy: Vec<Write<'a>>,
-    /// The latest of all, if a restart has lost it.
+    /// The latest of all, if it is lost.
     lost: Option<Write<'a>>,
 }
 
@@ -120,7 +135,8 @@ impl<'a> Writes<'a> {
     fn lose(&mut self, by: Number) -> Option<u64> {
         let (lost, left): (Vec<_>, _) = self.in_a_copy.iter().partition(|write| write.station == by);
         self.in_a_copy = left;
-        self.lost = lost.last().copied().or(self.lost);
+        let latest = lost.last().copied().into_iter().chain(self.lost);
+        self.lost = latest.max_by_key(|write| write.line);
         lost.last().map(|write| write.line)
     }
 
@@ -129,10 +145,11 @@ impl<'a> Writes<'a> {
     }
 }
 
-/// The latest line at which a copy came to its station, and whether it was written there.
-struct Copied {
+/// The latest line at which a copy came to its station, whether it was written there, and its value.
+struct Copied<'a> {
     line: u64,
     written: bool,
+    value: Number<'a>,
 }
 
 struct TextBook<'a> {
@@ -141,10 +158,12 @@ struct TextBook<'a> {
     writes: HashMap<[Number<'a>; 2], Writes<'a>>,
     /// How often a file is open, by station and file.
     opens: HashMap<[Number<'a>; 2], u64>,
-    copies: HashMap<Place<'a>, Copied>,
+    copies: HashMap<Place<'a>, Copied<'a>>,
     flushes: HashMap<Place<'a>, u64>,
     /// Callback replies, by station and file.
     answers: HashMap<[Number<'a>; 2], u64>,
+    /// The stations under embargo, by their numbers: since which line, 0 since the image.
+    embargoes: HashMap<u64, u64>,
     /// The blocks of the image that the run began with, those that are not 0.
     image: Option<HashMap<[Vec<u8>; 2], Vec<u8>>>,
 }
@@ -157,6 +176,7 @@ impl<'a> TextBook<'a> {
             let blocks = sections.blocks();
             blocks.map(|(file, block, value)| ([text(file.into()), text(block.into())], text(value))).collect()
         };
+        let embargoed = image.map_or(Vec::new(), |image| Sections::of(image).embargoes().collect());
         TextBook {
             line: 0,
             writes: HashMap::new(),
@@ -164,6 +184,7 @@ impl<'a> TextBook<'a> {
             copies: HashMap::new(),
             flushes: HashMap::new(),
             answers: HashMap::new(),
+            embargoes: embargoed.into_iter().map(|station| (station.into(), 0)).collect(),
             image: image.map(blocks_of),
         }
     }
@@ -176,17 +197,32 @@ impl<'a> TextBook<'a> {
         let (letter, fields) = reply.split_first().ok_or("a reply")?;
         let replied = fields_of(fields.strip_prefix(b" ").unwrap_or(fields));
         match (&fields_of(step)[..], letter) {
+            (&[b"RD", station, file, block], b'V') if self.is_embargoed(station) => {
+                let value = fields.strip_prefix(b" ").ok_or("a value")?;
+                self.judge_read_under_embargo([station, file, block], value, sentence)?;
+                counts.reads_without_promise += 1;
+            }
             (&[b"RD", station, file, block], b'V') => {
                 let value = fields.strip_prefix(b" ").ok_or("a value")?;
                 self.judge_read([station, file, block], value, sentence, counts)?;
             }
             (_, b'V') => return Err("no value: the line is no read".into()),
+            (&[b"WR", station, file, block, value], b'K') if self.is_embargoed(station) => {
+                let [at, of, to] = [station, file, block].map(text);
+                let due =
+                    format!("station {at} writes file {of} block {to} in its copy; lost: it{}", self.since(station));
+                holds(sentence == due.as_bytes(), due)?;
+                let write = Write { line: self.line, station, value };
+                self.writes.entry([file, block]).or_default().lost = Some(write);
+                self.copies.insert([station, file, block], Copied { line: self.line, written: true, value });
+                counts.writes_in_vain += 1;
+            }
             (&[b"WR", station, file, block, value], b'K') => {
                 let in_a_copy = sentence.ends_with(b" in its copy");
                 let write = Write { line: self.line, station, value };
                 self.writes.entry([file, block]).or_default().add(write, in_a_copy);
                 if in_a_copy {
-                    self.copies.insert([station, file, block], Copied { line: self.line, written: true });
+                    self.copies.insert([station, file, block], Copied { line: self.line, written: true, value });
                 }
             }
             (&[b"FL", station, file, block], b'K') => {
@@ -206,33 +242,80 @@ impl<'a> TextBook<'a> {
                 let opens = self.opens.entry([station, file]).or_default();
                 *opens = opens.saturating_sub(1);
             }
-            (&[b"BT", station], b'K') => self.judge_restart(station, &replied, sentence, counts)?,
+            (&[b"BT", station], b'K') => {
+                let opened = self.opened(station);
+                self.opens.retain(|[by, _], _| *by != station);
+                self.judge_forgotten(station, "restarts", &opened, &replied, sentence, counts)?;
+                counts.restarts += 1;
+                self.embargoes.remove(&number_of(station));
+            }
+            (&[b"EM", station, _], b'A') => {
+                let opened = self.opened(station);
+                let [b"0", granted @ ..] = &replied[..] else { return Err("A 0".into()) };
+                self.judge_forgotten(station, "is put under embargo", &opened, granted, sentence, counts)?;
+                counts.embargoes += 1;
+                self.embargoes.insert(number_of(station), self.line);
+            }
+            (&[b"LF", station], b'K') => {
+                let opened = list(&self.opened(station));
+                let due = format!("station {} is told of its embargo; files it had open:{opened}", text(station));
+                holds(sentence == due.as_bytes(), due)?;
+                self.opens.retain(|[by, _], _| *by != station);
+                self.embargoes.remove(&number_of(station));
+            }
+            (&[_, station, ..], b'N') if replied == [b"20"] => {
+                let due = format!("station {}{}", text(station), self.since(station));
+                holds(sentence == due.as_bytes() && self.is_embargoed(station), due)?;
+                counts.refused_under_embargo += 1;
+            }
+            (&[_, station, ..], b'N') if replied == [b"21"] => {
+                let due = format!("station {} is not under embargo", text(station));
+                holds(sentence == due.as_bytes() && !self.is_embargoed(station), due)?;
+            }
             _ => {}
         }
         Ok(())
     }
 
-    /// The files that were open and the writes that are lost must be told; then a grant for each four numbers.
-    fn judge_restart(
+    fn is_embargoed(&self, station: Number) -> bool {
+        self.embargoes.contains_key(&number_of(station))
+    }
+
+    /// That a station is under embargo, as it is told.
+    fn since(&self, station: Number) -> String {
+        match self.embargoes.get(&number_of(station)) {
+            Some(0) | None => " is under embargo, as the image has it".into(),
+            Some(line) => format!(" is under embargo since line {line}"),
+        }
+    }
+
+    /// The files that a station has open.
+    fn opened(&self, station: Number) -> Vec<u64> {
+        let opened = self.opens.iter().filter(|([by, _], opens)| *by == station && **opens > 0);
+        let mut opened: Vec<u64> = opened.map(|([_, file], _)| number_of(file)).collect();
+        opened.sort_unstable();
+        opened
+    }
+
+    /// Of a restart or an embargo: the files that were open and the writes that are lost must be told; then a grant for
+    /// each four numbers.
+    fn judge_forgotten(
         &mut self,
         station: Number<'a>,
+        what: &str,
+        opened: &[u64],
         granted: &[Number<'a>],
         sentence: &'a [u8],
         counts: &mut Provenance,
     ) -> Result<(), String> {
-        let opened = self.opens.iter().filter(|([by, _], opens)| *by == station && **opens > 0);
-        let mut opened: Vec<u64> = opened.map(|([_, file], _)| number(file)).collect();
-        opened.sort_unstable();
-        self.opens.retain(|[by, _], _| *by != station);
         let mut lost = BTreeMap::new();
         for ([file, block], writes) in &mut self.writes {
             if let Some(line) = writes.lose(station) {
-                lost.insert([number(file), number(block)], line);
+                lost.insert([number_of(file), number_of(block)], line);
             }
         }
-        counts.restarts += 1;
         counts.writes_lost += lost.len() as u64;
-        let due = told_of_restart(station, &opened, &lost);
+        let due = told_of_forgotten(station, what, opened, &lost);
         let grants = sentence.strip_prefix(due.as_bytes()).ok_or(&due[..])?;
         let openers = granted.chunks_exact(4).map(|granted| granted[0]).collect::<Vec<_>>();
         let told = opens_told(grants);
@@ -243,10 +326,21 @@ impl<'a> TextBook<'a> {
         Ok(())
     }
 
+    /// The copy is told as in any read, and its value is given.
+    fn judge_read_under_embargo(&self, place: Place<'a>, value: &[u8], sentence: &[u8]) -> Result<(), String> {
+        let [station, file, block] = place.map(text);
+        let copied = self.copies.get(&place).ok_or("no value: the station has no copy")?;
+        let dirty = if copied.written && !self.cleaned_since(place, copied.line) { ", dirty" } else { "" };
+        let copy = format!("from its own copy{dirty}, since line {}", copied.line);
+        let promise = format!("nothing is promised: it{}", self.since(place[0]));
+        let due = format!("station {station}, file {file} block {block}: {copy}; {promise}");
+        holds(value == copied.value && sentence == due.as_bytes(), format!("V {}    {due}", text(copied.value)))
+    }
+
     fn judge_read(
         &mut self,
         place: Place<'a>,
-        value: &[u8],
+        value: Number<'a>,
         sentence: &[u8],
         counts: &mut Provenance,
     ) -> Result<(), String> {
@@ -269,7 +363,7 @@ impl<'a> TextBook<'a> {
         if told_as_the_servers {
             counts.from_the_server += 1;
             // Without permission nothing is held: no copy is told before it is fetched or written.
-            self.copies.insert(place, Copied { line: self.line, written: false });
+            self.copies.insert(place, Copied { line: self.line, written: false, value });
         } else {
             counts.from_a_copy += 1;
             counts.from_a_dirty_copy += u64::from(dirty);
@@ -309,18 +403,28 @@ fn text(number: Number<'_>) -> &str {
     str::from_utf8(number).unwrap_or("?")
 }
 
-fn number(written: Number) -> u64 {
+fn number_of(written: Number) -> u64 {
     text(written).parse().unwrap_or(u64::MAX)
 }
 
-/// What the sentence of a restart begins with.
-fn told_of_restart(station: Number, opened: &[u64], lost: &BTreeMap<[u64; 2], u64>) -> String {
-    let opened: String = opened.iter().map(|file| format!(" {file}")).collect();
+/// An error, of what should be said, unless this is so.
+fn holds(is_so: bool, due: String) -> Result<(), String> {
+    if is_so { Ok(()) } else { Err(due) }
+}
+
+fn or_none(list: String) -> String {
+    if list.is_empty() { " none".into() } else { list }
+}
+
+fn list(numbers: &[u64]) -> String {
+    or_none(numbers.iter().map(|number| format!(" {number}")).collect())
+}
+
+/// What the sentence of a restart or an embargo begins with.
+fn told_of_forgotten(station: Number, what: &str, opened: &[u64], lost: &BTreeMap<[u64; 2], u64>) -> String {
     let lost = lost.iter().map(|([file, block], line)| format!(" file {file} block {block} at line {line}"));
-    let lost = lost.collect::<Vec<_>>().join(",");
-    let or_none = |list: String| if list.is_empty() { " none".into() } else { list };
-    let (opened, lost) = (or_none(opened), or_none(lost));
-    format!("station {} restarts; files it had open:{opened}; writes lost:{lost}", text(station))
+    let lost = or_none(lost.collect::<Vec<_>>().join(","));
+    format!("station {} {what}; files it had open:{}; writes lost:{lost}", text(station), list(opened))
 }
 
 /// The station and the file of each grant that is told.

@@ -42,7 +42,11 @@ impl Found {
         let on = |has: &dyn Fn(&Entry) -> bool| service.server.entries[..sizes.files].iter().any(has);
         let files = &service.clients[client].files[..sizes.files];
         Found {
-            writes_lost: files.iter().map(|file| file.copies.count_dirty(sizes) as u64).sum(),
+            // Those of a client under embargo were lost before.
+            writes_lost: match service.server.embargoed.contains(client) {
+                true => 0,
+                false => files.iter().map(|file| file.copies.count_dirty(sizes) as u64).sum(),
+            },
             waits: on(&|entry| entry.waiting.opener == ClientField::of(client)),
             is_called: on(&|entry| entry.callback(sizes, client).is_some()),
             is_last_writer: on(&|entry| entry.last_writer == ClientField::of(client)),

@@ -2,7 +2,7 @@
 
 use std::fmt;
 
-use super::{Behind, Restarts, Witness};
+use super::{Behind, Embargoes, Restarts, Witness};
 use crate::{BLOCKS, Outcome, Refusal, Service, Step};
 
 #[derive(Default)]
@@ -16,6 +16,7 @@ pub struct Tally {
     replies: [u64; BLOCKS + 1],
     behind: Behind,
     restarts: Restarts,
+    embargoes: Embargoes,
     refusals: [u64; Refusal::LAST_NUMBER + 1],
 }
 
@@ -48,17 +49,23 @@ impl Tally {
     pub fn restarts(&self) -> &Restarts {
         &self.restarts
     }
+
+    pub fn embargoes(&self) -> &Embargoes {
+        &self.embargoes
+    }
 }
 
 impl Witness for Tally {
     fn before(&mut self, service: &Service, step: &Step) {
         self.behind.before(service, step);
         self.restarts.before(service, step);
+        self.embargoes.before(service, step);
     }
 
     fn after(&mut self, service: &Service, step: &Step, outcome: &Outcome) {
         self.behind.after(service, step, outcome);
         self.restarts.after(service, step, outcome);
+        self.embargoes.after(service, step, outcome);
         if *step == Step::End && *outcome == Outcome::Done {
             self.recoveries += 1;
         }
@@ -74,7 +81,7 @@ impl Witness for Tally {
                 self.grants_after_waits += u64::from(granted.is_some());
             }
             Outcome::Refused(refusal) => self.refusals[refusal.number()] += 1,
-            Outcome::Granted(_) | Outcome::Restarted { .. } | Outcome::Done => {}
+            Outcome::Granted(_) | Outcome::Restarted { .. } | Outcome::Embargoed { .. } | Outcome::Done => {}
         }
     }
 }
@@ -90,6 +97,7 @@ impl fmt::Display for Tally {
         writeln!(out, "answers by blocks sent {}", replies.join(" "))?;
         writeln!(out, "{}", self.behind)?;
         writeln!(out, "{}", self.restarts)?;
+        writeln!(out, "{}", self.embargoes)?;
         write!(out, "refusals")?;
         for number in Refusal::NUMBERS {
             write!(out, " {number}:{}", self.refusals[number])?;

@@ -23,7 +23,7 @@ pub enum Origin {
     Image,
 }
 
-/// A write that a restart has lost.
+/// A write that is lost, or that a restart or an embargo loses.
 #[derive(Clone, Copy, PartialEq, Eq, Debug)]
 pub struct LostAt {
     pub file: usize,
@@ -31,59 +31,53 @@ pub struct LostAt {
     pub line: u64,
 }
 
-/// Two writes of a block.
+/// The writes of a block.
 #[derive(Clone, Copy, Default)]
 struct BlockLines {
     /// The latest that has reached the server.
     safe: Option<WrittenAt>,
-    /// The latest, if it has not.
-    unsafe_write: Option<UnsafeWrite>,
-}
-
-#[derive(Clone, Copy)]
-struct UnsafeWrite {
-    write: WrittenAt,
-    /// Its client has restarted. Otherwise it is at risk.
-    lost: bool,
+    /// The latest that is not lost, if it has not.
+    at_risk: Option<WrittenAt>,
+    /// The latest of all, if it is lost.
+    lost: Option<WrittenAt>,
 }
 
 impl BlockLines {
     fn wrote(&mut self, write: WrittenAt, in_copy: bool) {
+        self.lost = None;
         if in_copy {
-            self.unsafe_write = Some(UnsafeWrite { write, lost: false });
+            self.at_risk = Some(write);
         } else {
-            *self = BlockLines { safe: Some(write), unsafe_write: None };
+            (self.safe, self.at_risk) = (Some(write), None);
         }
+    }
+
+    /// A write under embargo is lost at once.
+    fn wrote_in_vain(&mut self, write: WrittenAt) {
+        self.lost = Some(write);
     }
 
     /// This client's write, if it is at risk.
     fn at_risk(&self, client: usize) -> Option<WrittenAt> {
-        let at_risk = self.unsafe_write.filter(|risked| !risked.lost && risked.write.client == client);
-        at_risk.map(|risked| risked.write)
+        self.at_risk.filter(|write| write.client == client)
     }
 
     /// This client's write at risk has reached the server.
     fn came(&mut self, client: usize) {
         if let Some(write) = self.at_risk(client) {
-            *self = BlockLines { safe: Some(write), unsafe_write: None };
+            (self.safe, self.at_risk) = (Some(write), None);
         }
     }
 
-    /// This client's write at risk is lost.
+    /// This client's write at risk is lost. One that is lost already came after it, under embargo.
     fn lose(&mut self, client: usize) {
         if let Some(write) = self.at_risk(client) {
-            self.unsafe_write = Some(UnsafeWrite { write, lost: true });
+            (self.at_risk, self.lost) = (None, self.lost.or(Some(write)));
         }
     }
 
     fn latest_not_lost(&self) -> Option<WrittenAt> {
-        let at_risk = self.unsafe_write.filter(|risked| !risked.lost).map(|risked| risked.write);
-        at_risk.or(self.safe)
-    }
-
-    /// The latest write, if it is lost.
-    fn lost(&self) -> Option<WrittenAt> {
-        self.unsafe_write.filter(|risked| risked.lost).map(|risked| risked.write)
+        self.at_risk.or(self.safe)
     }
 }
 
@@ -96,13 +90,16 @@ pub struct Book {
     copies: [[[u64; BLOCKS]; FILES]; CLIENTS],
     /// Of each file: the line of the latest open that had to wait. 0 for none.
     waits: [u64; FILES],
+    /// Of each client: the line that put it under embargo. 0 if no line of this run did.
+    embargoes: [u64; CLIENTS],
 }
 
 impl Book {
     /// The book before the first line of a run that begins with an image or not.
     pub fn new(resumed: bool) -> Self {
         let writes = [[BlockLines::default(); BLOCKS]; FILES];
-        Book { resumed, writes, copies: [[[0; BLOCKS]; FILES]; CLIENTS], waits: [0; FILES] }
+        let copies = [[[0; BLOCKS]; FILES]; CLIENTS];
+        Book { resumed, writes, copies, waits: [0; FILES], embargoes: [0; CLIENTS] }
     }
 
     pub fn origin(&self, Place { file, block, .. }: Place) -> Origin {
@@ -110,17 +107,17 @@ impl Book {
         match lines.latest_not_lost() {
             Some(write) => Origin::Written(write),
             None if self.resumed => Origin::Image,
-            None if lines.lost().is_some() => Origin::Start,
+            None if lines.lost.is_some() => Origin::Start,
             None => Origin::NeverWritten,
         }
     }
 
     /// The latest accepted write to the block, if it is lost.
     pub fn lost(&self, Place { file, block, .. }: Place) -> Option<WrittenAt> {
-        self.writes[file][block].lost()
+        self.writes[file][block].lost
     }
 
-    /// The writes that a restart of this client loses, by file and block.
+    /// The writes that a restart or an embargo of this client loses, by file and block.
     pub fn at_risk(&self, sizes: Sizes, client: usize) -> Vec<LostAt> {
         let places = (0..sizes.files).flat_map(|file| (0..sizes.blocks).map(move |block| (file, block)));
         let at_risk = |(file, block): (usize, usize)| {
@@ -137,13 +134,22 @@ impl Book {
         self.waits[file]
     }
 
+    /// Of a client under embargo: the line that put it there, 0 if an image did.
+    pub fn embargoed_since(&self, client: usize) -> u64 {
+        self.embargoes[client]
+    }
+
     /// What is kept of a line is part of what is told of it.
     pub fn note(&mut self, line: u64, told: &Told) {
         match *told {
             Told::Read(Reading { place, source: Source::Fetched, .. }) => self.note_copy(line, place),
-            Told::Written { place, value, in_copy } => {
+            Told::Written { place, value, in_copy, embargo } => {
                 let write = WrittenAt { line, client: place.client, value };
-                self.writes[place.file][place.block].wrote(write, in_copy);
+                let lines = &mut self.writes[place.file][place.block];
+                match embargo {
+                    None => lines.wrote(write, in_copy),
+                    Some(_) => lines.wrote_in_vain(write),
+                }
                 if in_copy {
                     self.note_copy(line, place);
                 }
@@ -152,8 +158,14 @@ impl Book {
             Told::Answered { client, file, .. } => self.note_answer(client, file),
             Told::AnsweredLast { client, granted, .. } => self.note_answer(client, granted.opening.file),
             Told::Restarted { client, ref lost, .. } => {
-                lost.iter().for_each(|&LostAt { file, block, .. }| self.writes[file][block].lose(client));
+                self.note_lost(client, lost);
+                self.embargoes[client] = 0;
             }
+            Told::Embargoed { client, ref lost, .. } => {
+                self.note_lost(client, lost);
+                self.embargoes[client] = line;
+            }
+            Told::Lifted { client, .. } => self.embargoes[client] = 0,
             Told::Waits { opening, .. } => self.waits[opening.file] = line,
             _ => {}
         }
@@ -161,6 +173,10 @@ impl Book {
 
     fn note_answer(&mut self, client: usize, file: usize) {
         self.writes[file].iter_mut().for_each(|lines| lines.came(client));
+    }
+
+    fn note_lost(&mut self, client: usize, lost: &[LostAt]) {
+        lost.iter().for_each(|&LostAt { file, block, .. }| self.writes[file][block].lose(client));
     }
 
     fn note_copy(&mut self, line: u64, Place { client, file, block }: Place) {

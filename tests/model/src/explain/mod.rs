@@ -11,6 +11,6 @@ mod words;
 
 pub use book::{Book, LostAt, Origin, WrittenAt};
 pub use explainer::{Distortion, distorted, explain, explain_on, explained, explained_from};
-pub use picture::{ClientPicture, FilePicture, Picture};
+pub use picture::{ClientPicture, EmbargoPicture, FilePicture, Picture};
 pub use reason::{Reason, Waiting};
 pub use told::{CopyAtGrant, Granted, Opening, Place, Reading, Source, Told};

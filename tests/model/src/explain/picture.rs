@@ -2,7 +2,7 @@
 
 use std::io::{Result, Write};
 
-use super::{Book, Waiting};
+use super::{Book, LostAt, Place, Waiting};
 use crate::printer::Printer;
 use crate::text::Text;
 use crate::{BLOCKS, ClientFile, ClientSet, Record, Refusal, Service, Sizes, State};
@@ -11,10 +11,21 @@ use crate::{BLOCKS, ClientFile, ClientSet, Record, Refusal, Service, Sizes, Stat
 pub struct Picture {
     /// In a recovery: the clients still to report.
     pub recovering: Option<ClientSet>,
+    /// The clients under embargo, ascending.
+    pub embargoed: Vec<EmbargoPicture>,
     /// Those that are told, ascending.
     pub files: Vec<FilePicture>,
     /// How often each refusal was given, by its number.
     pub refusals: [u64; Refusal::LAST_NUMBER + 1],
+}
+
+#[derive(Clone, PartialEq, Eq, Debug)]
+pub struct EmbargoPicture {
+    pub client: usize,
+    /// The line that put it there, 0 if an image did.
+    pub since: u64,
+    /// Its dirty blocks, by file and block, each with the line at which its copy was written.
+    pub lost: Vec<LostAt>,
 }
 
 /// A file by the server's entry, and what the clients have of it.
@@ -42,8 +53,10 @@ impl Picture {
     pub fn of(service: &Service, book: &Book, refusals: [u64; Refusal::LAST_NUMBER + 1]) -> Self {
         let sizes = service.sizes();
         let server = &service.server;
+        let embargoed = server.embargoed.and(sizes.client_set());
         Picture {
             recovering: server.recovering.then(|| server.reports_missing(sizes)),
+            embargoed: embargoed.members().map(|client| EmbargoPicture::of(service, book, client)).collect(),
             files: (0..sizes.files).filter_map(|file| FilePicture::of(service, book, file)).collect(),
             refusals,
         }
@@ -54,6 +67,9 @@ impl Picture {
             None => printer.line(|text| text.words("the server runs"))?,
             Some(to_report) => printer.line(|text| text.recovers(to_report))?,
         }
+        for embargoed in &self.embargoed {
+            printer.long_line(|text| text.embargo_told(embargoed))?;
+        }
         for file in &self.files {
             file.print(printer)?;
         }
@@ -63,6 +79,17 @@ impl Picture {
         }
         given.try_for_each(|(number, times)| printer.line(|text| text.refused(number, *times)))?;
         printer.line(|text| text.words("end of the picture"))
+    }
+}
+
+impl EmbargoPicture {
+    fn of(service: &Service, book: &Book, client: usize) -> Self {
+        let sizes = service.sizes();
+        let places =
+            (0..sizes.files).flat_map(|file| (0..sizes.blocks).map(move |block| Place { client, file, block }));
+        let dirty = places.filter(|place| service.clients[client].files[place.file].copies.dirty[place.block]);
+        let lost = dirty.map(|place| LostAt { file: place.file, block: place.block, line: book.copied(place) });
+        EmbargoPicture { client, since: book.embargoed_since(client), lost: lost.collect() }
     }
 }
 
@@ -109,6 +136,12 @@ impl ClientPicture {
 }
 
 impl Text<'_> {
+    fn embargo_told(&mut self, told: &EmbargoPicture) {
+        self.station(told.client);
+        self.is_under_embargo(told.since);
+        self.writes_lost(&told.lost);
+    }
+
     fn file_told(&mut self, told: &FilePicture) {
         self.words("file ");
         self.count(told.file);

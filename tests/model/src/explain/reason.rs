@@ -37,6 +37,14 @@ pub enum Reason {
         file: usize,
     },
     SettingOutOfRange,
+    UnderEmbargo {
+        client: usize,
+        /// The line that put it there, 0 if an image did.
+        since: u64,
+    },
+    NotUnderEmbargo {
+        client: usize,
+    },
 }
 
 /// An open that waits.
@@ -84,6 +92,8 @@ impl Reason {
             }
             Refusal::NotDirty => Reason::NotDirty(Place { client: at_client, file: at_file, block: at_block }),
             Refusal::VersionAtLimit => Reason::VersionAtLimit { file: at_file },
+            Refusal::UnderEmbargo => Reason::UnderEmbargo { client: at_client, since: book.embargoed_since(at_client) },
+            Refusal::NotUnderEmbargo => Reason::NotUnderEmbargo { client: at_client },
             Refusal::NotAStep
             | Refusal::OpenWaitsAtWriting
             | Refusal::BufferTooShort
@@ -105,10 +115,10 @@ impl Named {
     fn by(step: &Step) -> Self {
         let (client, file, block, mode) = match *step {
             Step::Open { mode, client, file } | Step::Close { mode, client, file } => (client, file, 0, Some(mode)),
-            Step::Reply { client, file } => (client, file, 0, None),
+            Step::Reply { client, file } | Step::Embargo { client, file } => (client, file, 0, None),
             Step::Read { client, file, block } | Step::Flush { client, file, block } => (client, file, block, None),
             Step::Write { client, file, block, .. } => (client, file, block, Some(Mode::Write)),
-            Step::Report { client } | Step::Restart { client } => (client, 0, 0, None),
+            Step::Report { client } | Step::Restart { client } | Step::Lift { client } => (client, 0, 0, None),
             Step::Crash | Step::End => (0, 0, 0, None),
         };
         Named { client, file, block, mode }

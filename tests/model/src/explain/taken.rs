@@ -27,9 +27,9 @@ enum Found {
     Open { opening: Opening, state: State, label: u32 },
     /// The open that waits, and the label of the opener's copy.
     Reply { client: usize, opening: Opening, label: u32 },
-    /// The files that the client has open, its writes at risk, and of each file the open that waits, if one does, with
-    /// the label of the opener's copy.
-    Restart { client: usize, opened: Vec<usize>, lost: Vec<LostAt>, waiting: Vec<Option<(Opening, u32)>> },
+    /// Of a restart and an embargo: the files that the client has open, its writes at risk, and of each file the open
+    /// that waits, if one does, with the label of the opener's copy.
+    Forgotten { client: usize, opened: Vec<usize>, lost: Vec<LostAt>, waiting: Vec<Option<(Opening, u32)>> },
     /// All that is told, found before the step.
     Whole(Told),
 }
@@ -53,32 +53,37 @@ impl Found {
             Step::Read { client, file, block } => {
                 let place = place(client, file, block);
                 let (source, origin, lost) = (source(service, book, place), book.origin(place), book.lost(place));
-                Found::Whole(Told::Read(Reading { place, source, origin, lost }))
+                let embargo = embargo(service, book, place.client);
+                Found::Whole(Told::Read(Reading { place, source, origin, lost, embargo }))
             }
             Step::Write { client, file, block, value } => {
                 let place = place(client, file, block);
                 let in_copy = service.clients[place.client].files[place.file].record.may_cache;
-                Found::Whole(Told::Written { place, value, in_copy })
+                let embargo = embargo(service, book, place.client);
+                Found::Whole(Told::Written { place, value, in_copy, embargo })
             }
             Step::Flush { client, file, block } => Found::Whole(Told::Flushed(place(client, file, block))),
             Step::Crash => Found::Whole(Told::Crashed),
             Step::Report { client } => Found::Whole(Told::Reported { client: client as usize }),
             Step::End => Found::Whole(Told::Ended),
-            Step::Restart { client } => Found::restart(service, book, client as usize),
+            Step::Restart { client } | Step::Embargo { client, .. } => Found::forgotten(service, book, client as usize),
+            Step::Lift { client } => {
+                let client = client as usize;
+                Found::Whole(Told::Lifted { client, opened: opened(service, client) })
+            }
         }
     }
 
-    fn restart(service: &Service, book: &Book, client: usize) -> Self {
+    fn forgotten(service: &Service, book: &Book, client: usize) -> Self {
         let sizes = service.sizes();
-        let is_open = |file: &usize| service.clients[client].files[*file].record.is_open();
         let waiting = |file: usize| {
             let open = service.server.entries[file].waiting.read(sizes)?;
             let opening = Opening { client: open.opener, file, mode: open.mode };
             Some((opening, label(service, opening)))
         };
-        Found::Restart {
+        Found::Forgotten {
             client,
-            opened: (0..sizes.files).filter(is_open).collect(),
+            opened: opened(service, client),
             lost: book.at_risk(sizes, client),
             waiting: (0..sizes.files).map(waiting).collect(),
         }
@@ -99,17 +104,38 @@ impl Found {
             (Found::Reply { client, opening: Opening { file, .. }, .. }, Outcome::Replied { sent, granted: None }) => {
                 Told::Answered { client, file, sent: *sent, still: waiting(service, file).callbacks.clients() }
             }
-            (Found::Restart { client, opened, lost, waiting }, Outcome::Restarted { granted }) => {
-                let told = |GrantedOpen { file, grant, .. }: &GrantedOpen| {
-                    let (opening, label) = waiting[*file].expect("an open that is granted has waited");
-                    Granted::of(opening, label, grant)
-                };
-                Told::Restarted { client, opened, lost, granted: granted.iter().map(told).collect() }
+            (Found::Forgotten { client, opened, lost, waiting }, Outcome::Restarted { granted }) => {
+                Told::Restarted { client, opened, lost, granted: grants(&waiting, granted) }
+            }
+            (Found::Forgotten { client, opened, lost, waiting }, Outcome::Embargoed { granted }) => {
+                Told::Embargoed { client, opened, lost, granted: grants(&waiting, granted) }
             }
             (Found::Whole(told), _) => told,
-            (_, outcome) => unreachable!("an open, a callback reply or a restart with the outcome {outcome:?}"),
+            (_, outcome) => {
+                unreachable!("an open, a callback reply, a restart or an embargo with the outcome {outcome:?}")
+            }
         }
     }
+}
+
+/// What is told of the opens granted, of those that waited.
+fn grants(waiting: &[Option<(Opening, u32)>], granted: &[GrantedOpen]) -> Vec<Granted> {
+    let told = |GrantedOpen { file, grant, .. }: &GrantedOpen| {
+        let (opening, label) = waiting[*file].expect("an open that is granted has waited");
+        Granted::of(opening, label, grant)
+    };
+    granted.iter().map(told).collect()
+}
+
+/// The files that the client has open, by its own record.
+fn opened(service: &Service, client: usize) -> Vec<usize> {
+    let is_open = |file: &usize| service.clients[client].files[*file].record.is_open();
+    (0..service.sizes().files).filter(is_open).collect()
+}
+
+/// The line that put the client under embargo, if it is.
+fn embargo(service: &Service, book: &Book, client: usize) -> Option<u64> {
+    service.server.embargoed.contains(client).then(|| book.embargoed_since(client))
 }
 
 /// The open of which a callback is out.

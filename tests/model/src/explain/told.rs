@@ -31,6 +31,8 @@ pub enum Told {
         place: Place,
         value: u64,
         in_copy: bool,
+        /// As of a reading.
+        embargo: Option<u64>,
     },
     Flushed(Place),
     Crashed,
@@ -44,6 +46,18 @@ pub enum Told {
         opened: Vec<usize>,
         lost: Vec<LostAt>,
         granted: Vec<Granted>,
+    },
+    /// As of a restart.
+    Embargoed {
+        client: usize,
+        opened: Vec<usize>,
+        lost: Vec<LostAt>,
+        granted: Vec<Granted>,
+    },
+    Lifted {
+        client: usize,
+        /// The files that it had open, by its own record.
+        opened: Vec<usize>,
     },
     /// A first line SET that is accepted.
     Set(Sizes),
@@ -73,6 +87,9 @@ pub struct Reading {
     pub origin: Origin,
     /// The latest accepted write to the block, if it is lost.
     pub lost: Option<WrittenAt>,
+    /// If the client is under embargo: the line that put it there, 0 if an image did. Neither origin nor loss is told
+    /// then.
+    pub embargo: Option<u64>,
 }
 
 /// Which number a read gives.

@@ -31,11 +31,15 @@ impl Text<'_> {
                 self.file(*file);
                 self.mode(*mode);
             }
-            Told::Written { place, in_copy, .. } => {
+            Told::Written { place, in_copy, embargo, .. } => {
                 self.station(place.client);
                 self.words(" writes");
                 self.block(*place);
                 self.words(if *in_copy { " in its copy" } else { " at the server" });
+                if let Some(since) = embargo {
+                    self.words("; lost: it");
+                    self.is_under_embargo(*since);
+                }
             }
             Told::Flushed(place) => {
                 self.station(place.client);
@@ -50,11 +54,19 @@ impl Text<'_> {
             }
             Told::Ended => self.words("the recovery ends"),
             Told::Restarted { client, opened, lost, granted } => {
-                self.restarts(*client, opened, lost);
-                for granted in granted {
-                    self.words("; ");
-                    self.granted(granted);
-                }
+                self.station(*client);
+                self.words(" restarts");
+                self.forgotten(opened, lost, granted);
+            }
+            Told::Embargoed { client, opened, lost, granted } => {
+                self.station(*client);
+                self.words(" is put under embargo");
+                self.forgotten(opened, lost, granted);
+            }
+            Told::Lifted { client, opened } => {
+                self.station(*client);
+                self.words(" is told of its embargo");
+                self.had_open(opened);
             }
             Told::Set(Sizes { clients, files, blocks }) => {
                 self.words("the service has ");
@@ -83,6 +95,11 @@ impl Text<'_> {
                 self.number(since);
             }
             Source::Fetched | Source::Server => self.words(": from the server"),
+        }
+        if let Some(since) = reading.embargo {
+            self.words("; nothing is promised: it");
+            self.is_under_embargo(since);
+            return;
         }
         match reading.origin {
             Origin::Written(written) => {
@@ -146,10 +163,23 @@ impl Text<'_> {
         self.count(sent);
     }
 
-    fn restarts(&mut self, client: usize, opened: &[usize], lost: &[LostAt]) {
-        self.station(client);
-        self.words(" restarts; files it had open:");
+    /// What a restart and an embargo tell alike.
+    fn forgotten(&mut self, opened: &[usize], lost: &[LostAt], granted: &[Granted]) {
+        self.had_open(opened);
+        self.writes_lost(lost);
+        for granted in granted {
+            self.words("; ");
+            self.granted(granted);
+        }
+    }
+
+    fn had_open(&mut self, opened: &[usize]) {
+        self.words("; files it had open:");
         self.list(opened.iter().copied());
+    }
+
+    /// As restarts, embargoes and the picture tell them.
+    pub fn writes_lost(&mut self, lost: &[LostAt]) {
         self.words("; writes lost:");
         if lost.is_empty() {
             self.words(" none");
@@ -215,6 +245,14 @@ impl Text<'_> {
                 self.file(file);
                 self.words(" can raise it");
             }
+            Reason::UnderEmbargo { client, since } => {
+                self.station(client);
+                self.is_under_embargo(since);
+            }
+            Reason::NotUnderEmbargo { client } => {
+                self.station(client);
+                self.words(" is not under embargo");
+            }
             Reason::SettingOutOfRange => {
                 self.words("a setting lies outside its range: 1 to 8 stations, 1 to 64 files, 1 to 8 blocks");
             }
@@ -242,6 +280,17 @@ impl Text<'_> {
     pub fn recovers(&mut self, to_report: ClientSet) {
         self.words("the server recovers");
         self.still_to_report(to_report);
+    }
+
+    /// Since a line, or since the image that the run began with.
+    pub fn is_under_embargo(&mut self, since: u64) {
+        self.words(" is under embargo");
+        if since == 0 {
+            self.words(", as the image has it");
+        } else {
+            self.words(" since line ");
+            self.number(since);
+        }
     }
 
     fn waits(&mut self, Opening { client, file, mode }: &Opening) {

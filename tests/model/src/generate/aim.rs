@@ -19,6 +19,11 @@ pub enum Aim {
     Crash,
     Report,
     End,
+    Restart,
+    Embargo,
+    Lift,
+    /// A read or a write of a client under embargo.
+    AccessUnderEmbargo,
     Refused(Refusal),
 }
 
@@ -116,6 +121,43 @@ const RECOVERING: [(usize, Aim); 8] = [
 const ALL_REPORTED: [(usize, Aim); 4] =
     [(60, Aim::End), (4, Aim::Crash), (20, Aim::Refused(Refusal::Recovering)), (6, Aim::Anything)];
 
+/// While a callback is out, where clients are put under embargo.
+const CALLED: [(usize, Aim); 2] = [(20, Aim::Embargo), (2, Aim::Refused(Refusal::NoCallback))];
+
+/// With a client under embargo.
+const UNDER_EMBARGO: [(usize, Aim); 9] = [
+    (40, Aim::AccessUnderEmbargo),
+    (24, Aim::Refused(Refusal::UnderEmbargo)),
+    (8, Aim::Lift),
+    (4, Aim::Restart),
+    (5, Aim::Crash),
+    (4, Aim::Refused(Refusal::NotUnderEmbargo)),
+    (4, Aim::Embargo),
+    (4, Aim::Access),
+    (2, Aim::Refused(Refusal::NoSuchBlock)),
+];
+
+/// With half of the clients under embargo, or more.
+const MANY_UNDER_EMBARGO: [(usize, Aim); 4] =
+    [(30, Aim::Lift), (8, Aim::Restart), (10, Aim::AccessUnderEmbargo), (6, Aim::Refused(Refusal::UnderEmbargo))];
+
+/// With nobody under embargo and no callback out.
+const NO_EMBARGO: [(usize, Aim); 3] = [(3, Aim::Refused(Refusal::NotUnderEmbargo)), (2, Aim::Embargo), (20, Aim::Wait)];
+
+/// What is aimed at now and then where clients are put under embargo.
+pub fn embargo_aims_for(stage: &Stage) -> &'static Aims {
+    let embargoed = stage.clients_in_scope().and(stage.service.server.embargoed);
+    if 2 * embargoed.members().count() >= stage.clients_in_scope().members().count() {
+        &MANY_UNDER_EMBARGO
+    } else if stage.any_open_waits() {
+        &CALLED
+    } else if !embargoed.is_empty() {
+        &UNDER_EMBARGO
+    } else {
+        &NO_EMBARGO
+    }
+}
+
 /// What is aimed at, by what goes on at the server.
 pub fn aims_for(stage: &Stage, turns: bool) -> &'static Aims {
     let (server, sizes) = (&stage.service.server, stage.sizes());
@@ -173,6 +215,11 @@ impl Stage {
             Aim::Crash => Step::Crash,
             Aim::Report => self.step(StepKind::Report),
             Aim::End => Step::End,
+            Aim::Restart => self.restart(),
+            Aim::Embargo => self.embargo(),
+            Aim::Lift | Aim::Refused(Refusal::NotUnderEmbargo) => self.lift(),
+            Aim::AccessUnderEmbargo => self.access_under_embargo(),
+            Aim::Refused(Refusal::UnderEmbargo) => self.step_under_embargo(),
             Aim::Refused(Refusal::NoSuchClient | Refusal::NoSuchFile | Refusal::NoSuchBlock) => self.stray_step(),
             Aim::Refused(_) => self.any_step(),
         }

@@ -4,7 +4,8 @@
 use std::collections::VecDeque;
 
 use super::Author;
-use super::aim::{Aims, aims_for};
+use super::aim::{Aims, aims_for, embargo_aims_for};
+use super::embargo::embargo_scene;
 use super::restart::restart_scene;
 use super::rng::Rng;
 use super::scene::scene;
@@ -21,6 +22,9 @@ const SCENE: usize = 40;
 const RESTART: usize = 40;
 const RESTART_HALFWAY: usize = 12;
 
+/// Where clients are put under embargo, one step in so many is about that.
+const EMBARGO: usize = 5;
+
 pub struct Guided {
     stage: Stage,
     /// Whether clients mostly take turns.
@@ -30,6 +34,8 @@ pub struct Guided {
     scene: VecDeque<Step>,
     /// Whether clients restart.
     restarts: bool,
+    /// Whether they are put under embargo.
+    embargoes: bool,
 }
 
 impl Guided {
@@ -54,11 +60,17 @@ impl Guided {
     }
 
     fn on(stage: Stage, seed: u64) -> Self {
-        Guided { stage, turns: seed.is_multiple_of(2), tide: None, scene: VecDeque::new(), restarts: false }
+        let turns = seed.is_multiple_of(2);
+        Guided { stage, turns, tide: None, scene: VecDeque::new(), restarts: false, embargoes: false }
     }
 
     pub fn with_restarts(self) -> Self {
         Guided { restarts: true, ..self }
+    }
+
+    /// And with restarts.
+    pub fn with_embargoes(self) -> Self {
+        Guided { restarts: true, embargoes: true, ..self }
     }
 
     /// The next step, not yet taken.
@@ -71,13 +83,19 @@ impl Guided {
         }
         let at_rest = !self.stage.service.server.recovering && !self.stage.any_open_waits();
         if at_rest && self.stage.rng.one_in(SCENE) {
-            let steps = if self.restarts && self.stage.rng.one_in(2) {
+            let steps = if self.embargoes && !self.stage.rng.one_in(3) {
+                embargo_scene(&mut self.stage)
+            } else if self.restarts && self.stage.rng.one_in(2) {
                 restart_scene(&mut self.stage)
             } else {
                 scene(&mut self.stage)
             };
             self.scene.extend(steps);
             return self.choose();
+        }
+        if self.embargoes && self.stage.rng.one_in(EMBARGO) {
+            let aim = self.stage.rng.weighted(embargo_aims_for(&self.stage));
+            return self.stage.aimed(aim);
         }
         if self.restarts && self.stage.rng.one_in(if at_rest { RESTART } else { RESTART_HALFWAY }) {
             return self.stage.restart();

@@ -141,6 +141,11 @@ impl Malformed {
         self
     }
 
+    pub fn with_embargoes(mut self) -> Self {
+        self.steps = self.steps.with_embargoes();
+        self
+    }
+
     fn spoil(&mut self, offset: usize, line: &mut Vec<u8>) {
         match self.rng.below(400) {
             0 => self.lengthen(line),

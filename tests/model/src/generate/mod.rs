@@ -2,6 +2,7 @@
 
 mod aim;
 mod closing;
+mod embargo;
 mod guided;
 mod malformed;
 mod restart;
@@ -24,8 +25,8 @@ use settings::{SettingsLines, WithSettings};
 
 use crate::{Service, Settings};
 
-pub use closing::closing_time;
-pub use resumed::{restarted_run, resumed_run};
+pub use closing::{closing_time, leaving_embargoes};
+pub use resumed::{embargoed_run, restarted_run, resumed_run};
 pub use rng::Rng;
 
 #[derive(Clone, Copy, PartialEq, Eq, Debug)]
@@ -38,13 +39,15 @@ pub enum FileKind {
     Malformed,
     /// All desks at work: mostly reads and writes, prompt replies, a crash now and then.
     Session,
-    /// Hot, wide and malformed files in which clients restart. The other kinds have no restart.
+    /// Hot, wide and malformed files in which clients restart. The kinds above have no restart.
     Restart,
+    /// The same with clients under embargo too. The kinds above have no embargo.
+    Embargo,
 }
 
 impl FileKind {
-    pub const ALL: [FileKind; 5] =
-        [FileKind::Hot, FileKind::Wide, FileKind::Malformed, FileKind::Session, FileKind::Restart];
+    pub const ALL: [FileKind; 6] =
+        [FileKind::Hot, FileKind::Wide, FileKind::Malformed, FileKind::Session, FileKind::Restart, FileKind::Embargo];
 
     pub fn name(self) -> &'static str {
         match self {
@@ -53,6 +56,7 @@ impl FileKind {
             FileKind::Malformed => "malformed",
             FileKind::Session => "session",
             FileKind::Restart => "restart",
+            FileKind::Embargo => "embargo",
         }
     }
 
@@ -81,6 +85,7 @@ pub fn generate(kind: FileKind, seed: u64, lines: usize, output: &mut impl Write
         FileKind::Malformed => Box::new(Malformed::new(seed, settings)),
         FileKind::Session => Box::new(Session::new(seed, settings)),
         FileKind::Restart => restarting(seed, settings),
+        FileKind::Embargo => embargoing(seed, settings),
     };
     match settings_lines {
         Some(settings_lines) => write_lines(&mut WithSettings::new(settings_lines, author), lines, output),
@@ -94,6 +99,15 @@ fn restarting(seed: u64, settings: Settings) -> Box<dyn Author> {
         0 => Box::new(Guided::hot(seed, settings).with_restarts()),
         1 | 2 => Box::new(Guided::wide(seed, settings).with_restarts()),
         _ => Box::new(Malformed::new(seed, settings).with_restarts()),
+    }
+}
+
+/// The same with embargoes.
+fn embargoing(seed: u64, settings: Settings) -> Box<dyn Author> {
+    match seed % 4 {
+        0 => Box::new(Guided::hot(seed, settings).with_embargoes()),
+        1 | 2 => Box::new(Guided::wide(seed, settings).with_embargoes()),
+        _ => Box::new(Malformed::new(seed, settings).with_embargoes()),
     }
 }
 
@@ -129,6 +143,14 @@ pub fn step_file(kind: FileKind, seed: u64, lines: usize) -> Vec<u8> {
 pub fn restarts_from(service: Service, seed: u64, lines: usize) -> Vec<u8> {
     let mut bytes = Vec::new();
     write_lines(&mut Guided::from(service, seed), lines, &mut bytes).expect("a vector takes every byte");
+    bytes
+}
+
+/// The same with embargoes.
+pub fn embargoes_from(service: Service, seed: u64, lines: usize) -> Vec<u8> {
+    let mut bytes = Vec::new();
+    let mut author = Guided::from(service, seed).with_embargoes();
+    write_lines(&mut author, lines, &mut bytes).expect("a vector takes every byte");
     bytes
 }
 

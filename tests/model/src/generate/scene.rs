@@ -15,7 +15,8 @@ const CUT: usize = 4;
 /// A file with more opens than that is not closed for a scene.
 const MOST_OPENS: usize = 8;
 
-/// The steps of some scene without a restart, for a service that neither recovers nor has an open that waits.
+/// The steps of some scene without a restart or an embargo, for a service that neither recovers nor has an open that
+/// waits.
 pub fn scene(stage: &mut Stage) -> Vec<Step> {
     let cast = Cast::of(stage);
     let before = put_to_rest(stage, cast.file);
@@ -38,7 +39,8 @@ pub fn cut(stage: &mut Stage, steps: &mut Vec<Step>) {
     }
 }
 
-/// Closes and flushes after which nobody has the file open and nothing of it is dirty; none if it has too many opens.
+/// Closes and flushes after which nobody has the file open and nothing of it is dirty; none if it has too many opens. A
+/// client under embargo is told of it instead.
 pub fn put_to_rest(stage: &Stage, file: u64) -> Option<Vec<Step>> {
     let sizes = stage.sizes();
     let own = |client: usize| &stage.service.clients[client].files[file as usize];
@@ -47,7 +49,13 @@ pub fn put_to_rest(stage: &Stage, file: u64) -> Option<Vec<Step>> {
         return None;
     }
     let steps = (0..sizes.clients).flat_map(|client| {
-        let (record, dirty, client) = (own(client).record, own(client).copies.dirty, client as u64);
+        let (record, dirty, embargoed) =
+            (own(client).record, own(client).copies.dirty, stage.service.server.embargoed.contains(client));
+        let has_some = record.is_open() || own(client).copies.any_dirty(sizes);
+        let client = client as u64;
+        if embargoed {
+            return if has_some { vec![Step::Lift { client }] } else { vec![] };
+        }
         let close = |mode| vec![Step::Close { mode, client, file }; record.count(mode).into()];
         let dirty_blocks = (0..sizes.blocks).filter(|&block| dirty[block]);
         let flushes = dirty_blocks.map(|block| Step::Flush { client, file, block: block as u64 }).collect();

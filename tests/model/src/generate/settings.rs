@@ -106,8 +106,22 @@ impl SettingsLines {
             Step::Write { client: there, file: 0, block, value },
             Step::Flush { client: there, file: 0, block },
         ];
-        let restarts = self.kind == FileKind::Restart && self.rng.one_in(4);
-        let step = if restarts { Step::Restart { client } } else { *self.rng.pick(&steps) };
+        let more: &[Step] = match self.kind {
+            FileKind::Restart => &[Step::Restart { client }],
+            FileKind::Embargo => &[
+                Step::Restart { client },
+                Step::Embargo { client, file: 0 },
+                Step::Embargo { client: there, file },
+                Step::Lift { client },
+            ],
+            _ => &[],
+        };
+        let step = match more {
+            [] => *self.rng.pick(&steps),
+            _ if !self.rng.one_in(4) => *self.rng.pick(&steps),
+            [one] => *one,
+            _ => *self.rng.pick(more),
+        };
         let mut line = Vec::new();
         write_step(&step, &mut line);
         line
@@ -131,7 +145,7 @@ fn in_range(rng: &mut Rng, kind: FileKind) -> [u64; 3] {
     let any_file = 1 + rng.below(FILES);
     let files = match kind {
         FileKind::Hot | FileKind::Malformed => *rng.pick(&[1, 1, 2, 2, 3, FILES]),
-        FileKind::Restart => *rng.pick(&[1, 2, 3, any_file, FILES, FILES]),
+        FileKind::Restart | FileKind::Embargo => *rng.pick(&[1, 2, 3, any_file, FILES, FILES]),
         FileKind::Wide | FileKind::Session => *rng.pick(&[any_file, any_file, any_file, FILES]),
     };
     let any_block = 1 + rng.below(BLOCKS);

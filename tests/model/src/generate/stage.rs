@@ -50,11 +50,14 @@ pub struct Stage {
     latest: (u64, u64),
     /// The client that restarted last.
     restarted: Option<u64>,
+    /// The client of every step, if one is chosen.
+    only: Option<u64>,
 }
 
 impl Stage {
     pub fn new(rng: Rng, settings: Settings, scope: Scope) -> Self {
-        Stage { rng, service: Service::fresh_of(settings), scope, stray: 200, latest: (0, 0), restarted: None }
+        let service = Service::fresh_of(settings);
+        Stage { rng, service, scope, stray: 200, latest: (0, 0), restarted: None, only: None }
     }
 
     pub fn sizes(&self) -> Sizes {
@@ -108,6 +111,61 @@ impl Stage {
         Step::Restart { client }
     }
 
+    pub fn clients_in_scope(&self) -> ClientSet {
+        ClientSet::first(self.scope.clients)
+    }
+
+    /// An embargo: mostly of a client that is called, and on a file on which it is.
+    pub fn embargo(&mut self) -> Step {
+        let sizes = self.sizes();
+        let entries = &self.service.server.entries[..self.scope.files];
+        let waits = entries.iter().enumerate().filter_map(|(file, entry)| Some((file, entry.waiting.read(sizes)?)));
+        let called: Vec<(usize, usize)> = waits
+            .flat_map(|(file, open)| open.callbacks.clients().members().map(move |client| (client, file)))
+            .collect();
+        if called.is_empty() || self.rng.one_in(12) {
+            return Step::Embargo { client: self.client(), file: self.file() };
+        }
+        let (client, file) = *self.rng.pick(&called);
+        Step::Embargo { client: client as u64, file: file as u64 }
+    }
+
+    /// A lift, mostly of a client under embargo.
+    pub fn lift(&mut self) -> Step {
+        let client = if self.rng.one_in(4) { None } else { self.some_embargoed() };
+        Step::Lift { client: client.unwrap_or_else(|| self.client()) }
+    }
+
+    fn some_embargoed(&mut self) -> Option<u64> {
+        let embargoed: Vec<usize> = self.service.server.embargoed.and(self.sizes().client_set()).members().collect();
+        (!embargoed.is_empty()).then(|| *self.rng.pick(&embargoed) as u64)
+    }
+
+    /// Any step but a crash of a client under embargo; of any, if none is.
+    pub fn step_under_embargo(&mut self) -> Step {
+        self.only = self.some_embargoed();
+        let step = self.any_step();
+        self.only = None;
+        step
+    }
+
+    /// A read or a write of a client under embargo, mostly where it has the file open.
+    pub fn access_under_embargo(&mut self) -> Step {
+        let Some(client) = self.some_embargoed() else { return self.step(StepKind::Read) };
+        let files = &self.service.clients[client as usize].files[..self.scope.files];
+        let open = files.iter().enumerate().filter(|(_, file)| file.record.is_open());
+        let open: Vec<(usize, bool)> = open.map(|(file, own)| (file, own.record.writers > 0)).collect();
+        if open.is_empty() || self.rng.one_in(8) {
+            return self.step_under_embargo();
+        }
+        let (file, writes) = *self.rng.pick(&open);
+        let (file, block) = (file as u64, self.block());
+        if writes && self.rng.one_in(2) {
+            return Step::Write { client, file, block, value: self.value() };
+        }
+        Step::Read { client, file, block }
+    }
+
     pub fn step(&mut self, kind: StepKind) -> Step {
         match kind {
             StepKind::Open => Step::Open { mode: self.mode(), client: self.client(), file: self.file() },
@@ -121,7 +179,7 @@ impl Stage {
             StepKind::Flush => Step::Flush { client: self.client(), file: self.file(), block: self.block() },
             StepKind::Report => {
                 let clients = self.sizes().clients;
-                Step::Report { client: self.number(clients, clients) }
+                Step::Report { client: self.only.unwrap_or_else(|| self.number(clients, clients)) }
             }
             StepKind::End => Step::End,
         }
@@ -161,6 +219,9 @@ impl Stage {
     }
 
     fn client(&mut self) -> u64 {
+        if let Some(client) = self.only {
+            return client;
+        }
         if self.rng.one_in(3) { self.latest.0 } else { self.number(self.scope.clients, self.sizes().clients) }
     }
 

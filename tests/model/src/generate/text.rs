@@ -16,6 +16,8 @@ pub fn write_step(step: &Step, text: &mut Vec<u8>) {
         Step::Report { client } => write!(text, "RP {client}"),
         Step::End => write!(text, "EN"),
         Step::Restart { client } => write!(text, "BT {client}"),
+        Step::Embargo { client, file } => write!(text, "EM {client} {file}"),
+        Step::Lift { client } => write!(text, "LF {client}"),
     }
     .expect("a vector takes every byte");
 }

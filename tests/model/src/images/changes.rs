@@ -8,7 +8,7 @@ use crate::{ENTRY_BYTES, Sizes};
 type Change = fn(&mut Rng, Sizes, &mut Sections);
 
 /// Changes of fields stand twice, so that they are as frequent as those of whole entries.
-const CHANGES: [Change; 19] = [
+const CHANGES: [Change; 25] = [
     |rng, _, sections| on_two_entries(rng, sections, |entries, one, other| entries.swap(one, other)),
     |rng, _, sections| on_two_entries(rng, sections, |entries, one, other| entries[one] = entries[other].clone()),
     |rng, _, sections| on_two_entries(rng, sections, |entries, one, other| entries.insert(one, entries[other].clone())),
@@ -16,18 +16,24 @@ const CHANGES: [Change; 19] = [
     |rng, _, sections| on_two_entries(rng, sections, |entries, one, _| drop(entries.remove(one))),
     |rng, _, sections| on_two_entries(rng, sections, |entries, _, _| entries.reverse()),
     |_, _, sections| sections.entries[1].sort(),
-    |rng, _, sections| sections.entries[rng.below(3)].clear(),
+    |rng, _, sections| sections.entries[rng.below(4)].clear(),
     |_, _, sections| sections.entries.swap(0, 1),
     |_, _, sections| sections.entries.swap(1, 2),
+    |_, _, sections| sections.entries.swap(2, 3),
+    |_, _, sections| sections.entries[3].reverse(),
     |rng, sizes, sections| add_file(rng, sizes, sections),
     |rng, sizes, sections| add_open(rng, sizes, sections),
     |rng, sizes, sections| add_block(rng, sizes, sections),
+    |rng, sizes, sections| add_embargo(rng, sizes, sections),
+    |rng, sizes, sections| add_embargo(rng, sizes, sections),
     |rng, sizes, sections| change_file(rng, sizes, sections),
     |rng, sizes, sections| change_file(rng, sizes, sections),
     |rng, sizes, sections| change_open(rng, sizes, sections),
     |rng, sizes, sections| change_open(rng, sizes, sections),
     |rng, sizes, sections| change_block(rng, sizes, sections),
     |rng, sizes, sections| change_block(rng, sizes, sections),
+    |rng, sizes, sections| change_embargo(rng, sizes, sections),
+    |rng, sizes, sections| change_embargo(rng, sizes, sections),
 ];
 
 /// The bytes with one change, sometimes two.
@@ -80,13 +86,18 @@ fn add_file(rng: &mut Rng, sizes: Sizes, sections: &mut Sections) {
 fn add_open(rng: &mut Rng, sizes: Sizes, sections: &mut Sections) {
     let (client, file) = (number(rng, sizes.clients), number(rng, sizes.files));
     let entry = vec![client, file, count(rng), count(rng), permission(rng)];
-    add(rng, &mut sections.entries[1], entry, |entry| (entry[1], entry[0]));
+    add(rng, &mut sections.entries[1], entry, |entry| (entry.get(1).copied(), entry[0]));
 }
 
 fn add_block(rng: &mut Rng, sizes: Sizes, sections: &mut Sections) {
     let place = [number(rng, sizes.files), number(rng, sizes.blocks)];
     let entry = [&place[..], &value(rng).to_le_bytes()].concat();
-    add(rng, &mut sections.entries[2], entry, |entry| (entry[0], entry[1]));
+    add(rng, &mut sections.entries[2], entry, |entry| (entry[0], entry.get(1).copied()));
+}
+
+fn add_embargo(rng: &mut Rng, sizes: Sizes, sections: &mut Sections) {
+    let entry = vec![number(rng, sizes.clients)];
+    add(rng, &mut sections.entries[3], entry, |entry| entry[0]);
 }
 
 fn some_entry<'a>(rng: &mut Rng, sections: &'a mut Sections, section: usize) -> Option<&'a mut Vec<u8>> {
@@ -121,6 +132,12 @@ fn change_block(rng: &mut Rng, sizes: Sizes, sections: &mut Sections) {
         0 => entry[0] = number(rng, sizes.files),
         1 => entry[1] = number(rng, sizes.blocks),
         _ => entry[2..].copy_from_slice(&value(rng).to_le_bytes()),
+    }
+}
+
+fn change_embargo(rng: &mut Rng, sizes: Sizes, sections: &mut Sections) {
+    if let Some(entry) = some_entry(rng, sections, 3) {
+        entry[0] = number(rng, sizes.clients);
     }
 }
 

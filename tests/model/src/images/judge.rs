@@ -65,21 +65,23 @@ fn steps_before(before: u8) -> &'static [Step] {
 }
 
 pub type ReadImage<'a> = dyn Fn(&mut Service, &[u8]) -> Result<(), Refusal> + 'a;
+pub type WriteImage<'a> = dyn Fn(&Service) -> Result<Vec<u8>, Refusal> + 'a;
 
 pub struct Judge<'a> {
     read_image: &'a ReadImage<'a>,
+    write_image: &'a WriteImage<'a>,
     sizes: Option<[u8; 3]>,
     service: Service,
 }
 
 impl<'a> Judge<'a> {
-    /// A judge that reads images in this way.
-    pub fn new(read_image: &'a ReadImage<'a>) -> Self {
-        Judge { read_image, sizes: None, service: Service::fresh() }
+    /// A judge that reads and writes images in this way.
+    pub fn new(read_image: &'a ReadImage<'a>, write_image: &'a WriteImage<'a>) -> Self {
+        Judge { read_image, write_image, sizes: None, service: Service::fresh() }
     }
 
     pub fn model() -> Self {
-        Judge::new(&|service, bytes| service.read_image(bytes))
+        Judge::new(&|service, bytes| service.read_image(bytes), &written)
     }
 
     /// The output of one run.
@@ -122,7 +124,7 @@ impl<'a> Judge<'a> {
 
     /// The length and the image, or 0 and why there is none.
     fn image(&self) -> Vec<u8> {
-        match written(&self.service) {
+        match (self.write_image)(&self.service) {
             Ok(image) => [&(image.len() as u16).to_le_bytes()[..], &image].concat(),
             Err(refusal) => vec![0, 0, refusal.number() as u8],
         }

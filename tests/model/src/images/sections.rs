@@ -2,14 +2,15 @@
 //! service that has these entries must be the same bytes.
 
 use crate::{
-    COUNT_BYTES, ClientField, ENTRY_BYTES, LONGEST_IMAGE, Record, Refusal, Service, Settings, Sizes, VersionField,
+    CLIENTS, COUNT_BYTES, ClientField, ENTRY_BYTES, LONGEST_IMAGE, Record, Refusal, Service, Settings, Sizes,
+    VersionField,
 };
 
-/// The bytes of each entry, in the three sections.
+/// The bytes of each entry, in the four sections.
 #[derive(Clone, Default)]
 pub struct Sections {
     pub front: Vec<u8>,
-    pub entries: [Vec<Vec<u8>>; 3],
+    pub entries: [Vec<Vec<u8>>; 4],
     /// What follows the last section.
     pub rest: Vec<u8>,
     /// Whether the bytes end before the counts do.
@@ -59,7 +60,7 @@ impl Sections {
     }
 
     /// Where the counts stand in the bytes that are put together.
-    pub fn count_places(&self) -> [usize; 3] {
+    pub fn count_places(&self) -> [usize; 4] {
         let mut at = self.front.len();
         self.entries.each_ref().map(|entries| {
             let place = at;
@@ -83,6 +84,11 @@ impl Sections {
         self.entries[2].iter().map(|entry| (entry[0], entry[1], low_first(&entry[2..])))
     }
 
+    /// The clients of the fourth.
+    pub fn embargoes(&self) -> impl Iterator<Item = u8> + Clone {
+        self.entries[3].iter().map(|entry| entry[0])
+    }
+
     /// A service of these sizes that has the entries, as far as there is a place for them.
     pub fn service(&self, sizes: Sizes) -> Service {
         let [clients, files, blocks] = [sizes.clients, sizes.files, sizes.blocks].map(|size| size as u64);
@@ -104,6 +110,9 @@ impl Sections {
             if let Some(place) = blocks.and_then(|blocks| blocks.get_mut(usize::from(block))) {
                 *place = value;
             }
+        }
+        for client in self.embargoes().map(usize::from).filter(|&client| client < CLIENTS) {
+            service.server.put_under_embargo(client);
         }
         service
     }

@@ -3,7 +3,8 @@
 
 use crate::generate::Rng;
 use crate::{
-    BLOCKS, CLIENTS, Callbacks, ClientField, Entry, FILES, Mode, Record, Service, Settings, VersionField, WaitField,
+    BLOCKS, CLIENTS, Callbacks, ClientField, ClientSet, Entry, FILES, Mode, Record, Service, Settings, VersionField,
+    WaitField,
 };
 
 /// Small ones and large ones, in range.
@@ -31,6 +32,7 @@ pub fn hand_made(rng: &mut Rng, settings: Settings) -> Service {
     // An image seldom lists nothing of a small server.
     let last = service.sizes().files - 1;
     make(rng, &mut service.server.entries[last]);
+    service.server.embargoed = embargoes(rng);
     service
 }
 
@@ -44,7 +46,15 @@ pub fn full(rng: &mut Rng) -> Service {
         entry.records.iter_mut().for_each(|record| record.readers = record.readers.max(1));
         entry.blocks.iter_mut().for_each(|value| *value = (*value).max(1));
     }
+    service.server.embargoed = ClientSet::ALL;
     service
+}
+
+/// None, one, some or all.
+fn embargoes(rng: &mut Rng) -> ClientSet {
+    let (one, any) = (rng.below(CLIENTS), rng.draw());
+    let some = ClientSet::of(|client| any >> client & 1 != 0);
+    *rng.pick(&[ClientSet::NONE, ClientSet::NONE, ClientSet::only(one), some, some, ClientSet::ALL])
 }
 
 fn make(rng: &mut Rng, entry: &mut Entry) {

@@ -2,11 +2,11 @@
 
 use super::changes::{changed, miscounted};
 use super::judge::{LONGEST_STRING, Request};
-use super::sections::written;
+use super::sections::{Sections, written};
 use super::servers::{any_sizes, full, hand_made};
 use crate::check::Witness;
 use crate::generate::{FileKind, Rng, step_file};
-use crate::{Document01, Outcome, Service, Settings, Sizes, Step, replay};
+use crate::{COUNT_BYTES, Document01, Outcome, Service, Settings, Sizes, Step, replay};
 
 #[derive(Clone, Copy, PartialEq, Eq, Debug)]
 pub enum Sort {
@@ -89,7 +89,7 @@ impl Witness for LatestImage {
 }
 
 fn of_session(rng: &mut Rng) -> (Sort, Settings, Vec<u8>) {
-    let kind = *rng.pick(&[FileKind::Hot, FileKind::Hot, FileKind::Wide, FileKind::Session]);
+    let kind = *rng.pick(&[FileKind::Hot, FileKind::Hot, FileKind::Wide, FileKind::Session, FileKind::Embargo]);
     let lines = *rng.pick(&[10, 30, 100, 400]);
     let mut latest = LatestImage::default();
     replay::<Document01>(&step_file(kind, rng.draw(), lines), &mut latest);
@@ -190,6 +190,11 @@ impl Group {
 
     fn lengths(&mut self) {
         for length in self.places(self.image.len()) {
+            self.add(Sort::Length, self.image[..length].to_vec());
+        }
+        // Without the last section, and with its count alone.
+        let [.., last] = Sections::of(&self.image).count_places();
+        for length in [last, last + COUNT_BYTES] {
             self.add(Sort::Length, self.image[..length].to_vec());
         }
         let more = self.rng.draw().to_le_bytes();

@@ -116,6 +116,12 @@ impl HandMade {
         self
     }
 
+    /// With these clients under embargo.
+    pub fn embargoed(mut self, embargoed: ClientSet) -> Self {
+        self.service.server.embargoed = embargoed;
+        self
+    }
+
     /// Takes a step that is accepted.
     pub fn takes(mut self, step: Step) -> Self {
         let outcome = self.service.take::<Document01>(&step);

@@ -3,6 +3,7 @@
 
 mod close;
 mod copies;
+mod embargo;
 mod ends;
 mod fields;
 mod flush;

@@ -23,6 +23,8 @@ pub fn accept(service: &mut Service, step: &Step) -> Outcome {
         Step::Report { client } => report(service, client as usize),
         Step::End => end(service),
         Step::Restart { client } => restart(service, client as usize),
+        Step::Embargo { client, .. } => embargo(service, client as usize),
+        Step::Lift { client } => lift(service, client as usize),
     }
 }
 
@@ -85,18 +87,45 @@ fn end(service: &mut Service) -> Outcome {
     Outcome::Done
 }
 
-/// "BT .. prints K, then each granted open as after A, by ascending file. During recovery the restart stands as an empty
-/// report and supersedes one already given" (Wish 8).
+/// "BT .. prints K, then each granted open as after A, by ascending file. During recovery the restart stands as an
+/// empty report and supersedes one already given" (Wish 8). "A restart lifts too" (Wish 9).
 fn restart(service: &mut Service, client: usize) -> Outcome {
     let mut granted = Vec::new();
     for file in 0..in_force(service).files {
         let brought = File::of(service, file as u64).restart(client);
         granted.extend(brought.map(|(opener, grant)| GrantedOpen { opener, file, grant }));
     }
+    embargo_ends(service, client);
+    Outcome::Restarted { granted }
+}
+
+/// "During recovery .. an empty report."
+fn embargo_ends(service: &mut Service, client: usize) {
     if service.server.recovering {
         service.server.reported = service.server.reported.with(client);
     }
-    Outcome::Restarted { granted }
+    service.server.embargoed = service.server.embargoed.without(client);
+}
+
+/// "The server forgets it as in Wish 8, but the station doesn't know. .. EM .. prints A 0, then grants as BT does"
+/// (Wish 9).
+fn embargo(service: &mut Service, client: usize) -> Outcome {
+    let mut granted = Vec::new();
+    for file in 0..in_force(service).files {
+        let brought = File::of(service, file as u64).forget(client);
+        granted.extend(brought.map(|(opener, grant)| GrantedOpen { opener, file, grant }));
+    }
+    service.server.embargoed = service.server.embargoed.with(client);
+    Outcome::Embargoed { granted }
+}
+
+/// "Telling it drops all it holds, counts too. .. A lift or restart during recovery is an empty report."
+fn lift(service: &mut Service, client: usize) -> Outcome {
+    for file in 0..in_force(service).files {
+        File::of(service, file as u64).drop_all(client);
+    }
+    embargo_ends(service, client);
+    Outcome::Done
 }
 
 /// "A station is open on a file when its readers or writers are above 0."
@@ -145,9 +174,9 @@ fn calls(clients: usize, entry: &Entry, opener: usize, mode: Mode) -> [u8; CLIEN
     })
 }
 
-/// "Save where permission is kept as above, the opener may cache unless some other station is open with writers, or this
-/// is a write open with some other station open, or some station open before the grant, the opener included, may not
-/// cache."
+/// "Save where permission is kept as above, the opener may cache unless some other station is open with writers, or
+/// this is a write open with some other station open, or some station open before the grant, the opener included, may
+/// not cache."
 fn permission(clients: usize, entry: &Entry, opener: usize, mode: Mode) -> bool {
     let shuts_out = |client: usize| {
         let record = &entry.records[client];
@@ -158,8 +187,8 @@ fn permission(clients: usize, entry: &Entry, opener: usize, mode: Mode) -> bool 
     if keeps_permission(own, mode) { own.may_cache } else { !(0..clients).any(shuts_out) }
 }
 
-/// "Close in a mode lowers that count by 1", and "a count of 0 stays 0". "A final close takes its permission away." Gives
-/// whether it was "a close of the last writer count with permission".
+/// "Close in a mode lowers that count by 1", and "a count of 0 stays 0". "A final close takes its permission away."
+/// Gives whether it was "a close of the last writer count with permission".
 fn lower(record: &mut Record, mode: Mode) -> bool {
     let last_cached_writer = mode == Mode::Write && record.writers == 1 && record.may_cache;
     let count = if mode == Mode::Read { &mut record.readers } else { &mut record.writers };
@@ -287,13 +316,22 @@ impl<'a> File<'a> {
     /// "Its counts, permissions, marks, copies and any waiting open of its own go at both ends, with the calls of that
     /// open. Then a call on it counts as replied to with no blocks, which may grant opens of others" (Wish 8).
     fn restart(&mut self, client: usize) -> Option<(usize, Grant)> {
-        let clients = self.sizes.clients;
+        self.drop_all(client);
+        self.forget(client)
+    }
+
+    /// The client's end.
+    fn drop_all(&mut self, client: usize) {
         let own = &mut self.clients[client];
         drop_blocks(self.sizes.blocks, own);
         (own.cached_version, own.last_writer_flag) = (0, false);
-        for record in [&mut own.record, &mut self.entry.records[client]] {
-            *record = Record { readers: 0, writers: 0, may_cache: false };
-        }
+        own.record = Record { readers: 0, writers: 0, may_cache: false };
+    }
+
+    /// The server's end.
+    fn forget(&mut self, client: usize) -> Option<(usize, Grant)> {
+        let clients = self.sizes.clients;
+        self.entry.records[client] = Record { readers: 0, writers: 0, may_cache: false };
         if last_writer(clients, self.entry) == Some(client) {
             self.entry.last_writer = ClientField::NONE;
         }
@@ -311,8 +349,8 @@ impl<'a> File<'a> {
         self.grant_after_the_last_call()
     }
 
-    /// "A station that may cache gives the held block, or fetches and holds it. Without permission the server's block is
-    /// given and not held."
+    /// "A station that may cache gives the held block, or fetches and holds it. Without permission the server's block
+    /// is given and not held."
     fn read(&mut self, client: usize, block: usize) -> Outcome {
         let (own, server) = (&mut self.clients[client], self.entry.blocks[block]);
         if own.record.may_cache && !own.copies.held[block] {

@@ -45,7 +45,9 @@ impl Taken {
         match (&self.outcome, self.place()) {
             (Outcome::Granted(_), Some(place)) => vec![place],
             (Outcome::Replied { granted: Some((opener, _)), .. }, Some((_, file))) => vec![(*opener, file)],
-            (Outcome::Restarted { granted }, _) => granted.iter().map(|open| (open.opener, open.file)).collect(),
+            (Outcome::Restarted { granted } | Outcome::Embargoed { granted }, _) => {
+                granted.iter().map(|open| (open.opener, open.file)).collect()
+            }
             _ => vec![],
         }
     }
@@ -58,9 +60,26 @@ impl Taken {
         }
     }
 
+    /// The client that is put under embargo.
+    fn put_aside(&self) -> Option<usize> {
+        match self.step {
+            Step::Embargo { client, .. } if self.refusal().is_none() => Some(client as usize),
+            _ => None,
+        }
+    }
+
+    /// The client that is told of its embargo.
+    fn told(&self) -> Option<usize> {
+        match self.step {
+            Step::Lift { client } if self.refusal().is_none() => Some(client as usize),
+            _ => None,
+        }
+    }
+
     fn touches(&self, client: usize, file: usize) -> bool {
-        let restarted = self.restarted() == Some(client) && file < self.sizes().files;
-        restarted || self.place() == Some((client, file)) || self.granted().contains(&(client, file))
+        let emptied = self.restarted().or(self.told()) == Some(client) && file < self.sizes().files;
+        let named = self.place() == Some((client, file)) && self.put_aside().is_none();
+        emptied || named || self.granted().contains(&(client, file))
     }
 }
 
@@ -71,7 +90,7 @@ pub fn broken(taken: &Taken) -> Option<&'static str> {
 
 type Promise = fn(&Taken) -> bool;
 
-const PROMISES: [(&str, Promise); 15] = [
+const PROMISES: [(&str, Promise); 20] = [
     ("refusals are tested in number order, lowest first", |taken| {
         taken.refusal() == refusals::lowest(&taken.before, &taken.step)
     }),
@@ -88,7 +107,45 @@ const PROMISES: [(&str, Promise); 15] = [
         !whole_table || taken.after.clients == taken.before.clients
     }),
     ("a client that has restarted has nothing left, at both ends", |taken| {
-        taken.restarted().is_none_or(|client| has_nothing_left(taken, client))
+        let left = |client| has_nothing_left(taken, client) && has_nothing_at_the_server(taken, client);
+        taken.restarted().is_none_or(left)
+    }),
+    ("a client that is put under embargo has nothing left at the server, and keeps what it has", |taken| {
+        taken.put_aside().is_none_or(|client| {
+            let granted = taken.granted().into_iter().any(|(opener, _)| opener == client);
+            has_nothing_at_the_server(taken, client)
+                && !granted
+                && taken.after.clients[client] == taken.before.clients[client]
+        })
+    }),
+    ("a client that is told of its embargo has nothing left, and the table stays", |taken| {
+        let (after, before) = (&taken.after.server.entries, &taken.before.server.entries);
+        taken.told().is_none_or(|client| has_nothing_left(taken, client) && after == before)
+    }),
+    ("an embargo begins with EM and ends with LF or BT, and no other step changes it", |taken| {
+        let before = taken.before.server.embargoed;
+        let begun = taken.put_aside().map_or(before, |client| before.with(client));
+        let left = taken.told().or(taken.restarted()).map_or(begun, |client| begun.without(client));
+        taken.after.server.embargoed == left
+    }),
+    ("a lift counts as a report while the server recovers, and an embargo leaves recovery and reports", |taken| {
+        let (server, before) = (&taken.after.server, &taken.before.server);
+        let reported = taken.told().filter(|_| before.recovering).map_or(before.reported, |c| before.reported.with(c));
+        taken.told().or(taken.put_aside()).is_none()
+            || (server.recovering, server.reported) == (before.recovering, reported)
+    }),
+    ("no step of a client under embargo reaches the server, but a restart", |taken| {
+        let embargoed = |client: u64| taken.before.server.embargoed.contains(client as usize);
+        match taken.step {
+            Step::Read { client, .. } | Step::Write { client, .. } if embargoed(client) => {
+                taken.after.server == taken.before.server
+            }
+            Step::Open { client, .. } | Step::Close { client, .. } | Step::Reply { client, .. } => {
+                !embargoed(client) || taken.refusal().is_some()
+            }
+            Step::Flush { client, .. } | Step::Report { client } => !embargoed(client) || taken.refusal().is_some(),
+            _ => true,
+        }
     }),
     (
         "a restart counts as a report while the server recovers, and leaves the blocks, recovery and other reports",
@@ -164,26 +221,29 @@ fn has_its_form(taken: &Taken) -> bool {
         (Step::Reply { .. }, Outcome::Replied { sent, granted }) => {
             *sent <= blocks && granted.is_none_or(|(opener, grant)| granted_well(opener, &grant))
         }
-        (Step::Restart { client }, Outcome::Restarted { granted }) => {
+        (Step::Restart { client }, Outcome::Restarted { granted })
+        | (Step::Embargo { client, .. }, Outcome::Embargoed { granted }) => {
             granted.is_sorted_by(|one, next| one.file < next.file)
                 && granted.iter().all(|open| {
                     open.file < files && open.opener != client as usize && granted_well(open.opener, &open.grant)
                 })
         }
         (Step::Read { .. }, Outcome::Value(_)) => true,
-        (Step::Open { .. } | Step::Reply { .. } | Step::Read { .. } | Step::Restart { .. }, _) => false,
+        (Step::Open { .. } | Step::Reply { .. } | Step::Read { .. }, _) => false,
+        (Step::Restart { .. } | Step::Embargo { .. }, _) => false,
         (_, outcome) => *outcome == Outcome::Done,
     }
 }
 
-/// A restart leaves the other clients alone save those that it grants an open.
+/// A restart and an embargo leave the other clients alone save those that they grant an open.
 fn leaves_the_rest_alone(taken: &Taken) -> bool {
     let (before, after) = (&taken.before, &taken.after);
     let same_entry = |other| after.server.entries[other] == before.server.entries[other];
     let same_end = |client: usize, file: usize| after.clients[client].files[file] == before.clients[client].files[file];
     let same_ends =
         (0..CLIENTS).all(|client| (0..FILES).all(|file| taken.touches(client, file) || same_end(client, file)));
-    let Some((_, file)) = taken.place() else { return taken.restarted().is_none() || same_ends };
+    let on_all_files = taken.restarted().or(taken.put_aside()).or(taken.told()).is_some();
+    let Some((_, file)) = taken.place().filter(|_| !on_all_files) else { return !on_all_files || same_ends };
     same_ends
         && (0..FILES).all(|other| other == file || same_entry(other))
         && (after.server.recovering, after.server.reported) == (before.server.recovering, before.server.reported)
@@ -199,20 +259,27 @@ fn leaves_the_table(taken: &Taken) -> bool {
 }
 
 /// Of the files and blocks in force.
-fn has_nothing_left(taken: &Taken, client: usize) -> bool {
-    let Sizes { files, blocks, .. } = taken.sizes();
+fn has_nothing_at_the_server(taken: &Taken, client: usize) -> bool {
+    let Sizes { clients, files, .. } = taken.sizes();
     let at_server = |entry: &Entry| {
         let named = [entry.last_writer, entry.waiting.opener].contains(&ClientField(client as u8));
-        entry.records[client] == Record::default() && !named
+        let waits = usize::from(entry.waiting.opener.0) < clients;
+        let called = waits && (1..=3).contains(&entry.waiting.callbacks.0[client]);
+        entry.records[client] == Record::default() && !named && !called
     };
+    taken.after.server.entries[..files].iter().all(at_server)
+}
+
+/// Of the files and blocks in force.
+fn has_nothing_left(taken: &Taken, client: usize) -> bool {
+    let Sizes { files, blocks, .. } = taken.sizes();
     let own = |file: &ClientFile| {
         let Copies { values, held, dirty } = &file.copies;
         let dropped = |block: usize| (values[block], held[block], dirty[block]) == (0, false, false);
         (file.record, file.last_writer_flag, file.cached_version) == (Record::default(), false, 0)
             && (0..blocks).all(dropped)
     };
-    taken.after.server.entries[..files].iter().all(at_server)
-        && taken.after.clients[client].files[..files].iter().all(own)
+    taken.after.clients[client].files[..files].iter().all(own)
 }
 
 /// The blocks that an answer has made clean, if its callback asked for them.

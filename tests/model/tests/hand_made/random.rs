@@ -46,6 +46,8 @@ fn random_services_keep_every_promise() {
     assert!(tally.recoveries() > 100);
     assert!(tally.behind().least() > 20, "{}", tally.behind());
     assert!(tally.restarts().least() > 10, "{}", tally.restarts());
+    assert!(met(UnderEmbargo) && met(NotUnderEmbargo));
+    assert!(tally.embargoes().least() > 5, "{}", tally.embargoes());
 }
 
 /// Run it with `--release` and `--ignored`.
@@ -71,7 +73,8 @@ impl Maker {
         let mut service = Service::fresh();
         service.settings = self.settings();
         service.server.recovering = self.rng.one_in(4);
-        service.server.reported = self.reported();
+        service.server.reported = self.some_clients();
+        service.server.embargoed = if self.rng.one_in(3) { self.some_clients() } else { ClientSet::NONE };
         for file in made(&service) {
             self.make(&mut service, file);
         }
@@ -90,7 +93,7 @@ impl Maker {
         Settings { clients, files, blocks }
     }
 
-    fn reported(&mut self) -> ClientSet {
+    fn some_clients(&mut self) -> ClientSet {
         match self.rng.below(4) {
             0 => ClientSet::NONE,
             1 => ClientSet::ALL,
@@ -152,7 +155,7 @@ impl Maker {
         let sizes = in_force(service);
         let (client, file, block) = (self.number(sizes.clients), self.file(service), self.number(sizes.blocks));
         let mode = self.mode();
-        match self.rng.below(39) {
+        match self.rng.below(50) {
             0..9 => Step::Open { mode, client, file },
             9..13 => Step::Close { mode, client, file },
             13..20 => Step::Reply { client: self.called(service, file).unwrap_or(client), file },
@@ -162,7 +165,9 @@ impl Maker {
             28 => Step::Crash,
             29 => Step::End,
             30..33 => Step::Report { client },
-            _ => Step::Restart { client: self.restarting(service, file).unwrap_or(client) },
+            33..39 => Step::Restart { client: self.restarting(service, file).unwrap_or(client) },
+            39..46 => Step::Embargo { client: self.called(service, file).unwrap_or(client), file },
+            _ => Step::Lift { client },
         }
     }
 

@@ -10,19 +10,23 @@ pub fn lowest(service: &Service, step: &Step) -> Option<usize> {
     tested(step).iter().copied().find(|&number| holds(number, service, step))
 }
 
-/// "Open tests 2, 3, 5, 9, 12, 14; close 2, 3, 5, 9, 11; read and write 2, 3, 4, 5, 11; flush 2, 3, 4, 5, 13; reply 2, 3,
-/// 5, 10; report 2, 6, 7; end 6, 8; crash none." "BT tests 2 only" (Wish 8).
+/// "Open tests 2, 3, 5, 9, 12, 14; close 2, 3, 5, 9, 11; read and write 2, 3, 4, 5, 11; flush 2, 3, 4, 5, 13; reply 2,
+/// 3, 5, 10; report 2, 6, 7; end 6, 8; crash none." "BT tests 2 only" (Wish 8). "EM is tested as a reply is, never by
+/// 20 ..; LF tests 2 and 21. 20 when an embargoed station's step other than BT or LF needs the server (any but a read
+/// or write does), after 4" (Wish 9).
 fn tested(step: &Step) -> &'static [usize] {
     match step {
-        Step::Open { .. } => &[2, 3, 5, 9, 12, 14],
-        Step::Close { .. } => &[2, 3, 5, 9, 11],
-        Step::Read { .. } | Step::Write { .. } => &[2, 3, 4, 5, 11],
-        Step::Flush { .. } => &[2, 3, 4, 5, 13],
-        Step::Reply { .. } => &[2, 3, 5, 10],
-        Step::Report { .. } => &[2, 6, 7],
+        Step::Open { .. } => &[2, 3, 20, 5, 9, 12, 14],
+        Step::Close { .. } => &[2, 3, 20, 5, 9, 11],
+        Step::Read { .. } | Step::Write { .. } => &[2, 3, 4, 20, 5, 11],
+        Step::Flush { .. } => &[2, 3, 4, 20, 5, 13],
+        Step::Reply { .. } => &[2, 3, 20, 5, 10],
+        Step::Embargo { .. } => &[2, 3, 5, 10],
+        Step::Report { .. } => &[2, 20, 6, 7],
         Step::End => &[6, 8],
         Step::Crash => &[],
         Step::Restart { .. } => &[2],
+        Step::Lift { .. } => &[2, 21],
     }
 }
 
@@ -38,13 +42,15 @@ fn holds(number: usize, service: &Service, step: &Step) -> bool {
         5 => service.server.recovering && recovery_stops(service, step, &at(), block as usize),
         6 => !service.server.recovering,
         7 => service.server.reported.contains(client as usize),
-        8 => (0..clients).any(|client| !service.server.reported.contains(client)),
+        8 => (0..clients).any(|client| !service.server.reported.contains(client) && !is_embargoed(service, client)),
         9 => at().open_waits(),
         10 => !at().is_called(client as usize),
         11 => !is_open_as_needed(&at().own.record, step),
         12 => count(&at().own.record, mode(step)) == 255,
         13 => !at().own.copies.dirty[block as usize],
         14 => mode(step) == Mode::Write && at().entry.version.0 == 4_294_967_295,
+        20 => is_embargoed(service, client as usize) && needs_server(step, &at(), block as usize),
+        21 => !is_embargoed(service, client as usize),
         _ => unreachable!("no step tests {number}"),
     }
 }
@@ -60,10 +66,10 @@ impl Numbers {
     fn of(step: &Step) -> Self {
         let (client, file, block) = match *step {
             Step::Open { client, file, .. } | Step::Close { client, file, .. } => (client, file, 0),
-            Step::Reply { client, file } => (client, file, 0),
+            Step::Reply { client, file } | Step::Embargo { client, file } => (client, file, 0),
             Step::Read { client, file, block } | Step::Flush { client, file, block } => (client, file, block),
             Step::Write { client, file, block, .. } => (client, file, block),
-            Step::Report { client } | Step::Restart { client } => (client, 0, 0),
+            Step::Report { client } | Step::Restart { client } | Step::Lift { client } => (client, 0, 0),
             Step::Crash | Step::End => (0, 0, 0),
         };
         Numbers { client, file, block }
@@ -93,18 +99,30 @@ impl<'a> Place<'a> {
 }
 
 /// "For reads and writes 5 holds during recovery if the station has reported, or if the step needs the server: a read
-/// unless the station is open, may cache and holds the block; a write unless it has writers and may cache. For the other
-/// steps 5 holds throughout recovery."
+/// unless the station is open, may cache and holds the block; a write unless it has writers and may cache. For the
+/// other steps 5 holds throughout recovery."
 fn recovery_stops(service: &Service, step: &Step, at: &Place, block: usize) -> bool {
-    let Record { readers, writers, may_cache } = at.own.record;
     match *step {
-        Step::Read { client, .. } => {
-            let served = (readers > 0 || writers > 0) && may_cache && at.own.copies.held[block];
-            service.server.reported.contains(client as usize) || !served
+        Step::Read { client, .. } | Step::Write { client, .. } => {
+            service.server.reported.contains(client as usize) || needs_server(step, at, block)
         }
-        Step::Write { client, .. } => service.server.reported.contains(client as usize) || !(writers > 0 && may_cache),
         _ => true,
     }
+}
+
+/// "The step needs the server: a read unless the station is open, may cache and holds the block; a write unless it has
+/// writers and may cache", and "any but a read or write does" (Wish 9).
+fn needs_server(step: &Step, at: &Place, block: usize) -> bool {
+    let Record { readers, writers, may_cache } = at.own.record;
+    match step {
+        Step::Read { .. } => !((readers > 0 || writers > 0) && may_cache && at.own.copies.held[block]),
+        Step::Write { .. } => !(writers > 0 && may_cache),
+        _ => true,
+    }
+}
+
+fn is_embargoed(service: &Service, client: usize) -> bool {
+    service.server.embargoed.contains(client)
 }
 
 /// "11 not open in the mode needed (a read needs either)."

@@ -37,9 +37,10 @@ pub fn with_past_of(service: &Service, other: &Service) -> Service {
             }
         }
     }
-    mixed.server.reported = ClientSet::of(|client| {
-        let reported = if client < sizes.clients { service.server.reported } else { other.server.reported };
-        reported.contains(client)
-    });
+    let mix = |own: ClientSet, past: ClientSet| {
+        ClientSet::of(|client| if client < sizes.clients { own.contains(client) } else { past.contains(client) })
+    };
+    mixed.server.reported = mix(service.server.reported, other.server.reported);
+    mixed.server.embargoed = mix(service.server.embargoed, other.server.embargoed);
     mixed
 }

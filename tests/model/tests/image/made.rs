@@ -9,6 +9,7 @@ pub struct Entries<'a> {
     pub files: Vec<(u8, u32, u8)>,
     pub opens: Vec<[u8; 5]>,
     pub blocks: Vec<(u8, u8, u64)>,
+    pub embargoed: Vec<u8>,
     pub more: &'a [u8],
 }
 
@@ -23,6 +24,7 @@ impl Entries<'_> {
             files: vec![(1, 2, 2), (3, 1, 0)],
             opens: vec![[0, 1, 1, 0, 1], [2, 1, 0, 1, 0], [1, 3, 255, 255, 1]],
             blocks: vec![(0, 1, 5), (1, 0, 1 << 63), (3, 1, u64::MAX)],
+            embargoed: vec![0, 2],
             more: &[],
         }
     }
@@ -42,6 +44,8 @@ impl Entries<'_> {
             bytes.extend([*file, *block]);
             bytes.extend(value.to_le_bytes());
         }
+        bytes.extend((self.embargoed.len() as u16).to_le_bytes());
+        bytes.extend(&self.embargoed);
         bytes.extend(self.more);
         bytes
     }

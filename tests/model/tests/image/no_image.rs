@@ -22,7 +22,7 @@ const NO_IMAGE: Result<(), Refusal> = Err(Refusal::NoImage);
 #[test]
 fn the_image_itself_is_accepted() {
     assert_eq!(with(|_| {}), Ok(()));
-    assert_eq!(read(&[3, 4, 2, 0, 0, 0, 0, 0, 0]), Ok(()));
+    assert_eq!(read(&[3, 4, 2, 0, 0, 0, 0, 0, 0, 0, 0]), Ok(()));
 }
 
 /// "Other sizes get 17", also where every entry would fit.
@@ -30,7 +30,7 @@ fn the_image_itself_is_accepted() {
 fn other_sizes() {
     for sizes in [[2, 4, 2], [4, 4, 2], [3, 3, 2], [3, 5, 2], [3, 4, 1], [3, 4, 3], [8, 32, 4], [0, 4, 2], [4, 3, 2]] {
         assert_eq!(with(|image| image.sizes = sizes), NO_IMAGE, "{sizes:?}");
-        assert_eq!(read(&[&sizes[..], &[0; 6]].concat()), NO_IMAGE, "{sizes:?}");
+        assert_eq!(read(&[&sizes[..], &[0; 8]].concat()), NO_IMAGE, "{sizes:?}");
     }
 }
 
@@ -75,6 +75,7 @@ fn a_number_out_of_range() {
     }
     for past in 3..=255 {
         assert_eq!(with(|image| image.opens[2][0] = past), NO_IMAGE);
+        assert_eq!(with(|image| image.embargoed[1] = past), NO_IMAGE);
     }
     for past in 2..=255 {
         assert_eq!(with(|image| image.blocks[2].1 = past), NO_IMAGE);
@@ -115,13 +116,33 @@ fn a_zero_block_or_one_out_of_order() {
     assert_eq!(with(|image| image.blocks.insert(0, (0, 0, 1))), Ok(()));
 }
 
-/// The places of the three counts in the small image.
-const COUNTS: [usize; 3] = [3, 17, 34];
+/// "Embargoed stations, ascending" (Wish 9).
+#[test]
+fn an_embargo_twice_or_descending() {
+    assert_eq!(with(|image| image.embargoed.swap(0, 1)), NO_IMAGE);
+    assert_eq!(with(|image| image.embargoed = vec![1, 1]), NO_IMAGE);
+    assert_eq!(with(|image| image.embargoed = vec![0, 1, 2, 2]), NO_IMAGE);
+    assert_eq!(with(|image| image.embargoed = vec![0, 2, 1]), NO_IMAGE);
+    assert_eq!(with(|image| image.embargoed.insert(1, 1)), Ok(()));
+    assert_eq!(with(|image| image.embargoed = vec![2]), Ok(()));
+    assert_eq!(with(|image| image.embargoed.clear()), Ok(()));
+}
+
+/// The image as it was before Wish 9.
+#[test]
+fn an_image_without_its_last_section() {
+    let bytes = Entries::small().bytes();
+    assert_eq!(read(&bytes[..bytes.len() - 4]), NO_IMAGE);
+    assert_eq!(read(&[3, 4, 2, 0, 0, 0, 0, 0, 0]), NO_IMAGE);
+}
+
+/// The places of the four counts in the small image.
+const COUNTS: [usize; 4] = [3, 17, 34, 66];
 
 #[test]
 fn a_count_that_the_bytes_do_not_bear_out() {
     let bytes = Entries::small().bytes();
-    for (place, count) in COUNTS.into_iter().zip([2, 3, 3]) {
+    for (place, count) in COUNTS.into_iter().zip([2, 3, 3, 2]) {
         assert_eq!(bytes[place..place + 2], [count, 0]);
         for wrong in (0..=u16::MAX).filter(|&wrong| wrong != count.into()) {
             let mut bytes = bytes.clone();
@@ -156,5 +177,7 @@ fn nothing_is_asked_between_sections() {
     assert_eq!(with(|image| image.files.clear()), Ok(()));
     assert_eq!(with(|image| image.opens.clear()), Ok(()));
     assert_eq!(with(|image| image.blocks.clear()), Ok(()));
+    // A client under embargo may be listed as open and as last writer.
+    assert_eq!(with(|image| image.embargoed = vec![0, 1, 2]), Ok(()));
     assert_eq!(with(|image| image.files[0].1 = u32::MAX), Ok(()));
 }

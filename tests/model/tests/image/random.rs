@@ -3,18 +3,19 @@
 
 use model::generate::Rng;
 use model::images::{Sections, Sort, any_sizes, full, hand_made, is_written, strings, written};
-use model::{Document01, Service, Step};
+use model::{ClientSet, Document01, Service, Step};
 
 /// A service of the same sizes that has nothing of the other but its clients.
 fn fresh_as(service: &Service) -> Service {
     Service::fresh_of(service.settings)
 }
 
-/// Versions as they read and blocks, of what is in force.
-fn lasting(service: &Service) -> Vec<(u32, Vec<u64>)> {
+/// Versions as they read, blocks and embargoes, of what is in force.
+fn lasting(service: &Service) -> (Vec<(u32, Vec<u64>)>, ClientSet) {
     let sizes = service.sizes();
-    let entries = &service.server.entries[..sizes.files];
-    entries.iter().map(|entry| (entry.version.read(), entry.blocks[..sizes.blocks].to_vec())).collect()
+    let entries = service.server.entries[..sizes.files].iter();
+    let entries = entries.map(|entry| (entry.version.read(), entry.blocks[..sizes.blocks].to_vec())).collect();
+    (entries, service.server.embargoed.and(sizes.client_set()))
 }
 
 /// Writes, reads and writes again from a service that has these entries.

@@ -1,9 +1,12 @@
-//! "It takes versions and blocks and is otherwise a crash; the reports bring back opens and marks."
+//! "It takes versions and blocks and is otherwise a crash; the reports bring back opens and marks." It takes the
+//! embargoes too (Wish 9).
 
 use model::check::Witness;
 use model::generate::{FileKind, step_file};
 use model::images::written;
-use model::{ClientField, Document01, Outcome, Refusal, Service, Settings, Step, VersionField, replay, replay_from};
+use model::{
+    ClientField, ClientSet, Document01, Outcome, Refusal, Service, Settings, Step, VersionField, replay, replay_from,
+};
 
 use crate::made::{Entries, after, whole_case};
 
@@ -26,6 +29,7 @@ fn busy() -> Service {
     }
     service.server.entries[63].version = VersionField(9);
     service.server.entries[63].last_writer = ClientField(1);
+    service.server.embargoed = ClientSet::only(1).with(2).with(5);
     service
 }
 
@@ -34,7 +38,7 @@ fn crashed(mut service: Service) -> Service {
     service
 }
 
-/// A crash, but with the versions and blocks of the small image.
+/// A crash, but with the versions, blocks and embargoes of the small image.
 fn as_read(service: Service) -> Service {
     let mut service = crashed(service);
     let entries = &mut service.server.entries;
@@ -44,11 +48,13 @@ fn as_read(service: Service) -> Service {
         entry.version = VersionField(version);
         entry.blocks[..2].copy_from_slice(&[first, second]);
     }
+    let past = service.server.embargoed.minus(ClientSet::first(3));
+    service.server.embargoed = past.with(0).with(2);
     service
 }
 
-/// Files that are not listed are at version 1, blocks that are not are 0; past the sizes, and at the clients, nothing
-/// changes.
+/// Files that are not listed are at version 1, blocks that are not are 0, clients that are not are without embargo;
+/// past the sizes, and at the clients, nothing changes.
 #[test]
 fn versions_and_blocks_are_taken_and_all_else_is_a_crash() {
     let mut service = busy();
@@ -62,7 +68,7 @@ fn versions_and_blocks_are_taken_and_all_else_is_a_crash() {
 fn a_stored_version_of_0_is_read_over() {
     let mut service = Service::fresh();
     service.server.entries[5].version = VersionField(0);
-    assert_eq!(service.read_image(&[8, 32, 4, 0, 0, 0, 0, 0, 0]), Ok(()));
+    assert_eq!(service.read_image(&[8, 32, 4, 0, 0, 0, 0, 0, 0, 0, 0]), Ok(()));
     assert_eq!(service, crashed(Service::fresh()));
 }
 
@@ -106,8 +112,12 @@ fn a_session_is_resumed_from_an_image() {
     let service = Service::resumed(&Entries::small().bytes()).expect("it is an image");
     let fresh = Service::fresh_of(Settings { clients: 3, files: 4, blocks: 2 });
     assert_eq!(service, as_read(fresh));
-    for bytes in [&[][..], &[8], &[8, 32], &[8, 32, 4], &[0, 32, 4, 0, 0, 0, 0, 0, 0], &[8, 65, 4, 0, 0, 0, 0, 0, 0]] {
-        assert_eq!(Service::resumed(bytes), Err(Refusal::NoImage));
+    let fronts = [&[][..], &[8], &[8, 32], &[8, 32, 4], &[0, 32, 4], &[8, 65, 4]];
+    for front in fronts {
+        assert_eq!(Service::resumed(front), Err(Refusal::NoImage));
+    }
+    for front in [&[0, 32, 4][..], &[8, 65, 4]] {
+        assert_eq!(Service::resumed(&[front, &[0; 8]].concat()), Err(Refusal::NoImage));
     }
 }
 
@@ -126,19 +136,39 @@ fn the_reports_bring_back_opens_and_flags() {
     assert_eq!(String::from_utf8_lossy(&said), expected);
 }
 
-/// What survives a crash.
-fn lasting(service: &Service) -> Vec<(VersionField, [u64; 8])> {
-    service.server.entries.iter().map(|entry| (entry.version, entry.blocks)).collect()
+/// Of clients under embargo: they cannot report, one that is told of it has reported, and the end waits for the others.
+#[test]
+fn the_embargoes_of_the_image_hold() {
+    let mut service = Service::resumed(&Entries::small().bytes()).expect("it is an image");
+    let said = replay_from::<Document01>(
+        &mut service,
+        b"RP 0\nRP 1\nLF 1\nLF 2\nRP 2\nEN\nOR 0 0\nOR 2 0\nEM 0 0\nBT 0\nOR 0 0\n",
+        &mut (),
+    );
+    let answers = ["N 20", "K", "N 21", "K", "N 7", "K", "N 20", "G 1 0 1", "N 10", "K", "G 1 0 1"];
+    let numbered: String = answers.iter().zip(1..).map(|(answer, line)| format!("{line} {answer}\n")).collect();
+    let expected = numbered + "files 2\n0 4 1 -\n1 0 2 -\n";
+    assert_eq!(String::from_utf8_lossy(&said), expected);
+}
+
+/// What survives a crash, and what goes by the clients.
+type Lasting = (Vec<(VersionField, [u64; 8])>, ClientSet);
+
+fn lasting(service: &Service) -> Lasting {
+    let entries = service.server.entries.iter().map(|entry| (entry.version, entry.blocks)).collect();
+    (entries, service.server.embargoed)
 }
 
 /// The latest image of a run, what the server had then, and how often it was read.
 #[derive(Default)]
 struct Readings {
     image: Vec<u8>,
-    then: Vec<(VersionField, [u64; 8])>,
+    then: Lasting,
     readings: usize,
     /// Those at which no image could be written.
     later: usize,
+    /// Those with a client under embargo.
+    under_embargo: usize,
 }
 
 impl Witness for Readings {
@@ -153,20 +183,23 @@ impl Witness for Readings {
             assert_eq!(read.read_image(&self.image), Ok(()));
             assert_eq!(read, crashed(service.clone()));
             self.readings += 1;
+            self.under_embargo += usize::from(!service.server.embargoed.is_empty());
         }
     }
 }
 
 /// "On the premise that the server's blocks and versions hadn't changed since the image, demand 3 holds with the
-/// reading as a crash": on that premise the reading leaves the very service that a crash leaves.
+/// reading as a crash", and the premise covers embargoes (Wish 9): on it the reading leaves the very service that a
+/// crash leaves.
 #[test]
 fn on_the_premise_a_reading_is_a_crash() {
     let mut met = Readings::default();
     for seed in 0..40 {
-        for kind in [FileKind::Hot, FileKind::Wide, FileKind::Session] {
-            met.then.clear();
+        for kind in [FileKind::Hot, FileKind::Wide, FileKind::Session, FileKind::Embargo] {
+            met.then = Lasting::default();
             replay::<Document01>(&step_file(kind, seed, 400), &mut met);
         }
     }
     assert!(met.readings > 10_000 && met.later > 2_000, "{} {}", met.readings, met.later);
+    assert!(met.under_embargo > 1_000, "{}", met.under_embargo);
 }

@@ -7,11 +7,12 @@ use model::{Callbacks, ClientField, LONGEST_IMAGE, Mode, Record, Refusal, Servic
 
 use crate::made::{after, whole_case};
 
-const WHOLE_CASE: [u8; 30] = [
+const WHOLE_CASE: [u8; 32] = [
     8, 32, 4, // sizes
     1, 0, 3, 2, 0, 0, 0, 255, // files
     1, 0, 1, 3, 1, 0, 1, // opens
     1, 0, 3, 0, 77, 0, 0, 0, 0, 0, 0, 0, // blocks
+    0, 0, // embargoes
 ];
 
 #[test]
@@ -21,8 +22,8 @@ fn the_whole_case_up_to_line_6() {
 
 #[test]
 fn a_fresh_service_lists_nothing() {
-    assert_eq!(written(&Service::fresh()), Ok(vec![8, 32, 4, 0, 0, 0, 0, 0, 0]));
-    assert_eq!(written(&after(&["SET 3 64 8"])), Ok(vec![3, 64, 8, 0, 0, 0, 0, 0, 0]));
+    assert_eq!(written(&Service::fresh()), Ok(vec![8, 32, 4, 0, 0, 0, 0, 0, 0, 0, 0]));
+    assert_eq!(written(&after(&["SET 3 64 8"])), Ok(vec![3, 64, 8, 0, 0, 0, 0, 0, 0, 0, 0]));
 }
 
 /// "By file and then station"; "files and blocks ascend"; "version in four bytes low first", "value in eight".
@@ -37,8 +38,19 @@ fn entries_stand_in_order_and_low_byte_first() {
         &[2, 0, 0, 2, 0, 0, 0, 255, 4, 1, 2, 3, 4, 255],
         &[4, 0, 2, 0, 0, 1, 1, 1, 1, 1, 0, 1, 2, 1, 1, 0, 1, 0, 4, 1, 0, 1],
         &[2, 0, 0, 1, 2, 1, 0, 0, 0, 0, 0, 0, 4, 0, 1, 2, 3, 4, 5, 6, 7, 8],
+        &[0, 0],
     ];
     assert_eq!(written(&service), Ok(image.concat()));
+}
+
+/// "A last section of embargoed stations, ascending" (Wish 9), whatever the order in which they were put there.
+#[test]
+fn embargoes_are_listed_last() {
+    let aside = ["SET 3 1 1", "OR 2 0", "OR 0 0", "OW 1 0", "EM 2 0", "EM 0 0"];
+    let image = [&[3, 1, 1, 1, 0, 0, 2, 0, 0, 0, 255][..], &[1, 0, 1, 0, 0, 1, 1], &[0, 0], &[2, 0, 0, 2]].concat();
+    assert_eq!(written(&after(&aside)), Ok(image.clone()));
+    let lifted = after(&[&aside[..], &["LF 0"]].concat());
+    assert_eq!(written(&lifted), Ok([&image[..image.len() - 4], &[1, 0, 2]].concat()));
 }
 
 /// A version of 0 reads as 1, and a client field that is no client in force as none: "for each file not at version 1
@@ -50,7 +62,7 @@ fn files_are_listed_as_their_fields_read() {
         let entry = &mut service.server.entries[0];
         (entry.version, entry.last_writer) = (VersionField(version), ClientField(last_writer));
         let image = written(&service).expect("it is written");
-        image[5..image.len() - 4].to_vec()
+        image[5..image.len() - 6].to_vec()
     };
     for none in [3, 7, 8, 254, 255] {
         assert!(listed(0, none).is_empty() && listed(1, none).is_empty());
@@ -68,9 +80,9 @@ fn opens_are_the_servers() {
     let mut service = Service::fresh_of(Settings { clients: 2, files: 1, blocks: 1 });
     service.server.entries[0].records[0] = Record { may_cache: true, ..Record::default() };
     service.clients[1].files[0].record = Record { readers: 1, writers: 1, may_cache: true };
-    assert_eq!(written(&service), Ok(vec![2, 1, 1, 0, 0, 0, 0, 0, 0]));
+    assert_eq!(written(&service), Ok(vec![2, 1, 1, 0, 0, 0, 0, 0, 0, 0, 0]));
     service.server.entries[0].records[1] = Record { readers: 0, writers: 255, may_cache: false };
-    assert_eq!(written(&service), Ok(vec![2, 1, 1, 0, 0, 1, 0, 1, 0, 0, 255, 0, 0, 0]));
+    assert_eq!(written(&service), Ok(vec![2, 1, 1, 0, 0, 1, 0, 1, 0, 0, 255, 0, 0, 0, 0, 0]));
 }
 
 /// "What lies past them isn't there"; sizes out of range are "each as not given".
@@ -87,15 +99,16 @@ fn what_lies_past_the_sizes_is_not_listed() {
         service.settings = Settings { clients, files: files_set, blocks: blocks_set };
         let image = written(&service).expect("it is written");
         assert_eq!(image[..3], front);
-        assert_eq!(image.len(), 3 + 2 + 6 * files + 2 + 5 * opens + 2 + 10 * blocks);
+        let embargoed = usize::from(front[0]);
+        assert_eq!(image.len(), 3 + 2 + 6 * files + 2 + 5 * opens + 2 + 10 * blocks + 2 + embargoed);
         assert_eq!(usize::from(image[3]) + 256 * usize::from(image[4]), files);
         let at = 5 + 6 * files;
         assert_eq!(usize::from(image[at]) + 256 * usize::from(image[at + 1]), opens);
     }
     assert_eq!(written(&service).map(|image| image.len()), Ok(LONGEST_IMAGE));
-    assert_eq!(LONGEST_IMAGE, 8_073);
+    assert_eq!(LONGEST_IMAGE, 8_083);
     service.settings = Settings::NOT_GIVEN;
-    assert_eq!(written(&service).map(|image| image.len()), Ok(2_761));
+    assert_eq!(written(&service).map(|image| image.len()), Ok(2_771));
 }
 
 /// "The length is told and bytes past it stay." "16 when the buffer is too short", and then the whole buffer stays.

@@ -23,21 +23,21 @@ tests-of : (c : tie.After-read-refusal)
     → (let a = c .before .before .before .args in
     c .read-refusal .result
     ≡ firstOf
-    (readTests (a .sizes) (a .recovering) (a .reported) (a .own) (getD (now (a .held)) (cell (a .client) (a .file) (a .block)) false)
+    (readTests (a .sizes) (a .embargoed) (a .recovering) (a .reported) (a .own) (getD (now (a .held)) (cell (a .client) (a .file) (a .block)) false)
     (a .client) (a .file) (a .block)))
 tests-of c =
     let start = c .before .before .before in
     let a = start .args in
-    rw (← read-tests (a .sizes) (a .recovering) (a .reported) (a .own) (now (a .held)) (a .client) (a .file) (a .block) (start .pre))
+    rw (← read-tests (a .sizes) (a .embargoed) (a .recovering) (a .reported) (a .own) (now (a .held)) (a .client) (a .file) (a .block) (start .pre))
     (rw (← c .before .before .cell-of .ensures .0) (c .read-refusal .ensures))
 
 returns : tie.Need-returns
 returns c =
     let a = c .before .before .before .before .args in
-    leaves-refused (readTests (a .sizes) (a .recovering) (a .reported) (a .own) (getD (now (a .held)) (cell (a .client) (a .file) (a .block)) false)
+    leaves-refused (readTests (a .sizes) (a .embargoed) (a .recovering) (a .reported) (a .own) (getD (now (a .held)) (cell (a .client) (a .file) (a .block)) false)
     (a .client) (a .file) (a .block))
     (now (a .blocks)) (now (a .copies)) (now (a .held)) (now (a .dirty)) _ _ _ _
-    (read-step (a .sizes) (a .recovering) (a .reported) (a .own) (lent (now (a .blocks)) (now (a .copies)) (now (a .held)) (now (a .dirty))) (a .client) (a .file) (a .block))
+    (read-step (a .sizes) (a .embargoed) (a .recovering) (a .reported) (a .own) (lent (now (a .blocks)) (now (a .copies)) (now (a .held)) (now (a .dirty))) (a .client) (a .file) (a .block))
     (tests-of (c .before))
     (c .if1 .taken)
     refl
@@ -61,8 +61,8 @@ returns-2 c =
     let to : placed .place-of .result ≡ place (a .file) (a .block) =
     placed .place-of .ensures .0 ∙ wrapped-block (a .file) (a .block) hf hb in
     leaves-as _ _ _ _ _ _ _
-    (read-step (a .sizes) (a .recovering) (a .reported) (a .own) (lent (now (a .blocks)) (now (a .copies)) (now (a .held)) (now (a .dirty))) (a .client) (a .file) (a .block)
-    ∙ when-accepted (readTests (a .sizes) (a .recovering) (a .reported) (a .own) (getD (now (a .held)) (cell (a .client) (a .file) (a .block)) false)
+    (read-step (a .sizes) (a .embargoed) (a .recovering) (a .reported) (a .own) (lent (now (a .blocks)) (now (a .copies)) (now (a .held)) (now (a .dirty))) (a .client) (a .file) (a .block)
+    ∙ when-accepted (readTests (a .sizes) (a .embargoed) (a .recovering) (a .reported) (a .own) (getD (now (a .held)) (cell (a .client) (a .file) (a .block)) false)
     (a .client) (a .file) (a .block)) (λ k. record { stores = lent (now (a .blocks)) (now (a .copies)) (now (a .held)) (now (a .dirty)); reply = Refused k })
     (afterRead (a .own) (lent (now (a .blocks)) (now (a .copies)) (now (a .held)) (now (a .dirty))) (a .client) (a .file) (a .block)) _
     (tests-of refusal)

@@ -18,10 +18,10 @@ use Rattle.access.proofs.access.write_block.Tie as tie
 returns : tie.Need-returns
 returns c =
     let a = c .before .before .args in
-    leaves-refused (writeTests (a .sizes) (a .recovering) (a .reported) (a .own) (a .client) (a .file) (a .block))
+    leaves-refused (writeTests (a .sizes) (a .embargoed) (a .recovering) (a .reported) (a .own) (a .client) (a .file) (a .block) (a .value))
     (now (a .blocks)) (now (a .copies)) (now (a .held)) (now (a .dirty)) _ _ _ _
-    (write-step (a .sizes) (a .recovering) (a .reported) (a .own) (lent (now (a .blocks)) (now (a .copies)) (now (a .held)) (now (a .dirty))) (a .client) (a .file) (a .block) (a .value))
-    (c .before .write-refusal .ensures)
+    (write-step (a .sizes) (a .embargoed) (a .recovering) (a .reported) (a .own) (lent (now (a .blocks)) (now (a .copies)) (now (a .held)) (now (a .dirty))) (a .client) (a .file) (a .block) (a .value))
+    (c .before .write-refusal .ensures (a .value))
     (c .if1 .taken)
     refl
 
@@ -35,7 +35,7 @@ returns-2 c =
     let start = refusal .before in
     let a = start .args in
     let (client, file, block) =
-    named-block (a .sizes) (a .client) (a .file) (a .block) (refusal .write-refusal .result) _ (refusal .write-refusal .ensures) (test .if1 .left) in
+    named-block (a .sizes) (a .client) (a .file) (a .block) (refusal .write-refusal .result) _ (refusal .write-refusal .ensures (a .value)) (test .if1 .left) in
     let hi : a .client < maxClients = omega (arith, client, start .pre .clients) in
     let hf : a .file < maxFiles = omega (arith, file, start .pre .files) in
     let hb : a .block < maxBlocks = omega (arith, block, start .pre .blocks) in
@@ -44,13 +44,16 @@ returns-2 c =
     let to : placed .place-of .result ≡ place (a .file) (a .block) =
     placed .place-of .ensures .0 ∙ wrapped-block (a .file) (a .block) hf hb in
     leaves-as _ _ _ _ _ _ _
-    (write-step (a .sizes) (a .recovering) (a .reported) (a .own) (lent (now (a .blocks)) (now (a .copies)) (now (a .held)) (now (a .dirty))) (a .client) (a .file) (a .block) (a .value)
-    ∙ when-accepted (writeTests (a .sizes) (a .recovering) (a .reported) (a .own) (a .client) (a .file) (a .block)) (λ k. record { stores = lent (now (a .blocks)) (now (a .copies)) (now (a .held)) (now (a .dirty)); reply = Refused k })
+    (write-step (a .sizes) (a .embargoed) (a .recovering) (a .reported) (a .own) (lent (now (a .blocks)) (now (a .copies)) (now (a .held)) (now (a .dirty))) (a .client) (a .file) (a .block) (a .value)
+    ∙ when-accepted (writeTests (a .sizes) (a .embargoed) (a .recovering) (a .reported) (a .own) (a .client) (a .file) (a .block) (a .value)) (λ k. record { stores = lent (now (a .blocks)) (now (a .copies)) (now (a .held)) (now (a .dirty)); reply = Refused k })
     (afterWrite (a .own) (lent (now (a .blocks)) (now (a .copies)) (now (a .held)) (now (a .dirty))) (a .client) (a .file) (a .block) (a .value)) _
-    (refusal .write-refusal .ensures)
+    (refusal .write-refusal .ensures (a .value))
     (test .if1 .left))
     (write-leaves (a .own) (a .client) (a .file) (a .block) (now (a .blocks)) (now (a .copies)) (now (a .held)) (now (a .dirty))
     (write .write .result) (celled .cell-of .result) (placed .place-of .result) at to (a .value) (write .write .ensures))
+
+element-write-blocks : tie.Need-element-write-blocks
+element-write-blocks c = omega (arith, c .before .before .before .before .before .before .place-of .ensures .1)
 
 pub write-block-spec : {M : Type 1} → statement M
 write-block-spec =
@@ -72,5 +75,5 @@ write-block-spec =
     (search needs)
     (search needs)
     (search needs)
-    (search needs)
+    element-write-blocks
     returns-2)

@@ -13,4 +13,4 @@ write-refusal-spec =
     (search needs)
     (search needs)
     (search needs)
-    (λ c. cc))
+    (λ c v. cc))

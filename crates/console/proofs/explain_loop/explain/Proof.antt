@@ -16,11 +16,11 @@ use Rattle.console.proofs.explain_loop.explain.Statement.{statement}
 use Rattle.console.proofs.explain_loop.explain.Tie as tie
 
 abbrev Inv-loop : tie.InvT-loop
-Inv-loop fd buffer₀ out₀ table₀ flags₀ blocks₀ copies₀ held₀ dirty₀ written₀ writers₀ copied₀ waiting₀ refusals₀ session₀ reads₀ writes₀ turns₀ buffer out table flags blocks copies held dirty written writers copied waiting refusals session reads writes turns =
+Inv-loop fd buffer₀ out₀ table₀ flags₀ blocks₀ copies₀ held₀ dirty₀ written₀ writers₀ copied₀ since₀ refusals₀ session₀ reads₀ writes₀ turns₀ buffer out table flags blocks copies held dirty written writers copied since refusals session reads writes turns =
     (length buffer ≡ 262144) × (length out ≡ 1048576) × (session .rest ≤ 262144) × (length table ≡ tableWords) × (length flags ≡ lentFlags)
 
 abbrev μ-loop : tie.MeasureT-loop
-μ-loop fd buffer₀ out₀ table₀ flags₀ blocks₀ copies₀ held₀ dirty₀ written₀ writers₀ copied₀ waiting₀ refusals₀ session₀ reads₀ writes₀ turns₀ buffer out table flags blocks copies held dirty written writers copied waiting refusals session reads writes turns =
+μ-loop fd buffer₀ out₀ table₀ flags₀ blocks₀ copies₀ held₀ dirty₀ written₀ writers₀ copied₀ since₀ refusals₀ session₀ reads₀ writes₀ turns₀ buffer out table flags blocks copies held dirty written writers copied since refusals session reads writes turns =
     turns
 
 loop-holds : tie.Need-loop-holds Inv-loop μ-loop

@@ -39,17 +39,17 @@ use Rattle.explaining.proofs.lines.explain_lines.Tie as tie
 
 -- the lines before this one are told, no line that can be told chooses the sizes, and the arrays have their lengths
 abbrev Inv-loop : tie.InvT-loop
-Inv-loop fresh first input out₀ table₀ flags₀ blocks₀ copies₀ held₀ dirty₀ written₀ writers₀ copied₀ waiting₀ refusals₀ given force words₀ before₀ number₀ used₀ to₀ out table flags blocks copies held dirty written writers copied waiting refusals words before number used to =
+Inv-loop fresh first input out₀ table₀ flags₀ blocks₀ copies₀ held₀ dirty₀ written₀ writers₀ copied₀ since₀ refusals₀ given force words₀ before₀ number₀ used₀ to₀ out table flags blocks copies held dirty written writers copied since refusals words before number used to =
     GoesOn (explaining fresh) input
-    (stateHeld given table₀ flags₀ (lent blocks₀ copies₀ held₀ dirty₀) (entered written₀ writers₀ copied₀ waiting₀) refusals₀)
+    (stateHeld given table₀ flags₀ (lent blocks₀ copies₀ held₀ dirty₀) (entered written₀ writers₀ copied₀ since₀) refusals₀)
     number₀ used₀ to₀ out₀
-    (stateHeld given table flags (lent blocks copies held dirty) (entered written writers copied waiting) refusals)
+    (stateHeld given table flags (lent blocks copies held dirty) (entered written writers copied since) refusals)
     number used to out
     × (((choosesSizes fresh number (drop used input) && canTell explainedRoom (length out) to number) ≡ false)
     × (Long table₀ flags₀ table flags × ((length words ≡ saidRoom) × (length before ≡ tableWords))))
 
 abbrev μ-loop : tie.MeasureT-loop
-μ-loop fresh first input out₀ table₀ flags₀ blocks₀ copies₀ held₀ dirty₀ written₀ writers₀ copied₀ waiting₀ refusals₀ given force words₀ before₀ number₀ used₀ to₀ out table flags blocks copies held dirty written writers copied waiting refusals words before number used to =
+μ-loop fresh first input out₀ table₀ flags₀ blocks₀ copies₀ held₀ dirty₀ written₀ writers₀ copied₀ since₀ refusals₀ given force words₀ before₀ number₀ used₀ to₀ out table flags blocks copies held dirty written writers copied since refusals words before number used to =
     length input - used
 
 -- Before a line, or the end.
@@ -73,7 +73,7 @@ module _ (c : tie.At-loop Inv-loop μ-loop) where
   out₀ = now (start .args .out)
 
   abbrev ledger₀ : Ledger
-  ledger₀ = let a = start .args in entered (now (a .written)) (now (a .writers)) (now (a .copied)) (now (a .waiting))
+  ledger₀ = let a = start .args in entered (now (a .written)) (now (a .writers)) (now (a .copied)) (now (a .since))
 
   abbrev came : Annotated
   came =
@@ -86,7 +86,7 @@ module _ (c : tie.At-loop Inv-loop μ-loop) where
 
   -- what stands when this turn of the loop begins
   abbrev ledger : Ledger
-  ledger = let l = c .loop in entered (l .written) (l .writers) (l .copied) (l .waiting)
+  ledger = let l = c .loop in entered (l .written) (l .writers) (l .copied) (l .since)
 
   abbrev stands : Annotated
   stands =
@@ -176,7 +176,7 @@ loop-holds : tie.Need-loop-holds Inv-loop μ-loop
 loop-holds c =
     let begun = c .before .before .before .before in
     let a = begun .before .before .before .before .before .before .before .before .before .before .before .args in
-    let ledger = entered (now (a .written)) (now (a .writers)) (now (a .copied)) (now (a .waiting)) in (
+    let ledger = entered (now (a .written)) (now (a .writers)) (now (a .copied)) (now (a .since)) in (
       λ s n out w. w,
       (begun .explain-first .ensures ledger .chosen, (record { rows = refl; reports = refl }, (search needs, search needs))),
     )
@@ -214,20 +214,20 @@ keep-before-requires c κs =
 
 look-requires : tie.Need-look-requires Inv-loop μ-loop
 look-requires c κs =
-    let kept = c .before .before .before .before .before .before in
+    let kept = c .before .before .before .before .before .before .before in
     stored-long _ _ _ _ _ _ (kept .keep-before .ensures) (at-line (kept .before .before .before .before .before .before .before) .loop .inv .1 .1 .1 .1)
 
 -- the step was taken
 module _ (c : tie.After-take-step Inv-loop μ-loop) where
   abbrev line-of : tie.After-known-told Inv-loop μ-loop
-  line-of = c .before .before .before .before .before .before .before .before .before .before .before .before .before .before .before .before .before .before .before .before .before .before
+  line-of = c .before .before .before .before .before .before .before .before .before .before .before .before .before .before .before .before .before .before .before .before .before .before .before
 
   abbrev kept-of : tie.After-keep-before Inv-loop μ-loop
-  kept-of = c .before .before .before .before .before .before .before .before .before .before .before .before .before .before .before
+  kept-of = c .before .before .before .before .before .before .before .before .before .before .before .before .before .before .before .before
 
 take-step-requires : tie.Need-take-step-requires Inv-loop μ-loop
 take-step-requires c κs =
-    let at = at-line (c .before .before .before .before .before .before .before .before .before .before .before .before .before .before .before .before .before .before .before .before .before) in
+    let at = at-line (c .before .before .before .before .before .before .before .before .before .before .before .before .before .before .before .before .before .before .before .before .before .before) in
     (table-long at, (flags-long at, words-long at))
 
 tell-step-requires : tie.Need-tell-step-requires Inv-loop μ-loop
@@ -240,7 +240,7 @@ tell-step-requires c κs =
         steps .short,
         (
           steps .wordsLong ∙ words-long at,
-          (stored-long _ _ _ _ _ _ (kept-of taken .keep-before .ensures) (at .loop .inv .1 .1 .1 .1), (steps .long ∙ table-long at, steps .flagsLong ∙ flags-long at)),
+          (stored-long _ _ _ _ _ _ (kept-of taken .keep-before .ensures) (at .loop .inv .1 .1 .1 .1), (steps .long ∙ table-long at, flags-long at)),
         ),
       ),
     )

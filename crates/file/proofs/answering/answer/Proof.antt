@@ -1,6 +1,6 @@
--- `answer` meets its contract: refused, answered, or answered with the waiting open granted. Assumes nothing.
+-- `answer` meets its contract: refused, or answered, with the waiting open granted or not. Assumes nothing.
 use Prim.Native.Nat.{ℕ, _%_, _<_}
-use mathlib.Core.Path.{_≡_, refl, sym, ap, _∙_}
+use mathlib.Core.Path.{_≡_, sym, ap, _∙_}
 use mathlib.Core.List.{List}
 use native.Mathlib.Nat.{mod-eq-of-lt, mod-lt}
 use native.Mathlib.Omega.{arith}
@@ -8,7 +8,6 @@ use denote.Ref.{now}
 use Rattle.sizes.specs.Sizes.{maxClients, maxFiles, firstCell}
 use Rattle.decision.specs.Lists.{firstOf}
 use Rattle.protocol.specs.declared.entry.Entry.{Entry}
-use Rattle.protocol.specs.declared.reply.Reply.the-variants.{Answered, AnsweredGrant}
 use Rattle.protocol.specs.declared.shared.SharedFile.{SharedFile}
 use Rattle.protocol.specs.Client.{sideOf, withSide, answeredClient}
 use Rattle.protocol.specs.Entry.{callTo, answeredEntry}
@@ -17,11 +16,12 @@ use Rattle.protocol.proofs.Tested.{named}
 use Rattle.words.specs.Rows.{fileHeld, Puts}
 use Rattle.blocks.specs.Stores.{Stores, lent, sentBlocks}
 use Rattle.blocks.proofs.Wrapped.{wrapped-cell, wrapped-place}
-use Rattle.file.specs.FileStep.{FileAfter, granted, answered as answeredFile}
-use Rattle.file.proofs.AnswerStep.{someone-waits, answer-waits, answer-grants}
-use Rattle.file.proofs.AnsweredRow.{answered-others, stored-before}
+use Rattle.file.specs.FileStep.{FileAfter, answered as answeredFile}
+use Rattle.file.proofs.AnswerStep.{waiter-there, answer-done}
+use Rattle.file.proofs.AnsweredRow.{answered-others}
+use Rattle.file.proofs.Leaving.{answer-holds}
 use Rattle.file.proofs.Lending.{answered, sent-blocks}
-use Rattle.file.proofs.Taking.{answer-step, holds-as, refused-holds, not-refused}
+use Rattle.file.proofs.Taking.{answer-step, holds-as, refused-holds}
 use Rattle.file.proofs.Wrapping.{wrapped-side}
 use Rattle.file.proofs.answering.answer.Statement.{statement}
 use Rattle.file.proofs.answering.answer.Tie as tie
@@ -47,13 +47,13 @@ module _ (p : tie.After-answer-refusal) where
   loaded = p .before .entry-at .ensures
 
   abbrev tests : List Test
-  tests = let a = start .args in answerTests (a .sizes) (a .recovering) (file .entry) (a .client) (a .file)
+  tests = let a = start .args in answerTests (a .sizes) (a .embargoed) (a .recovering) (file .entry) (a .client) (a .file)
 
   tests-of : p .answer-refusal .result ≡ firstOf tests
   tests-of =
       let a = start .args in
       p .answer-refusal .ensures
-      ∙ ap (λ (e : Entry). firstOf (answerTests (a .sizes) (a .recovering) e (a .client) (a .file))) loaded
+      ∙ ap (λ (e : Entry). firstOf (answerTests (a .sizes) (a .embargoed) (a .recovering) e (a .client) (a .file))) loaded
 
   there : p .answer-refusal .result ≡ 0 → (start .args .client < maxClients) × (start .args .file < start .args .sizes .files) × (start .args .file < maxFiles)
   there none =
@@ -69,7 +69,7 @@ returns c =
     let p = c .before in
     let a = start p .args in
     refused-holds (tests p) _
-    (answer-step (a .sizes) (a .recovering) (file p) (stores p) (a .client) (a .file))
+    (answer-step (a .sizes) (a .embargoed) (a .recovering) (file p) (stores p) (a .client) (a .file))
     (tests-of p)
     (c .if1 .taken)
 
@@ -185,82 +185,39 @@ module _ (q : tie.After-put-own) where
       (cell-point .first-cell .result) (blocks-point .answer-blocks .result) at (blocks-point .answer-blocks .ensures .0)
 
   -- the open that waits is there to be granted
-  waiter-there : file-then .entry .waiter < start tested .args .sizes .clients
-  waiter-there =
+  waiter-below : file-then .entry .waiter < start tested .args .sizes .clients
+  waiter-below =
       let a = start tested .args in
       let same : file-then .entry .waiter ≡ file tested .entry .waiter =
       ap (λ (e : Entry). e .waiter) (q .before .before .before .answered .ensures) ∙ ap (λ (e : Entry). e .waiter) (loaded tested) in
       omega (
         arith,
         same,
-        someone-waits (a .sizes) (a .recovering) (file tested) (stores tested) (a .client) (a .file) (tested .answer-refusal .result)
-            (tests-of tested) none,
+        waiter-there (a .sizes) (a .embargoed) (a .recovering) (file tested) (stores tested) (a .client) (a .file)
+            (tested .answer-refusal .result) (tests-of tested) none,
       )
 
-calls-out-requires : tie.Need-calls-out-requires
-calls-out-requires c κs = start (tested c) .pre .0 .clients
-
-returns-2 : tie.Need-returns-2
-returns-2 c =
-    let counted = c .before in
-    let q = counted .before in
-    let p = tested q in
-    let a = start p .args in
-    holds-as
-    (answer-waits (a .sizes) (a .recovering) (file p) (stores p) (a .client) (a .file) (p .answer-refusal .result) (tests-of p) (none q)
-    (kind q) (blocks-point q .answer-blocks .result) (counted .calls-out .result) (file-then q) (stores-left q .0)
-    (kind-of q) (file-left q) (stores-left q .1) (sent q) (counted .calls-out .ensures) (c .if2 .taken))
-    (record {
-      puts = stored q .1;
-      replyAfter = refl;
-      callsAfter = refl;
-      storesAfter = refl;
-      refused = not-refused (Answered (blocks-point q .answer-blocks .result)) refl;
-    })
-
-grant-requires : tie.Need-grant-requires
-grant-requires c κs = start (tested (c .before .before)) .pre .0 .clients
-
-grant-open-requires : tie.Need-grant-open-requires
-grant-open-requires c κs =
-    let side = c .before .before .before .before in
-    let q = side .before .before .before .before .before in
-    let s = start (tested q) in
-    let below : file-then q .entry .waiter < maxClients = omega (arith, waiter-there q, s .pre .0 .clients) in (
+grant-if-last-requires : tie.Need-grant-if-last-requires
+grant-if-last-requires c κs =
+    let q = c .before .before .before .before in
+    let s = start (tested q) in (
       s .pre .0,
       (
-        waiter-there q,
-        (
-          there (tested q) (none q) .1,
-          (
-            stored q .1 .long ∙ s .pre .1,
-            wrapped-side (stored q .0) (row (tested q)) (file-then q .entry .waiter) (side .side-of2 .result) below (side .side-of2 .ensures),
-          ),
-        ),
+        stored q .1 .long ∙ s .pre .1,
+        (there (tested q) (none q) .1, (waiter-below q, ap (λ (x : SharedFile). x .entry) (stored q .1 .here))),
       ),
     )
 
-returns-3 : tie.Need-returns-3
-returns-3 c =
-    let grant = c .before .before .before .before .before .before .before in
-    let else = grant .before in
-    let counted = else .before in
-    let q = counted .before in
+returns-2 : tie.Need-returns-2
+returns-2 c =
+    let q = c .before .before .before .before .before in
     let p = tested q in
     let a = start p .args in
-    let opener = file-then q .entry .waiter in
-    let reply = AnsweredGrant (blocks-point q .answer-blocks .result) opener (grant .grant .result) in
-    stored-before (stored q .1) refl
-    (holds-as
-    (answer-grants (a .sizes) (a .recovering) (file p) (stores p) (a .client) (a .file) (p .answer-refusal .result) (tests-of p) (none q)
-    (kind q) (blocks-point q .answer-blocks .result) (counted .calls-out .result) (file-then q) (stores-left q .0)
-    (kind-of q) (file-left q) (stores-left q .1) (sent q) (counted .calls-out .ensures)
-    (grant .grant .result) (else .if2 .left) (grant .grant .ensures)
-    ∙ ap
-    (λ (x : SharedFile).
-    granted (a .sizes) (a .file) x (stores-left q .0) opener (file-then q .entry .mode) (grant .grant .result) reply)
-    (sym (stored q .1 .here)))
-    (c .grant-open .ensures _ reply refl))
+    let told = blocks-point q .answer-blocks .result in
+    holds-as
+    (answer-done (a .sizes) (a .embargoed) (a .recovering) (file p) (stores p) (a .client) (a .file) (p .answer-refusal .result)
+    (tests-of p) (none q) (kind q) told (file-then q) (stores-left q .0) (kind-of q) (file-left q) (stores-left q .1) (sent q))
+    (answer-holds (a .sizes) (a .file) told (file-then q) (stores-left q .0) (stored q .1) (c .grant-if-last .ensures _))
 
 pub answer-spec : {M : Type 1} → statement M
 answer-spec =
@@ -282,14 +239,5 @@ answer-spec =
     answered-requires
     (λ c κs. tt)
     put-own-requires
-    calls-out-requires
-    returns-2
-    (λ c. omega arith)
-    grant-requires
-    (λ c. omega arith)
-    (λ c. omega arith)
-    (λ c. omega arith)
-    (λ c. omega arith)
-    (λ c κs. tt)
-    grant-open-requires
-    returns-3)
+    grant-if-last-requires
+    returns-2)

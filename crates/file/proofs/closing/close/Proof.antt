@@ -51,7 +51,7 @@ module _ (c : tie.After-close-refusal) where
   abbrev tests : ClientFile → List Test
   tests side =
       let a = start .args in
-      closeTests (a .sizes) (a .recovering) (file .entry) side (a .mode) (a .client) (a .file)
+      closeTests (a .sizes) (a .embargoed) (a .recovering) (file .entry) side (a .mode) (a .client) (a .file)
 
   tests-of : c .close-refusal .result ≡ firstOf (tests (sideOf (file .sides) (start .args .client)))
   tests-of =
@@ -74,7 +74,7 @@ returns c blocks copies held =
     let a = start p .args in
     let stores = lent blocks copies held (now (a .dirty)) in
     refused-holds (tests p (sideOf (file p .sides) (a .client))) _
-    (close-step (a .sizes) (a .recovering) (file p) stores (a .mode) (a .client) (a .file))
+    (close-step (a .sizes) (a .embargoed) (a .recovering) (file p) stores (a .mode) (a .client) (a .file))
     (tests-of p)
     (c .if1 .taken)
 
@@ -105,7 +105,7 @@ returns-2 c blocks copies held =
     holds-as
     (accepted (tests p (sideOf (file p .sides) (a .client))) (file p) stores
     (afterClose (a .sizes) (file p) stores (a .mode) (a .client) (a .file))
-    (close-step (a .sizes) (a .recovering) (file p) stores (a .mode) (a .client) (a .file))
+    (close-step (a .sizes) (a .embargoed) (a .recovering) (file p) stores (a .mode) (a .client) (a .file))
     (tests-of p)
     (at .before .if1 .left))
     (record {

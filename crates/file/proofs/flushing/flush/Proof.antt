@@ -49,12 +49,12 @@ module _ (c : tie.After-flush-refusal) (held : List Bool) where
   abbrev tests : List Test
   tests =
       let a = start .args in
-      flushTests (a .sizes) (a .recovering) (dirtyIn stores (a .client) (a .file) (a .block)) (a .client) (a .file) (a .block)
+      flushTests (a .sizes) (a .embargoed) (a .recovering) (dirtyIn stores (a .client) (a .file) (a .block)) (a .client) (a .file) (a .block)
 
   tests-of : c .flush-refusal .result ≡ firstOf tests
   tests-of =
       let a = start .args in
-      rw (← flush-tests (a .sizes) (a .recovering) (now (a .dirty)) (a .client) (a .file) (a .block) (start .pre .0))
+      rw (← flush-tests (a .sizes) (a .embargoed) (a .recovering) (now (a .dirty)) (a .client) (a .file) (a .block) (start .pre .0))
       (rw (← c .before .before .cell-of .ensures .0) (c .flush-refusal .ensures))
 
   there :
@@ -74,7 +74,7 @@ returns c held =
     let p = c .before in
     let a = start p held .args in
     refused-holds (tests p held) _
-    (flush-step (a .sizes) (a .recovering) (file p held) (stores p held) (a .client) (a .file) (a .block))
+    (flush-step (a .sizes) (a .embargoed) (a .recovering) (file p held) (stores p held) (a .client) (a .file) (a .block))
     (tests-of p held)
     (c .if1 .taken)
 
@@ -107,7 +107,7 @@ returns-2 c held =
     holds-as
     (accepted (tests p held) (file p held) (stores p held)
     (afterFlush (a .sizes) (file p held) (stores p held) (a .client) (a .file) (a .block))
-    (flush-step (a .sizes) (a .recovering) (file p held) (stores p held) (a .client) (a .file) (a .block))
+    (flush-step (a .sizes) (a .embargoed) (a .recovering) (file p held) (stores p held) (a .client) (a .file) (a .block))
     (tests-of p held)
     (done .if1 .left))
     (record {

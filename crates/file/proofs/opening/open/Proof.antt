@@ -48,14 +48,14 @@ module _ (p : tie.After-open-refusal) where
   abbrev tests : ClientFile → List Test
   tests own =
       let a = start .args in
-      openTests (a .sizes) (a .recovering) (file .entry) own (a .mode) (a .client) (a .file)
+      openTests (a .sizes) (a .embargoed) (a .recovering) (file .entry) own (a .mode) (a .client) (a .file)
 
   tests-of : p .open-refusal .result ≡ firstOf (tests (sideOf (file .sides) (start .args .client)))
   tests-of =
       let a = start .args in
       let own = p .before .side-of .result in
       p .open-refusal .ensures
-      ∙ ap (λ (e : Entry). firstOf (openTests (a .sizes) (a .recovering) e own (a .mode) (a .client) (a .file))) loaded
+      ∙ ap (λ (e : Entry). firstOf (openTests (a .sizes) (a .embargoed) (a .recovering) e own (a .mode) (a .client) (a .file))) loaded
       ∙ wrapped-tests (a .sizes) table row (a .client) own (λ own. later (tests own)) (start .pre .0) (p .before .side-of .ensures)
 
   there : p .open-refusal .result ≡ 0 → (start .args .client < start .args .sizes .clients) × (start .args .file < start .args .sizes .files)
@@ -81,7 +81,7 @@ returns c blocks =
     let p = c .before in
     let a = start p .args in
     refused-holds (tests p (sideOf (file p .sides) (a .client))) _
-    (open-step (a .sizes) (a .recovering) (file p) (stores p blocks) (a .mode) (a .client) (a .file))
+    (open-step (a .sizes) (a .embargoed) (a .recovering) (file p) (stores p blocks) (a .mode) (a .client) (a .file))
     (tests-of p)
     (c .if1 .taken)
 
@@ -105,7 +105,7 @@ returns-2 c blocks =
     let p = else .before in
     let a = start p .args in
     holds-as
-    (open-granted (a .sizes) (a .recovering) (file p) (stores p blocks) (a .mode) (a .client) (a .file)
+    (open-granted (a .sizes) (a .embargoed) (a .recovering) (file p) (stores p blocks) (a .mode) (a .client) (a .file)
     (p .open-refusal .result) (due .calls-due .result) (count .count-calls .result) (start p .pre .0 .clients) (tests-of p) (else .if1 .left)
     (due-of due) (count .count-calls .ensures) (grant .grant .result) (then .if2 .taken)
     (grant .grant .ensures ∙ ap (λ (e : Entry). grantOf (a .sizes .clients) e (a .client) (a .mode)) (loaded p)))
@@ -144,7 +144,7 @@ returns-3 c blocks =
     let p = else .before in
     let a = start p .args in
     holds-as
-    (open-waits (a .sizes) (a .recovering) (file p) (stores p blocks) (a .mode) (a .client) (a .file)
+    (open-waits (a .sizes) (a .embargoed) (a .recovering) (file p) (stores p blocks) (a .mode) (a .client) (a .file)
     (p .open-refusal .result) (due .calls-due .result) (count .count-calls .result) (start p .pre .0 .clients) (tests-of p) (else .if1 .left)
     (due-of due) (count .count-calls .ensures) (test .if2 .left))
     (record {

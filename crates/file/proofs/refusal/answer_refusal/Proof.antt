@@ -13,4 +13,5 @@ answer-refusal-spec =
     (search needs)
     (search needs)
     (search needs)
+    (search needs)
     (λ c. cc))

@@ -4,4 +4,4 @@ use Rattle.file.proofs.refusal.close_refusal.Statement.{statement}
 use Rattle.file.proofs.refusal.close_refusal.Tie as tie
 
 pub close-refusal-spec : {M : Type 1} → statement M
-close-refusal-spec = tie.close (tie.spec (search needs) (search needs) (search needs) (search needs) (search needs) (search needs) (λ c e is. cc))
+close-refusal-spec = tie.close (tie.spec (search needs) (search needs) (search needs) (search needs) (search needs) (search needs) (search needs) (λ c e is. cc))

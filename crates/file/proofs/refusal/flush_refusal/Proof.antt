@@ -12,4 +12,5 @@ flush-refusal-spec =
     (search needs)
     (search needs)
     (search needs)
+    (search needs)
     (λ c. cc))

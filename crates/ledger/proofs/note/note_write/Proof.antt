@@ -18,7 +18,7 @@ returns c =
     let held = found .before .before .before in
     let a = held .before .args in
     put-changed (a .at % maxPlaces) (entered (now (a .written)) (now (a .writers)) [] []) _
-    (wroteLines (a .line) (a .client % maxClients) (a .delayed)) _ _
+    (wroteLines (a .line) (a .client % maxClients) (a .aside) (a .delayed)) _ _
     (found .lines-in .ensures) (wrote .wrote .ensures) (c .put-lines .ensures)
     ∙ sym (when _ _ (held .if1 .taken))
 

@@ -64,10 +64,19 @@ enum-known-step-5 c = search needs
 put-restarts-requires : tie.Need-put-restarts-requires
 put-restarts-requires c κs = search needs
 
+enum-told-6 : tie.Need-enum-told-6
+enum-told-6 c = search needs
+
+enum-known-step-6 : tie.Need-enum-known-step-6
+enum-known-step-6 c = search needs
+
+put-lifts-requires : tie.Need-put-lifts-requires
+put-lifts-requires c κs = search needs
+
 returns : tie.Need-returns
 returns c =
     let start = c .before .before .before in (
-      wrote-as (ap (doneText (start .args .caching)) (sym (c .enum-told .given .1))) (wrote-none _ _ (omega arith)),
+      wrote-as (ap (doneText (start .args .caching) (start .args .aside) (start .args .embargo)) (sym (c .enum-told .given .1))) (wrote-none _ _ (omega arith)),
       search needs,
     )
 
@@ -79,7 +88,7 @@ returns-2 c =
     let first = c .before .before in
     let start = first .before .before .before .before .before .before in
     let test = first .before .before .before in (
-      wrote-as (ap (doneText (start .args .caching)) (sym (test .step .given .1)))
+      wrote-as (ap (doneText (start .args .caching) (start .args .aside) (start .args .embargo)) (sym (test .step .given .1)))
           (first .put-close .ensures .0),
       search needs,
     )
@@ -87,7 +96,7 @@ returns-2 c =
 returns-3 : tie.Need-returns-3
 returns-3 c =
     let start = c .before .before .before in (
-      wrote-as (ap (doneText (start .args .caching)) (sym (c .enum-told2 .given .1))) (wrote-none _ _ (omega arith)),
+      wrote-as (ap (doneText (start .args .caching) (start .args .aside) (start .args .embargo)) (sym (c .enum-told2 .given .1))) (wrote-none _ _ (omega arith)),
       search needs,
     )
 
@@ -99,7 +108,7 @@ returns-4 c =
     let first = c .before .before in
     let start = first .before .before .before .before .before .before in
     let test = first .before .before .before in (
-      wrote-as (ap (doneText (start .args .caching)) (sym (test .step2 .given .1)))
+      wrote-as (ap (doneText (start .args .caching) (start .args .aside) (start .args .embargo)) (sym (test .step2 .given .1)))
           (first .put-write .ensures .0),
       search needs,
     )
@@ -112,7 +121,7 @@ returns-5 c =
     let first = c .before .before in
     let start = first .before .before .before .before .before .before in
     let test = first .before .before .before in (
-      wrote-as (ap (doneText (start .args .caching)) (sym (test .step3 .given .1)))
+      wrote-as (ap (doneText (start .args .caching) (start .args .aside) (start .args .embargo)) (sym (test .step3 .given .1)))
           (first .put-flush .ensures .0),
       search needs,
     )
@@ -120,7 +129,7 @@ returns-5 c =
 returns-6 : tie.Need-returns-6
 returns-6 c =
     let start = c .before .before .before in (
-      wrote-as (ap (doneText (start .args .caching)) (sym (c .enum-told3 .given .1))) (wrote-none _ _ (omega arith)),
+      wrote-as (ap (doneText (start .args .caching) (start .args .aside) (start .args .embargo)) (sym (c .enum-told3 .given .1))) (wrote-none _ _ (omega arith)),
       search needs,
     )
 
@@ -132,7 +141,7 @@ returns-7 c =
     let first = c .before .before in
     let start = first .before .before .before .before .before .before in
     let test = first .before .before .before in (
-      wrote-as (ap (doneText (start .args .caching)) (sym (test .enum-told4 .given .1)))
+      wrote-as (ap (doneText (start .args .caching) (start .args .aside) (start .args .embargo)) (sym (test .enum-told4 .given .1)))
           (first .put-text .ensures .0),
       search needs,
     )
@@ -145,7 +154,7 @@ returns-8 c =
     let first = c .before .before in
     let start = first .before .before .before .before .before .before in
     let test = first .before .before .before in (
-      wrote-as (ap (doneText (start .args .caching)) (sym (test .step4 .given .1)))
+      wrote-as (ap (doneText (start .args .caching) (start .args .aside) (start .args .embargo)) (sym (test .step4 .given .1)))
           (first .put-report .ensures .0),
       search needs,
     )
@@ -158,7 +167,7 @@ returns-9 c =
     let first = c .before .before in
     let start = first .before .before .before .before .before .before in
     let test = first .before .before .before in (
-      wrote-as (ap (doneText (start .args .caching)) (sym (test .enum-told5 .given .1)))
+      wrote-as (ap (doneText (start .args .caching) (start .args .aside) (start .args .embargo)) (sym (test .enum-told5 .given .1)))
           (first .put-text2 .ensures .0),
       search needs,
     )
@@ -171,8 +180,29 @@ returns-10 c =
     let first = c .before .before in
     let start = first .before .before .before .before .before .before in
     let test = first .before .before .before in (
-      wrote-as (ap (doneText (start .args .caching)) (sym (test .step5 .given .1)))
+      wrote-as (ap (doneText (start .args .caching) (start .args .aside) (start .args .embargo)) (sym (test .step5 .given .1)))
           (first .put-restarts .ensures .0),
+      search needs,
+    )
+
+returns-11 : tie.Need-returns-11
+returns-11 c =
+    let start = c .before .before .before in (
+      wrote-as (ap (doneText (start .args .caching) (start .args .aside) (start .args .embargo)) (sym (c .enum-told6 .given .1)))
+          (wrote-none _ _ (omega arith)),
+      search needs,
+    )
+
+same-length-8 : tie.Need-same-length-8
+same-length-8 c = search needs
+
+returns-12 : tie.Need-returns-12
+returns-12 c =
+    let first = c .before .before in
+    let start = first .before .before .before .before .before .before in
+    let test = first .before .before .before in (
+      wrote-as (ap (doneText (start .args .caching) (start .args .aside) (start .args .embargo)) (sym (test .step6 .given .1)))
+          (first .put-lifts .ensures .0),
       search needs,
     )
 
@@ -199,6 +229,9 @@ put-done-spec =
     put-text-requires-2
     enum-known-step-5
     put-restarts-requires
+    enum-told-6
+    enum-known-step-6
+    put-lifts-requires
     returns
     same-length
     returns-2
@@ -215,4 +248,7 @@ put-done-spec =
     same-length-6
     returns-9
     same-length-7
-    returns-10)
+    returns-10
+    returns-11
+    same-length-8
+    returns-12)

@@ -19,19 +19,24 @@ put-block-requires c κs = search needs
 put-goal-requires : tie.Need-put-goal-requires
 put-goal-requires c κs = search needs
 
+put-wasted-requires : tie.Need-put-wasted-requires
+put-wasted-requires c κs = search needs
+
 same-length : tie.Need-same-length
 same-length c = search needs
 
 returns : tie.Need-returns
 returns c =
-    let fourth = c .before .before in
+    let fifth = c .before .before in
+    let fourth = fifth .before .before .before .before in
     let third = fourth .before .before .before .before in
     let second = third .before .before .before .before in
     let first = second .before .before .before .before .before in (
       wrote-then (first .put-client .ensures .0)
           (wrote-then (second .put-text .ensures .0)
           (wrote-then (third .put-block .ensures .0)
-          (fourth .put-goal .ensures .0))),
+          (wrote-then (fourth .put-goal .ensures .0)
+          (fifth .put-wasted .ensures .0)))),
       search needs,
     )
 
@@ -44,5 +49,6 @@ put-write-spec =
     put-text-requires
     put-block-requires
     put-goal-requires
+    put-wasted-requires
     same-length
     returns)

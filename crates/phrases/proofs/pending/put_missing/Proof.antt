@@ -4,7 +4,7 @@ use mathlib.Core.Bool.{false, not}
 use native.Mathlib.Omega.{arith}
 use lib.ListN.{getD, replicate}
 use borrow.Author.Needs.{needs}
-use Rattle.table.specs.TableStep.{isReported}
+use Rattle.table.specs.TableStep.{isHeard}
 use Rattle.phrases.specs.Phrase.{listText}
 use Rattle.writer.proofs.Buffers.{wrote-as, wrote-then}
 use Rattle.phrases.proofs.Lists.{list-of-flags}
@@ -17,8 +17,8 @@ slice-aggregate-put-text c = search needs
 put-text-requires : tie.Need-put-text-requires
 put-text-requires c κs = search needs
 
-not-reported-requires : tie.Need-not-reported-requires
-not-reported-requires c κs = search needs
+not-heard-requires : tie.Need-not-heard-requires
+not-heard-requires c κs = search needs
 
 put-list-requires : tie.Need-put-list-requires
 put-list-requires c κs = search needs
@@ -33,8 +33,8 @@ returns c =
     let start = first .before .before .before .before in
     let n = start .args .clients in
     let flags =
-    ap (λ l. listText n (λ k. getD l k false)) (second .before .before .not-reported .ensures)
-    ∙ list-of-flags n (λ k. not (isReported (start .args .reported) k))
+    ap (λ l. listText n (λ k. getD l k false)) (second .before .before .not-heard .ensures)
+    ∙ list-of-flags n (λ k. not (isHeard (start .args .reported) (start .args .embargoed) k))
     (replicate 8 false) (omega arith) in (
       wrote-then (first .put-text .ensures .0) (wrote-as flags (second .put-list .ensures .0)),
       search needs,
@@ -46,7 +46,7 @@ put-missing-spec =
     (tie.spec
     slice-aggregate-put-text
     put-text-requires
-    not-reported-requires
+    not-heard-requires
     put-list-requires
     same-length
     returns)

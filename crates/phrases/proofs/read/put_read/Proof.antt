@@ -19,8 +19,8 @@ put-block-requires c κs = search needs
 put-source-requires : tie.Need-put-source-requires
 put-source-requires c κs = search needs
 
-put-origin-requires : tie.Need-put-origin-requires
-put-origin-requires c κs = search needs
+put-worth-requires : tie.Need-put-worth-requires
+put-worth-requires c κs = search needs
 
 same-length : tie.Need-same-length
 same-length c = search needs
@@ -36,7 +36,7 @@ returns c =
           (wrote-then (second .put-text .ensures .0)
           (wrote-then (third .put-block .ensures .0)
           (wrote-then (fourth .put-source .ensures .0)
-          (fifth .put-origin .ensures .0)))),
+          (fifth .put-worth .ensures .0)))),
       search needs,
     )
 
@@ -49,6 +49,6 @@ put-read-spec =
     put-text-requires
     put-block-requires
     put-source-requires
-    put-origin-requires
+    put-worth-requires
     same-length
     returns)

@@ -43,6 +43,12 @@ enum-told-8 c = search needs
 enum-told-9 : tie.Need-enum-told-9
 enum-told-9 c = search needs
 
+enum-told-10 : tie.Need-enum-told-10
+enum-told-10 c = search needs
+
+enum-told-11 : tie.Need-enum-told-11
+enum-told-11 c = search needs
+
 returns : tie.Need-returns
 returns c = (
   wrote-as (ap neededText (sym (c .enum-told .given .1))) (wrote-none _ _ (omega arith)),
@@ -113,6 +119,18 @@ returns-10 c = (
   search needs,
 )
 
+returns-11 : tie.Need-returns-11
+returns-11 c = (
+  wrote-as (ap neededText (sym (c .enum-told10 .given .1))) (wrote-none _ _ (omega arith)),
+  search needs,
+)
+
+returns-12 : tie.Need-returns-12
+returns-12 c = (
+  wrote-as (ap neededText (sym (c .enum-told11 .given .1))) (wrote-none _ _ (omega arith)),
+  search needs,
+)
+
 pub put-needed-spec : {M : Type 1} → statement M
 put-needed-spec =
     tie.close
@@ -129,6 +147,8 @@ put-needed-spec =
     enum-told-7
     enum-told-8
     enum-told-9
+    enum-told-10
+    enum-told-11
     returns
     same-length
     returns-2
@@ -140,4 +160,6 @@ put-needed-spec =
     returns-7
     returns-8
     returns-9
-    returns-10)
+    returns-10
+    returns-11
+    returns-12)

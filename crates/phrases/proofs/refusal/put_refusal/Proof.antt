@@ -8,7 +8,7 @@ use borrow.Author.Needs.{needs}
 use borrow.Author.Tests.{ne-eqb}
 use Rattle.protocol.specs.declared.step.Numbers.{Numbers}
 use Rattle.protocol.specs.Step.{numbersOf, modeOf}
-use Rattle.phrases.specs.Phrase.{clientText}
+use Rattle.phrases.specs.Phrase.{clientText, embargoText}
 use Rattle.phrases.specs.Refusal.{noClientText, noFileText, noBlockText, openWaitsText, noCallText, notOpenText}
 use Rattle.phrases.specs.Refusal.{countFullText, notDirtyText, versionSpentText, refusalText}
 use Rattle.stepfile.specs.Text.{bytes}
@@ -22,7 +22,7 @@ module _ (c : tie.After-asked) where
   abbrev text : ℕ → List ℕ
   text k =
       let a = c .before .before .args in
-      refusalText (a .sizes) (a .reported) (a .entry) (a .since) (a .step) k
+      refusalText (a .sizes) (a .reported) (a .embargoed) (a .entry) (a .since) (a .embargo) (a .step) k
 
   named : (t : Numbers → List ℕ) → t (c .asked .result) ≡ t (numbersOf (c .before .before .args .step))
   named t = ap t (c .asked .ensures)
@@ -142,23 +142,46 @@ returns-13 c =
 
 returns-14 : tie.Need-returns-14
 returns-14 c =
+    let test = c .before .before .before .before in
+    let embargo = test .before .before .before .args .embargo in (
+      wrote-as
+          (named (test .before) (λ q. clientText (q .client) ++ embargoText embargo)
+          ∙ ap (text (test .before)) (sym (test .match .keys14)))
+          (c .before .before .put-aside .ensures .0),
+      search needs,
+    )
+
+returns-15 : tie.Need-returns-15
+returns-15 c =
+    let test = c .before .before .before .before in (
+      wrote-as
+          (named (test .before) (λ q. clientText (q .client) ++ bytes " is not under embargo")
+          ∙ ap (text (test .before)) (sym (test .match .keys15)))
+          (c .before .before .put-not-aside .ensures .0),
+      search needs,
+    )
+
+returns-16 : tie.Need-returns-16
+returns-16 c =
     let a = c .before .before .before .args in
     let r = c .match .rest in
     let no =
-    no-such (a .sizes) (a .reported) (a .entry) (a .since) (a .step) (a .number)
-    (ne-eqb _ 2 (r .0 .0 .0 .0 .0 .0 .0 .0 .0 .0 .0 .0 .1))
-    (ne-eqb _ 3 (r .0 .0 .0 .0 .0 .0 .0 .0 .0 .0 .0 .1))
-    (ne-eqb _ 4 (r .0 .0 .0 .0 .0 .0 .0 .0 .0 .0 .1))
-    (ne-eqb _ 5 (r .0 .0 .0 .0 .0 .0 .0 .0 .0 .1))
-    (ne-eqb _ 6 (r .0 .0 .0 .0 .0 .0 .0 .0 .1))
-    (ne-eqb _ 7 (r .0 .0 .0 .0 .0 .0 .0 .1))
-    (ne-eqb _ 8 (r .0 .0 .0 .0 .0 .0 .1))
-    (ne-eqb _ 9 (r .0 .0 .0 .0 .0 .1))
-    (ne-eqb _ 10 (r .0 .0 .0 .0 .1))
-    (ne-eqb _ 11 (r .0 .0 .0 .1))
-    (ne-eqb _ 12 (r .0 .0 .1))
-    (ne-eqb _ 13 (r .0 .1))
-    (ne-eqb _ 14 (r .1)) in
+    no-such (a .sizes) (a .reported) (a .embargoed) (a .entry) (a .since) (a .embargo) (a .step) (a .number)
+    (ne-eqb _ 2 (r .0 .0 .0 .0 .0 .0 .0 .0 .0 .0 .0 .0 .0 .0 .1))
+    (ne-eqb _ 3 (r .0 .0 .0 .0 .0 .0 .0 .0 .0 .0 .0 .0 .0 .1))
+    (ne-eqb _ 4 (r .0 .0 .0 .0 .0 .0 .0 .0 .0 .0 .0 .0 .1))
+    (ne-eqb _ 5 (r .0 .0 .0 .0 .0 .0 .0 .0 .0 .0 .0 .1))
+    (ne-eqb _ 6 (r .0 .0 .0 .0 .0 .0 .0 .0 .0 .0 .1))
+    (ne-eqb _ 7 (r .0 .0 .0 .0 .0 .0 .0 .0 .0 .1))
+    (ne-eqb _ 8 (r .0 .0 .0 .0 .0 .0 .0 .0 .1))
+    (ne-eqb _ 9 (r .0 .0 .0 .0 .0 .0 .0 .1))
+    (ne-eqb _ 10 (r .0 .0 .0 .0 .0 .0 .1))
+    (ne-eqb _ 11 (r .0 .0 .0 .0 .0 .1))
+    (ne-eqb _ 12 (r .0 .0 .0 .0 .1))
+    (ne-eqb _ 13 (r .0 .0 .0 .1))
+    (ne-eqb _ 14 (r .0 .0 .1))
+    (ne-eqb _ 20 (r .0 .1))
+    (ne-eqb _ 21 (r .1)) in
     (wrote-as (sym no) (wrote-none _ _ (omega arith)), search needs)
 
 pub put-refusal-spec : {M : Type 1} → statement M
@@ -166,6 +189,8 @@ put-refusal-spec =
     tie.close
     (tie.spec
     (λ c κs. tt)
+    (search needs)
+    (search needs)
     (search needs)
     (search needs)
     (search needs)
@@ -207,4 +232,8 @@ put-refusal-spec =
     returns-12
     (search needs)
     returns-13
-    returns-14)
+    (search needs)
+    returns-14
+    (search needs)
+    returns-15
+    returns-16)

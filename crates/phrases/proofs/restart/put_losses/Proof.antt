@@ -1,23 +1,30 @@
 -- `put_losses` meets its contract: after so many files their losses are told. Assumes nothing.
 use Prim.Native.Nat.{ℕ, _+_, _-_, _*_, _≤_}
 use mathlib.Core.Path.{_≡_, refl, sym, _∙_, ap}
+use mathlib.Core.Bool.{Bool}
 use mathlib.Core.List.{List, []}
-use native.Mathlib.Numerals.{add-one}
 use native.Mathlib.Omega.{arith}
 use denote.Ref.{now}
 use lib.ListN.{length}
 use borrow.Author.Needs.{needs}
-use Rattle.ledger.specs.Ledger.{entered, linesAt}
+use Rattle.ledger.specs.Ledger.{entered, linesAt, risksIn}
 use Rattle.writer.specs.Buffer.{Wrote}
 use Rattle.writer.proofs.Buffers.{wrote-none, wrote-then, wrote-as}
 use Rattle.phrases.specs.Accepted.{lossesBelow}
-use Rattle.phrases.proofs.Losses.{below-none, below-next, none-lost, some-lost}
+use Rattle.phrases.proofs.Losses.{below-none, below-more, none-lost, some-lost}
 use Rattle.phrases.proofs.restart.put_losses.Statement.{statement}
 use Rattle.phrases.proofs.restart.put_losses.Tie as tie
 
+-- which writes are at risk, and their lines
+abbrev atRisk : List ℕ → List ℕ → ℕ → ℕ → ℕ → Bool
+atRisk written writers i f b = risksIn i (linesAt (entered written writers [] []) f b)
+
+abbrev lineOf : List ℕ → List ℕ → ℕ → ℕ → ℕ
+lineOf written writers f b = linesAt (entered written writers [] []) f b .risk
+
 abbrev Inv-loop : tie.InvT-loop
 Inv-loop out₀ at files blocks client written writers next₀ file₀ t10 out next file =
-    Wrote out₀ at (lossesBelow (linesAt (entered written writers [] [])) client blocks file) out next
+    Wrote out₀ at (lossesBelow (atRisk written writers client) (lineOf written writers) blocks file) out next
     × (file ≤ files)
     × (next ≤ at + 664 * file)
     × (length out ≡ length out₀)
@@ -36,7 +43,8 @@ module _ (c : tie.At-loop Inv-loop μ-loop) where
   abbrev told : ℕ → List ℕ
   told k =
       let a = c .before .before .args in
-      lossesBelow (linesAt (entered (now (a .written)) (now (a .writers)) [] [])) (a .client) (a .blocks) k
+      lossesBelow (atRisk (now (a .written)) (now (a .writers)) (a .client))
+      (lineOf (now (a .written)) (now (a .writers))) (a .blocks) k
 
 loop-again : tie.Need-loop-again Inv-loop μ-loop
 loop-again c =
@@ -44,7 +52,7 @@ loop-again c =
     let at-loop = put .before .before .before in
     let inv = at-loop .loop .inv in
     let file : ℕ = at-loop .loop .file in (
-      wrote-as (sym (below-next _ _ _ file) ∙ ap (told at-loop) (sym (add-one file)))
+      wrote-as (below-more _ _ _ file)
           (put .put-losses-on .ensures .0 _ (told at-loop file) (inv .0)),
       search needs,
       search needs,

@@ -1,9 +1,8 @@
 -- `put_losses_on` meets its contract: after so many blocks their losses are told. Assumes nothing.
 use Prim.Native.Nat.{ℕ, _+_, _-_, _*_, _≤_}
 use mathlib.Core.Path.{_≡_, refl, sym, _∙_, ap}
-use mathlib.Core.Bool.{Bool, cond}
+use mathlib.Core.Bool.{Bool}
 use mathlib.Core.List.{List, []}
-use native.Mathlib.Numerals.{add-one}
 use native.Mathlib.Omega.{arith}
 use denote.Ref.{now}
 use lib.ListN.{length}
@@ -13,15 +12,22 @@ use Rattle.ledger.specs.declared.lines.Lines.{Lines}
 use Rattle.ledger.specs.Ledger.{entered, linesAt, risksIn}
 use Rattle.writer.specs.Buffer.{Wrote}
 use Rattle.writer.proofs.Buffers.{wrote-as}
-use Rattle.phrases.specs.Accepted.{lossText, nextText, lossesOn}
-use Rattle.phrases.proofs.Losses.{on-none, on-next, lines-placed}
+use Rattle.phrases.specs.Accepted.{lossesOn}
+use Rattle.phrases.proofs.Losses.{on-none, on-more, lines-placed}
 use Rattle.phrases.proofs.restart.put_losses_on.Statement.{statement}
 use Rattle.phrases.proofs.restart.put_losses_on.Tie as tie
+
+-- which writes are at risk, and their lines
+abbrev atRisk : List ℕ → List ℕ → ℕ → ℕ → ℕ → Bool
+atRisk written writers i f b = risksIn i (linesAt (entered written writers [] []) f b)
+
+abbrev lineOf : List ℕ → List ℕ → ℕ → ℕ → ℕ
+lineOf written writers f b = linesAt (entered written writers [] []) f b .risk
 
 abbrev Inv-loop : tie.InvT-loop
 Inv-loop out₀ start at file blocks client written writers next₀ block₀ out next block =
     ((d told : List ℕ) → Wrote d start told out₀ at
-    → Wrote d start (lossesOn (linesAt (entered written writers [] [])) client file block told) out next)
+    → Wrote d start (lossesOn (atRisk written writers client) (lineOf written writers) file block told) out next)
     × (block ≤ blocks)
     × (next ≤ at + 83 * block)
     × (length out ≡ length out₀)
@@ -35,20 +41,6 @@ loop-holds c = (λ d told before. wrote-as (sym (on-none _ _ _ told)) before, se
 put-loss-if-requires : tie.Need-put-loss-if-requires Inv-loop μ-loop
 put-loss-if-requires c κs = omega arith
 
--- one more block: its lines say whether a write of the client is at risk, and which
-one-more :
-    (l : Ledger) (i f b : ℕ) (told : List ℕ) (x : Lines) (lost : Bool)
-    → x ≡ linesAt l f b
-    → lost ≡ risksIn i x
-    → cond lost (nextText (lossesOn (linesAt l) i f b told) (lossText f b (x .risk))) (lossesOn (linesAt l) i f b told)
-    ≡ lossesOn (linesAt l) i f (b + 1) told
-one-more l i f b told x lost is risks =
-    let so-far = lossesOn (linesAt l) i f b told in
-    ap (λ (t : Bool). cond t (nextText so-far (lossText f b (x .risk))) so-far) risks
-    ∙ ap (λ (y : Lines). cond (risksIn i y) (nextText so-far (lossText f b (y .risk))) so-far) is
-    ∙ sym (on-next (linesAt l) i f b told)
-    ∙ ap (λ (k : ℕ). lossesOn (linesAt l) i f k told) (sym (add-one b))
-
 loop-again : tie.Need-loop-again Inv-loop μ-loop
 loop-again c =
     let put = c .before .before in
@@ -58,12 +50,14 @@ loop-again c =
     let inv = at-loop .loop .inv in
     let a = at-loop .before .before .args in
     let l : Ledger = entered (now (a .written)) (now (a .writers)) [] [] in
-    let b : ℕ = at-loop .loop .block in (
+    let b : ℕ = at-loop .loop .block in
+    let here = read .lines-in .ensures ∙ lines-placed l (a .file) b (omega arith) (omega arith) in (
       λ d told before.
           wrote-as
-          (one-more l (a .client) (a .file) b told _ _
-          (read .lines-in .ensures ∙ lines-placed l (a .file) b (omega arith) (omega arith))
-          (test .risks .ensures))
+          (on-more (atRisk (now (a .written)) (now (a .writers)) (a .client)) (lineOf (now (a .written)) (now (a .writers)))
+          (a .file) b told _ _
+          (test .risks .ensures ∙ ap (risksIn (a .client)) here)
+          (ap (λ (y : Lines). y .risk) here))
           (put .put-loss-if .ensures .0 d _ (inv .0 d told before)),
       search needs,
       search needs,
@@ -77,7 +71,11 @@ returns c =
     let all : at-loop .loop .block ≡ a .blocks = omega arith in (
       λ d told before.
           wrote-as
-          (ap (λ (k : ℕ). lossesOn (linesAt (entered (now (a .written)) (now (a .writers)) [] [])) (a .client) (a .file) k told) all)
+          (ap
+          (λ (k : ℕ).
+          lossesOn (atRisk (now (a .written)) (now (a .writers)) (a .client)) (lineOf (now (a .written)) (now (a .writers)))
+          (a .file) k told)
+          all)
           (at-loop .loop .inv .0 d told before),
       search needs,
     )

@@ -11,14 +11,14 @@ use Rattle.picture.proofs.picture.put_files.Statement.{statement}
 use Rattle.picture.proofs.picture.put_files.Tie as tie
 
 abbrev Inv-loop : tie.InvT-loop
-Inv-loop out₀ at sizes entries clients held dirty waiting next₀ file₀ out next file =
-    Wrote out₀ at (filesFrom sizes entries clients held dirty waiting file) out next
+Inv-loop out₀ at sizes entries clients held dirty since next₀ file₀ out next file =
+    Wrote out₀ at (filesFrom sizes entries clients held dirty since file) out next
     × (file ≤ sizes .files)
     × (next ≤ at + 4185 * file)
     × (length out ≡ length out₀)
 
 abbrev μ-loop : tie.MeasureT-loop
-μ-loop out₀ at sizes entries clients held dirty waiting next₀ file₀ out next file = sizes .files - file
+μ-loop out₀ at sizes entries clients held dirty since next₀ file₀ out next file = sizes .files - file
 
 in-force-requires : tie.Need-in-force-requires Inv-loop μ-loop
 in-force-requires c κs = search needs

@@ -12,10 +12,10 @@ use Rattle.picture.proofs.refused.count_given.Tie as tie
 
 abbrev Inv-loop : tie.InvT-loop
 Inv-loop counts given₀ which₀ given which =
-    Counted 20 (λ k. not (eqb (timesRefused counts k) 0)) given which
+    Counted 22 (λ k. not (eqb (timesRefused counts k) 0)) given which
 
 abbrev μ-loop : tie.MeasureT-loop
-μ-loop counts given₀ which₀ given which = 20 - which
+μ-loop counts given₀ which₀ given which = 22 - which
 
 loop-holds : tie.Need-loop-holds Inv-loop μ-loop
 loop-holds c =

@@ -27,7 +27,7 @@ returns : tie.Need-returns
 returns c =
     let at-put-byte = c .before .before in
     let at-put-missing = at-put-byte .before .before .before .before in
-    let at-put-text = at-put-missing .before .before .before .before .before in
+    let at-put-text = at-put-missing .before .before .before .before .before .before in
     let at-if1 = at-put-text .before .before .before in (
       wrote-as (ap (λ t. t ++ bytes "\n") (sym (when _ (bytes "the server runs") (at-if1 .if1 .taken))))
           (wrote-then (wrote-then (at-put-text .put-text .ensures .0) (at-put-missing .put-missing .ensures .0))

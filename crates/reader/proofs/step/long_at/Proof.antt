@@ -8,7 +8,7 @@ use lib.ListN.{length, drop}
 use borrow.Author.Needs.{needs}
 use denote.Ref.{now}
 use Rattle.stepfile.specs.Grammar.{found, onward, shapeOf, shaped, step}
-use Rattle.protocol.specs.declared.step.Step.the-variants.{Report, Restart}
+use Rattle.protocol.specs.declared.step.Step.the-variants.{Report, Restart, Lift}
 use Rattle.reader.proofs.Words.{step-short, step-word, step-unknown}
 use Rattle.reader.proofs.step.long_at.Statement.{statement}
 use Rattle.reader.proofs.step.long_at.Tie as tie
@@ -139,11 +139,29 @@ returns-14 c =
     ∙ ap (λ t. onward t (λ a rest. found (Restart a) rest)) (number .argument-at2 .ensures)
     ∙ c .restart-of .ensures _
 
+-- EM
 returns-15 : tie.Need-returns-15
+unfolding shapeOf
 returns-15 c =
+    let numbers = c .before in
+    word (numbers .before .before) 69 77 (lit< tt) (numbers .before .match .keys13)
+    ∙ numbers .pair-at6 .ensures _
+    ∙ c .embargo-of .ensures _
+
+-- LF
+returns-16 : tie.Need-returns-16
+unfolding shapeOf shaped
+returns-16 c =
+    let number = c .before in
+    word (number .before .before) 76 70 (lit< tt) (number .before .match .keys14)
+    ∙ ap (λ t. onward t (λ a rest. found (Lift a) rest)) (number .argument-at3 .ensures)
+    ∙ c .lift-of .ensures _
+
+returns-17 : tie.Need-returns-17
+returns-17 c =
     let r = c .match .rest in
     step-unknown (S (c .before)) (At (c .before)) _ (room (c .before)) (c .before .word-at .ensures)
-    (r .0 .0 .0 .0 .0 .0 .0 .0 .0 .0 .0 .1, (r .0 .0 .0 .0 .0 .0 .0 .0 .0 .0 .1, (r .0 .0 .0 .0 .0 .0 .0 .0 .0 .1, (r .0 .0 .0 .0 .0 .0 .0 .0 .1, (r .0 .0 .0 .0 .0 .0 .0 .1, (r .0 .0 .0 .0 .0 .0 .1, (r .0 .0 .0 .0 .0 .1, (r .0 .0 .0 .0 .1, (r .0 .0 .0 .1, (r .0 .0 .1, (r .0 .1, (r .1, tt))))))))))))
+    (r .0 .0 .0 .0 .0 .0 .0 .0 .0 .0 .0 .0 .0 .1, (r .0 .0 .0 .0 .0 .0 .0 .0 .0 .0 .0 .0 .1, (r .0 .0 .0 .0 .0 .0 .0 .0 .0 .0 .0 .1, (r .0 .0 .0 .0 .0 .0 .0 .0 .0 .0 .1, (r .0 .0 .0 .0 .0 .0 .0 .0 .0 .1, (r .0 .0 .0 .0 .0 .0 .0 .0 .1, (r .0 .0 .0 .0 .0 .0 .0 .1, (r .0 .0 .0 .0 .0 .0 .1, (r .0 .0 .0 .0 .0 .1, (r .0 .0 .0 .0 .1, (r .0 .0 .0 .1, (r .0 .0 .1, (r .0 .1, (r .1, tt))))))))))))))
 
 pub long-at-spec : {M : Type 1} → statement M
 long-at-spec =
@@ -152,6 +170,10 @@ long-at-spec =
     returns
     (search needs)
     returns-2
+    (search needs)
+    (search needs)
+    (search needs)
+    (search needs)
     (search needs)
     (search needs)
     (search needs)
@@ -186,4 +208,6 @@ long-at-spec =
     returns-12
     returns-13
     returns-14
-    returns-15)
+    returns-15
+    returns-16
+    returns-17)

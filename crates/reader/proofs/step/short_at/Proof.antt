@@ -119,13 +119,33 @@ returns-12 c there =
     word (number .before .before) 66 84 (lit< tt) (number .before .match .keys12)
     ∙ short-number _ _ _ there _ _ (number .digit-at2 .ensures .0) (c .restart-of .ensures _)
 
+-- EM
 returns-13 : tie.Need-returns-13
-returns-13 c there = absurd (there refl)
+unfolding shapeOf
+returns-13 c there =
+    let numbers = c .before in
+    word (numbers .before .before) 69 77 (lit< tt) (numbers .before .match .keys13)
+    ∙ short-pair _ _ _ there _ _ (numbers .short-pair-at6 .ensures .0) (c .embargo-of .ensures _)
+
+-- LF
+returns-14 : tie.Need-returns-14
+unfolding shapeOf
+returns-14 c there =
+    let number = c .before in
+    word (number .before .before) 76 70 (lit< tt) (number .before .match .keys14)
+    ∙ short-number _ _ _ there _ _ (number .digit-at3 .ensures .0) (c .lift-of .ensures _)
+
+returns-15 : tie.Need-returns-15
+returns-15 c there = absurd (there refl)
 
 pub short-at-spec : {M : Type 1} → statement M
 short-at-spec =
     tie.close
     (tie.spec
+    (search needs)
+    (search needs)
+    (search needs)
+    (search needs)
     (search needs)
     (search needs)
     (search needs)
@@ -160,4 +180,6 @@ short-at-spec =
     returns-10
     returns-11
     returns-12
-    returns-13)
+    returns-13
+    returns-14
+    returns-15)

@@ -7,8 +7,8 @@ use borrow.Author.Needs.{needs}
 use Rattle.restore.proofs.decoding.past_section.Statement.{statement}
 use Rattle.restore.proofs.decoding.past_section.Tie as tie
 
-module _ (width count : ℕ) (narrow : width ≤ 6) (few : count ≤ 65535) where
-  most : width * count ≤ 393210
+module _ (width count : ℕ) (narrow : width ≤ 10) (few : count ≤ 65535) where
+  most : width * count ≤ 655350
   most = mul-le-mul narrow few
 
 mul-result : tie.Need-mul-result

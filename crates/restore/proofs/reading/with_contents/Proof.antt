@@ -1,15 +1,16 @@
--- `with_contents` meets its contract: the versions and blocks change, and all else stays. Assumes nothing.
+-- `with_contents` meets its contract: the versions, blocks and embargoes change, and all else stays. Assumes nothing.
 use mathlib.Core.Path.{_∙_, ap}
 use denote.Ref.{now}
-use Rattle.restore.specs.Reading.{withVersions, withBlocks}
+use Rattle.restore.specs.Reading.{withVersions, withBlocks, withEmbargoes}
 use borrow.Author.Needs.{needs}
 use Rattle.restore.proofs.reading.with_contents.Statement.{statement}
 use Rattle.restore.proofs.reading.with_contents.Tie as tie
 
 returns : tie.Need-returns
 returns c =
-    let versions = c .before in
-    let force = versions .before .before .before .before .before .before .before .before .before .before in
+    let embargoes = c .before in
+    let versions = embargoes .before in
+    let force = versions .before .before .before .before .before .before .before .before .before .before .before in
     let a = force .before .before .args in
     let s = a .service in
     let files =
@@ -18,6 +19,9 @@ returns c =
     let blocks =
     c .with-blocks .ensures
     ∙ ap (λ z. withBlocks (z .files) (z .blocks) (now (a .blocks)) (s .server .blocks)) (force .in-force .ensures .0) in
+    let embargoed =
+    embargoes .with-embargoes .ensures
+    ∙ ap (λ z. withEmbargoes (z .clients) (a .embargoed) (s .server .table .embargoed)) (force .in-force .ensures .0) in
     λ k.
     record {
       sizes = s .sizes;
@@ -28,6 +32,7 @@ returns c =
                   files = files k;
                   recovering = s .server .table .recovering;
                   reported = s .server .table .reported;
+                  embargoed = embargoed k;
                 };
             blocks = blocks k;
           };
@@ -38,4 +43,4 @@ returns c =
     }
 
 pub with-contents-spec : {M : Type 1} → statement M
-with-contents-spec = tie.close (tie.spec (search needs) (search needs) (search needs) returns)
+with-contents-spec = tie.close (tie.spec (search needs) (search needs) (search needs) (search needs) returns)

@@ -1,14 +1,14 @@
--- `keep_before` meets its contract, by whether the step is a restart. Assumes nothing.
+-- `keep_before` meets its contract, by whether the step is one on all files. Assumes nothing.
 use Prim.Native.Nat.{ℕ, _+_, _*_, _%_}
 use mathlib.Core.Path.{_≡_, sym, _∙_, ap}
 use mathlib.Core.Bool.{Bool, true, false, cond}
 use mathlib.Core.List.{List}
 use native.Mathlib.Omega.{arith}
 use denote.Ref.{now}
-use lib.Dec.{eqb}
+use lib.Dec.{leb}
 use lib.ListN.{getD}
 use borrow.Author.Needs.{needs}
-use borrow.Author.Tests.{eq-eqb, ne-eqb}
+use borrow.Author.Tests.{le-leb, lt-leb}
 use Rattle.sizes.specs.Sizes.{maxFiles}
 use Rattle.decision.specs.Lists.{stored}
 use Rattle.words.specs.Rows.{rowWords, tableWords}
@@ -22,12 +22,12 @@ module _ (kind f : ℕ) (t before : List ℕ) where
   kept from words = stored words (λ k. from + k) (λ k. getD t (from + k) 0) before
 
   abbrev by-test : Bool → List ℕ
-  by-test restart = kept (cond restart 0 (f % maxFiles * rowWords)) (cond restart tableWords rowWords)
+  by-test all = kept (cond all 0 (f % maxFiles * rowWords)) (cond all tableWords rowWords)
 
-  whole : eqb kind 11 ≡ true → kept 0 tableWords ≡ keptBefore kind f t before
+  whole : leb 11 kind ≡ true → kept 0 tableWords ≡ keptBefore kind f t before
   whole e = sym (ap by-test e)
 
-  row : eqb kind 11 ≡ false → kept (f % maxFiles * rowWords) rowWords ≡ keptBefore kind f t before
+  row : leb 11 kind ≡ false → kept (f % maxFiles * rowWords) rowWords ≡ keptBefore kind f t before
   row e = sym (ap by-test e)
 
 keep-words-requires-2 : tie.Need-keep-words-requires-2
@@ -39,13 +39,13 @@ returns : tie.Need-returns
 returns c =
     let a = c .before .before .before .args in
     c .keep-words .ensures
-    ∙ whole (a .kind) (a .file) (now (a .table)) (now (a .before)) (eq-eqb _ 11 (c .before .before .if1 .taken))
+    ∙ whole (a .kind) (a .file) (now (a .table)) (now (a .before)) (le-leb 11 _ (c .before .before .if1 .taken))
 
 returns-2 : tie.Need-returns-2
 returns-2 c =
     let a = c .before .before .before .args in
     c .keep-words2 .ensures
-    ∙ row (a .kind) (a .file) (now (a .table)) (now (a .before)) (ne-eqb _ 11 (c .before .before .if1 .left))
+    ∙ row (a .kind) (a .file) (now (a .table)) (now (a .before)) (lt-leb 11 _ (c .before .before .if1 .left))
 
 pub keep-before-spec : {M : Type 1} → statement M
 keep-before-spec =

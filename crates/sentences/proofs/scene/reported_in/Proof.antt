@@ -1,8 +1,8 @@
--- `reported_in` meets its contract: the first eight of nine flags. Assumes nothing.
+-- `reported_in` meets its contract: the first eight flags. Assumes nothing.
 use denote.Ref.{now}
 use borrow.Author.Needs.{needs}
 use Rattle.words.specs.Rows.{listed}
-use Rattle.service.proofs.NineFlags.{flags-read}
+use Rattle.service.proofs.LentFlags.{flags-read}
 use Rattle.sentences.proofs.scene.reported_in.Statement.{statement}
 use Rattle.sentences.proofs.scene.reported_in.Tie as tie
 

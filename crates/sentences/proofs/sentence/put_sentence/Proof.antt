@@ -1,26 +1,30 @@
 -- `put_sentence` meets its contract, reply by reply. Assumes nothing.
-use Prim.Native.Nat.{ℕ, _%_, _<_}
+use Prim.Native.Nat.{ℕ, _+_, _%_, _<_}
 use mathlib.Core.Path.{_≡_, refl, sym, ap, _∙_}
-use mathlib.Core.List.{List, []}
+use mathlib.Core.List.{List, [], _++_}
 use native.Mathlib.Omega.{arith}
-use lib.ListN.{length}
+use lib.ListN.{length, getD}
 use denote.Ref.{now}
 use borrow.Author.Needs.{needs}
-use Rattle.sizes.specs.Sizes.{maxFiles}
+use borrow.Author.Tests.{eq-eqb, ne-eqb}
+use Rattle.sizes.specs.Sizes.{maxClients, maxFiles}
 use Rattle.protocol.specs.declared.entry.Entry.{Entry}
+use Rattle.protocol.specs.declared.reply.Grant.{Grant}
 use Rattle.protocol.specs.declared.reply.Reply.{Reply}
 use Rattle.protocol.specs.Client.{sideOf}
 use Rattle.protocol.specs.Step.{clientOf, fileOf, blockOf, modeOf}
 use Rattle.words.specs.Rows.{entryHeld, sidesHeld}
 use Rattle.ledger.specs.Ledger.{entered, linesAt}
+use Rattle.stepfile.specs.Text.{bytes}
 use Rattle.phrases.specs.Phrase.{modeByKind}
-use Rattle.phrases.specs.Accepted.{stillText}
-use Rattle.sentences.specs.Scene.{sceneHeld, wholeHeld}
+use Rattle.phrases.specs.Accepted.{grantText, answerText, stillText}
+use Rattle.sentences.specs.Scene.{sceneHeld, asideHeld, Whole, wholeHeld}
 use Rattle.sentences.specs.Explained.{saidOf}
 use Rattle.writer.proofs.Buffers.{wrote-as, wrote-then}
 use Rattle.phrases.proofs.Names.{mode-named}
 use Rattle.sentences.proofs.Names.{client-named, file-named, block-named}
 use Rattle.sentences.proofs.Names.{grant-as, wait-as, read-as, refusal-as, answer-as}
+use Rattle.sentences.proofs.Names.{done-as, an-embargo, no-embargo}
 use Rattle.sentences.proofs.sentence.put_sentence.Statement.{statement}
 use Rattle.sentences.proofs.sentence.put_sentence.Tie as tie
 
@@ -45,29 +49,99 @@ module _ (c : tie.After-asked) where
   entry-named : entryHeld before (c .asked .result .file % maxFiles) ≡ entryHeld before (fileOf (c .before .before .args .step) % maxFiles)
   entry-named = ap (λ (f : ℕ). entryHeld before (f % maxFiles)) file-is
 
+  -- whether the client is under embargo, and since which line
+  aside-named :
+      asideHeld (now (c .before .before .args .flags)) (c .asked .result .client)
+      ≡ asideHeld (now (c .before .before .args .flags)) (clientOf (c .before .before .args .step))
+  aside-named = ap (λ (i : ℕ). asideHeld (now (c .before .before .args .flags)) i) client-is
+
+  embargo-named :
+      getD (now (c .before .before .args .since)) (maxFiles + c .asked .result .client % maxClients) 0
+      ≡ getD (now (c .before .before .args .since)) (maxFiles + clientOf (c .before .before .args .step) % maxClients) 0
+  embargo-named = ap (λ (i : ℕ). getD (now (c .before .before .args .since)) (maxFiles + i % maxClients) 0) client-is
+
+  abbrev whole : Whole
+  whole =
+      let a = c .before .before .args in
+      wholeHeld (now (a .before)) (now (a .table)) (linesAt (entered (now (a .written)) (now (a .writers)) [] []))
+
   -- of the step that is answered so
   abbrev said : Reply → List ℕ
   said r =
       let a = c .before .before .args in
       saidOf (a .fresh)
-      (sceneHeld (a .sizes) (a .step) (now (a .before)) (now (a .table)) (now (a .flags)) (a .since) (a .told) (a .caching))
-      (wholeHeld (now (a .before)) (now (a .table)) (linesAt (entered (now (a .written)) (now (a .writers)) [] [])))
-      (a .step) (a .calls) r
+      (sceneHeld (a .sizes) (a .step) (now (a .before)) (now (a .table)) (now (a .flags)) (now (a .since)) (a .told) (a .caching))
+      whole (a .step) (a .calls) r
+
+  -- of an answer, without a grant and with one
+  abbrev answered : ℕ → List ℕ
+  answered n =
+      let a = c .before .before .args in
+      let f = fileOf (a .step) in
+      answerText n (clientOf (a .step)) f ++ stillText (a .sizes .clients) (entryHeld (now (a .table)) (f % maxFiles))
+
+  abbrev handed : ℕ → ℕ → Grant → List ℕ
+  handed n i g =
+      let a = c .before .before .args in
+      let f = fileOf (a .step) in
+      answerText n (clientOf (a .step)) f
+      ++ (bytes "; "
+      ++ grantText (entryHeld before (f % maxFiles) .mode) g (sideOf (sidesHeld before (f % maxFiles)) i) i f)
 
 same : (i : ℕ) → i ≡ i
 same i = refl
+
+-- the answer leaves room for two bytes
+put-text-requires : tie.Need-put-text-requires
+put-text-requires c κs =
+    let answer = c .before .before .before .before in
+    let start = answer .before .before .before .before .before .before .before .before .before .before .before .before in
+    let long : length (answer .put-answer2 .last .0) ≡ length (now (start .args .out)) = search needs in
+    omega (arith, long, answer .put-answer2 .ensures .1, start .pre .1 .0)
 
 -- the answer and two bytes leave room for the grant
 put-grant-requires-2 : tie.Need-put-grant-requires-2
 put-grant-requires-2 c κs =
     let text = c .before .before .before in
     let answer = text .before .before .before .before .before in
-    let start = answer .before .before .before .before .before .before .before .before .before .before in
+    let start = answer .before .before .before .before .before .before .before .before .before .before .before .before in
     let long : length (text .put-text .last .0) ≡ length (now (start .args .out)) = search needs in
     omega (arith, long, text .put-text .ensures .1, answer .put-answer2 .ensures .1, start .pre .1 .0)
 
 returns : tie.Need-returns
 returns c =
+    let put = c .before .before in
+    let test = put .before .before in
+    let is = test .before .before .before in
+    let asked = is .before .before in
+    let a = asked .before .before .args in (
+      wrote-as
+          (an-embargo (a .sizes) (whole asked) (a .step) (asked .asked .ensures) (answered asked (is .reply3 .given .0 .0))
+          (eq-eqb _ 12 (test .if1 .taken))
+          ∙ ap (said asked) (sym (is .reply3 .given .1)))
+          (put .put-embargoed .ensures .0),
+      search needs,
+    )
+
+returns-2 : tie.Need-returns-2
+returns-2 c =
+    let put = c .before .before in
+    let test = put .before .before in
+    let is = test .before .before .before in
+    let asked = is .before .before in
+    let a = asked .before .before .args in
+    let given = is .reply4 .given .0 in (
+      wrote-as
+          (an-embargo (a .sizes) (whole asked) (a .step) (asked .asked .ensures)
+          (handed asked (given .0) (given .1 .0) (given .1 .1 .0))
+          (eq-eqb _ 12 (test .if2 .taken))
+          ∙ ap (said asked) (sym (is .reply4 .given .1)))
+          (put .put-embargoed2 .ensures .0),
+      search needs,
+    )
+
+returns-3 : tie.Need-returns-3
+returns-3 c =
     let put = c .before .before in
     let is = put .before .before .before .before .before in
     let asked = is .before .before in
@@ -83,8 +157,8 @@ returns c =
       search needs,
     )
 
-returns-2 : tie.Need-returns-2
-returns-2 c =
+returns-4 : tie.Need-returns-4
+returns-4 c =
     let put = c .before .before in
     let is = put .before .before .before .before in
     let asked = is .before .before in
@@ -99,76 +173,103 @@ returns-2 c =
       search needs,
     )
 
-returns-3 : tie.Need-returns-3
-returns-3 c =
-    let put = c .before .before in
-    let is = put .before .before in
-    let asked = is .before .before in
-    let a = asked .before .before .args in (
-      wrote-as
-          (read-as (a .fresh) (a .told) (client-is asked) (file-is asked) (block-is asked)
-          ∙ ap (said asked) (sym (is .enum-told2 .given .1)))
-          (put .put-read .ensures .0),
-      search needs,
-    )
-
-returns-4 : tie.Need-returns-4
-returns-4 c =
-    let put = c .before .before in
-    let is = put .before .before .before .before .before in
-    let asked = is .before .before in
-    let a = asked .before .before .args in (
-      wrote-as
-          (refusal-as (a .sizes) (a .since) (a .step) (is .reply2 .given .0 .0) (put .before .before .before .reported-in .ensures)
-          (put .before .before .entry-at2 .ensures ∙ entry-named asked)
-          ∙ ap (said asked) (sym (is .reply2 .given .1)))
-          (put .put-refusal .ensures .0),
-      search needs,
-    )
-
 returns-5 : tie.Need-returns-5
 returns-5 c =
     let put = c .before .before in
-    let answer = put .before .before .before .before in
-    let is = answer .before .before .before .before in
+    let is = put .before .before .before .before in
     let asked = is .before .before in
-    let a = asked .before .before .args in
-    let after = answer .before .before .entry-at3 .ensures ∙ ap (λ (f : ℕ). entryHeld (now (a .table)) (f % maxFiles)) (file-is asked) in (
-      wrote-as (ap (said asked) (sym (is .reply3 .given .1)))
-          (wrote-then (wrote-as (answer-as _ (client-is asked) (file-is asked)) (answer .put-answer .ensures .0))
-          (wrote-as (ap (stillText (a .sizes .clients)) after) (put .put-still .ensures .0))),
+    let a = asked .before .before .args in (
+      wrote-as
+          (read-as (a .fresh) (a .told) (put .before .before .before .is-aside .ensures ∙ aside-named asked)
+          (put .before .before .embargo-since .ensures ∙ embargo-named asked)
+          (client-is asked)
+          (file-is asked)
+          (block-is asked)
+          ∙ ap (said asked) (sym (is .enum-told2 .given .1)))
+          (put .put-read .ensures .0),
       search needs,
     )
 
 returns-6 : tie.Need-returns-6
 returns-6 c =
     let put = c .before .before in
-    let text = put .before .before .before .before in
-    let answer = text .before .before .before .before .before in
-    let is = answer .before .before .before .before .before .before in
+    let embargo = put .before .before .before in
+    let entry = embargo .before in
+    let flags = entry .before in
+    let is = flags .before .before .before in
     let asked = is .before .before in
-    let f = file-is asked in (
-      wrote-as (ap (said asked) (sym (is .reply4 .given .1)))
-          (wrote-then (wrote-as (answer-as _ (client-is asked) f) (answer .put-answer2 .ensures .0))
-          (wrote-then (text .put-text .ensures .0)
-          (wrote-as
-          (grant-as (is .reply4 .given .0 .1 .1 .0) (answer .before .before .before .mode-of .ensures ∙ ap (λ (e : Entry). e .mode) (entry-named asked))
-          (answer .before .before .side-in2 .ensures
-          ∙ ap (λ (f : ℕ). sideOf (sidesHeld (before asked) (f % maxFiles)) (is .reply4 .given .0 .1 .0)) f)
-          (same (is .reply4 .given .0 .1 .0))
-          f)
-          (put .put-grant2 .ensures .0)))),
+    let a = asked .before .before .args in (
+      wrote-as
+          (refusal-as (a .sizes) (a .step) (is .reply2 .given .0 .0) (flags .before .reported-in .ensures)
+          (flags .embargoed-in .ensures)
+          (entry .entry-at2 .ensures ∙ entry-named asked)
+          (ap (λ (f : ℕ). getD (now (a .since)) (f % maxFiles) 0) (file-is asked))
+          (embargo .embargo-since2 .ensures ∙ embargo-named asked)
+          ∙ ap (said asked) (sym (is .reply2 .given .1)))
+          (put .put-refusal .ensures .0),
       search needs,
     )
 
 returns-7 : tie.Need-returns-7
 returns-7 c =
     let put = c .before .before in
+    let answer = put .before .before .before .before in
+    let test = answer .before .before .before in
+    let is = test .before .before .before in
+    let asked = is .before .before in
+    let a = asked .before .before .args in
+    let after = answer .before .before .entry-at3 .ensures ∙ ap (λ (f : ℕ). entryHeld (now (a .table)) (f % maxFiles)) (file-is asked) in (
+      wrote-as
+          (no-embargo (a .sizes) (whole asked) (a .step) (asked .asked .ensures) (answered asked (is .reply3 .given .0 .0))
+          (ne-eqb _ 12 (test .if1 .left))
+          ∙ ap (said asked) (sym (is .reply3 .given .1)))
+          (wrote-then (wrote-as (answer-as _ (client-is asked) (file-is asked)) (answer .put-answer .ensures .0))
+          (wrote-as (ap (stillText (a .sizes .clients)) after) (put .put-still .ensures .0))),
+      search needs,
+    )
+
+returns-8 : tie.Need-returns-8
+returns-8 c =
+    let put = c .before .before in
+    let text = put .before .before .before .before in
+    let answer = text .before .before .before .before .before in
+    let test = answer .before .before .before .before .before in
+    let is = test .before .before .before in
+    let asked = is .before .before in
+    let a = asked .before .before .args in
+    let given = is .reply4 .given .0 in
+    let f = file-is asked in (
+      wrote-as
+          (no-embargo (a .sizes) (whole asked) (a .step) (asked .asked .ensures)
+          (handed asked (given .0) (given .1 .0) (given .1 .1 .0))
+          (ne-eqb _ 12 (test .if2 .left))
+          ∙ ap (said asked) (sym (is .reply4 .given .1)))
+          (wrote-then (wrote-as (answer-as _ (client-is asked) f) (answer .put-answer2 .ensures .0))
+          (wrote-then (text .put-text .ensures .0)
+          (wrote-as
+          (grant-as (given .1 .1 .0) (answer .before .before .before .mode-of .ensures ∙ ap (λ (e : Entry). e .mode) (entry-named asked))
+          (answer .before .before .side-in2 .ensures
+          ∙ ap (λ (f : ℕ). sideOf (sidesHeld (before asked) (f % maxFiles)) (given .1 .0)) f)
+          (same (given .1 .0))
+          f)
+          (put .put-grant2 .ensures .0)))),
+      search needs,
+    )
+
+returns-9 : tie.Need-returns-9
+returns-9 c =
+    let put = c .before .before in
     let done = put .before .before .before .before in
-    let is = done .before .before in
-    let asked = is .before .before in (
+    let is = done .before .before .before .before in
+    let asked = is .before .before in
+    let a = asked .before .before .args in (
       wrote-as (ap (said asked) (sym (is .enum-told3 .given .1)))
-          (wrote-then (done .put-done .ensures .0) (put .put-restarted .ensures .0)),
+          (wrote-then
+          (wrote-as
+          (done-as (a .caching) (a .step) (done .before .before .before .is-aside2 .ensures ∙ aside-named asked)
+          (done .before .before .embargo-since3 .ensures ∙ embargo-named asked))
+          (done .put-done .ensures .0))
+          (put .put-besides .ensures .0)),
       search needs,
     )
 
@@ -183,22 +284,40 @@ side-in-requires c κs =
 
 side-in-requires-2 : tie.Need-side-in-requires-2
 side-in-requires-2 c κs =
-    let asked = c .before .before .before .before .before in
+    let asked = c .before .before .before .before .before .before .before in
     (row-in asked, asked .before .before .pre .1 .1 .0)
 
 put-wait-requires : tie.Need-put-wait-requires
 put-wait-requires c κs = (c .before .before .before .before .before .before .before .pre .0 .clients, search needs)
 
+is-aside-requires : tie.Need-is-aside-requires
+is-aside-requires c κs = c .before .before .before .before .pre .1 .1 .1 .1
+
+is-aside-requires-2 : tie.Need-is-aside-requires-2
+is-aside-requires-2 c κs = c .before .before .before .before .pre .1 .1 .1 .1
+
 put-refusal-requires : tie.Need-put-refusal-requires
-put-refusal-requires c κs = (c .before .before .before .before .before .before .before .before .pre .0 .clients, search needs)
+put-refusal-requires c κs =
+    (c .before .before .before .before .before .before .before .before .before .before .before .pre .0 .clients, search needs)
+
+put-embargoed-requires : tie.Need-put-embargoed-requires
+put-embargoed-requires c κs =
+    let pre = c .before .before .before .before .before .before .before .before .pre in
+    (pre .0, (search needs, (pre .1 .1 .0, pre .1 .1 .1 .0)))
+
+put-embargoed-requires-2 : tie.Need-put-embargoed-requires-2
+put-embargoed-requires-2 c κs =
+    let pre = c .before .before .before .before .before .before .before .before .pre in
+    (pre .0, (search needs, (pre .1 .1 .0, pre .1 .1 .1 .0)))
 
 put-still-requires : tie.Need-put-still-requires
 put-still-requires c κs =
-    (c .before .before .before .before .before .before .before .before .before .before .before .pre .0 .clients, search needs)
+    let start = c .before .before .before .before .before .before .before .before .before .before .before .before .before in
+    (start .pre .0 .clients, search needs)
 
-put-restarted-requires : tie.Need-put-restarted-requires
-put-restarted-requires c κs =
-    let pre = c .before .before .before .before .before .before .before .before .before .pre in
+put-besides-requires : tie.Need-put-besides-requires
+put-besides-requires c κs =
+    let pre = c .before .before .before .before .before .before .before .before .before .before .before .pre in
     (pre .0, (search needs, (pre .1 .1 .0, pre .1 .1 .1 .0)))
 
 pub put-sentence-spec : {M : Type 1} → statement M
@@ -215,16 +334,28 @@ put-sentence-spec =
     (λ c κs. row-in (c .before .before .before))
     put-wait-requires
     (search needs)
+    is-aside-requires
+    (λ c κs. tt)
     (search needs)
     (search needs)
     (search needs)
-    (λ c κs. row-in (c .before .before .before .before))
+    (search needs)
+    (λ c κs. row-in (c .before .before .before .before .before))
+    (λ c κs. tt)
+    (search needs)
+    (search needs)
     put-refusal-requires
     (search needs)
-    (λ c κs. row-in (c .before .before .before))
+    put-embargoed-requires
+    (search needs)
+    returns
+    (λ c κs. row-in (c .before .before .before .before .before))
     (search needs)
     put-still-requires
     (search needs)
+    put-embargoed-requires-2
+    (search needs)
+    returns-2
     (search needs)
     (search needs)
     (search needs)
@@ -234,16 +365,14 @@ put-sentence-spec =
     side-in-requires-2
     (search needs)
     (search needs)
-    (search needs)
+    put-text-requires
     (search needs)
     put-grant-requires-2
     (search needs)
+    is-aside-requires-2
+    (λ c κs. tt)
     (search needs)
-    put-restarted-requires
-    (search needs)
-    returns
-    (search needs)
-    returns-2
+    put-besides-requires
     (search needs)
     returns-3
     (search needs)
@@ -253,4 +382,8 @@ put-sentence-spec =
     (search needs)
     returns-6
     (search needs)
-    returns-7)
+    returns-7
+    (search needs)
+    returns-8
+    (search needs)
+    returns-9)

@@ -18,11 +18,13 @@ returns c =
     (crash .crash .ensures .0)
     (of .recovery-of .ensures .0)
     (of .recovery-of .ensures .1)
+    (of .recovery-of .ensures .2)
     (start .pre .1 .1)
     (rows .crash-rows .ensures)
     (c .put-recovery .ensures .0)
     (c .put-recovery .ensures .1)
     (c .put-recovery .ensures .2)
+    (c .put-recovery .ensures .3)
 
 pub crash-spec : {M : Type 1} → statement M
 crash-spec =

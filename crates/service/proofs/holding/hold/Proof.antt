@@ -8,7 +8,7 @@ returns c =
     let put = c .before .before .before .before in
     let recovery = put .put-recovery .ensures in
     let rows = put .before .before .hold-files .ensures in
-    (rw (rows .0, rows .1, recovery .0, recovery .1), (rows .2, recovery .2))
+    (rw (rows .0, rows .1, recovery .0, recovery .1, recovery .2), (rows .2, recovery .3))
 
 pub hold-spec : {M : Type 1} → statement M
 hold-spec = tie.close (tie.spec (search needs) (search needs) returns)

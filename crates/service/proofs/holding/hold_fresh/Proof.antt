@@ -12,8 +12,9 @@ returns c =
     let entry = files .before .before in
     let recovery = put .put-recovery .ensures in
     let rows = files .hold-files .ensures in (
-      λ z. rw (rows .0, rows .1, recovery .0, recovery .1, entry .fresh .ensures, entry .before .none .ensures),
-      (rows .2, recovery .2),
+      λ z.
+          rw (rows .0, rows .1, recovery .0, recovery .1, recovery .2, entry .fresh .ensures, entry .before .none .ensures),
+      (rows .2, recovery .3),
     )
 
 pub hold-fresh-spec : {M : Type 1} → statement M

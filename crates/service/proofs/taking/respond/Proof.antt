@@ -54,7 +54,7 @@ returns c =
     let read = c .before in
     let side = read .before .before .before .before .before .before in
     let match = side .before .before in
-    let start = match .before .before .before in
+    let start = match .before .before .before .before in
     let a = start .args in
     silently start (Read (a .client) (a .file) (a .block)) _ _ _ (c .silent .result) _ (rw (match .match .keys1)) (c .silent .ensures)
     (block-serves (a .sizes) (Read (a .client) (a .file) (a .block)) (a .client) (a .file) (now (a .table)) (now (a .flags)) (stores start)
@@ -65,7 +65,7 @@ returns-2 c =
     let write = c .before in
     let side = write .before .before .before .before .before .before in
     let match = side .before .before in
-    let start = match .before .before .before in
+    let start = match .before .before .before .before in
     let a = start .args in
     silently start (Write (a .client) (a .file) (a .block) (a .value)) _ _ _ (c .silent2 .result) _ (rw (match .match .keys2))
     (c .silent2 .ensures)
@@ -77,7 +77,7 @@ returns-3 : tie.Need-returns-3
 returns-3 c =
     let flush = c .before in
     let match = flush .before .before .before .before .before in
-    let start = match .before .before .before in
+    let start = match .before .before .before .before in
     let a = start .args in
     silently start (Flush (a .client) (a .file) (a .block)) _ _ _ (c .silent3 .result) _ (rw (match .match .keys3)) (c .silent3 .ensures)
     (file-serves (a .sizes) (Flush (a .client) (a .file) (a .block)) (a .file) (now (a .table)) _ (now (a .flags)) (stores start) _ _ _ _ _ _
@@ -87,7 +87,7 @@ returns-4 : tie.Need-returns-4
 returns-4 c =
     let answer = c .before in
     let match = answer .before .before .before .before .before .before in
-    let start = match .before .before .before in
+    let start = match .before .before .before .before in
     let a = start .args in
     silently start (Answer (a .client) (a .file)) _ _ _ (c .silent4 .result) _ (rw (match .match .keys4)) (c .silent4 .ensures)
     (file-serves (a .sizes) (Answer (a .client) (a .file)) (a .file) (now (a .table)) _ (now (a .flags)) (stores start) _ _ _ _ _ _
@@ -97,7 +97,7 @@ returns-5 : tie.Need-returns-5
 returns-5 c =
     let then = c .before .before .before .before .before in
     let mode = then .before .before in
-    let start = mode .before .before in
+    let start = mode .before .before .before in
     let a = start .args in
     let holds = c .«open» .ensures (now (a .blocks)) in
     let is : asked start ≡ Open (mode .mode-asked .result) (a .client) (a .file) =
@@ -109,7 +109,7 @@ returns-5 c =
     _ _ _ _ _ _ refl holds
     (λ e.
     holds .callsAfter
-    ∙ open-quiet (a .sizes) _ _ (stores start) (mode .mode-asked .result) (a .client) (a .file) (rw (holds .replyAfter) at e)))
+    ∙ open-quiet (a .sizes) _ _ _ (stores start) (mode .mode-asked .result) (a .client) (a .file) (rw (holds .replyAfter) at e)))
 
 returns-6 : tie.Need-returns-6
 returns-6 c =
@@ -117,7 +117,7 @@ returns-6 c =
     let then = close .before .before .before in
     let else = then .before in
     let mode = else .before .before in
-    let start = mode .before .before in
+    let start = mode .before .before .before in
     let a = start .args in
     silently start (Close (mode .mode-asked .result) (a .client) (a .file)) _ _ _ (c .silent5 .result) _
     (close-asked (a .kind) (a .client) (a .file) (a .block) (a .value) (else .if1 .left) (then .if2 .taken)
@@ -134,7 +134,7 @@ returns-7 c =
     let of = recover .before in
     let else = of .before .before in
     let match = else .before .before in
-    let start = match .before .before .before in
+    let start = match .before .before .before .before in
     let a = start .args in
     let no = match .match .rest in
     let past : 7 < a .kind = on-table (a .kind) (else .if2 .left) (no .0 .0 .0 .1) (no .0 .0 .1) (no .0 .1) (no .1) in
@@ -145,13 +145,14 @@ returns-7 c =
     (recover .recover .ensures .0 (a .file) (a .block) (a .value) past (start .pre .1 .0))
     (of .recovery-of .ensures .0)
     (of .recovery-of .ensures .1)
+    (of .recovery-of .ensures .2)
     (start .pre .1 .1 .1)
     (sweep .sweep .ensures))
 
 sweep-requires : tie.Need-sweep-requires
 sweep-requires c κs =
     let recover = c .before .before in
-    let start = recover .before .before .before .before .before .before .before .before in
+    let start = recover .before .before .before .before .before .before .before .before .before in
     (start .pre .0, (recover .recover .ensures .1, (start .pre .1 .1 .0, start .pre .1 .1 .1)))
 
 pub respond-spec : {M : Type 1} → statement M
@@ -159,6 +160,8 @@ respond-spec =
     tie.close
     (tie.spec
     (search needs)
+    (search needs)
+    (search needs)
     (λ c κs. tt)
     (λ c. omega arith)
     (λ c. omega arith)
@@ -167,7 +170,7 @@ respond-spec =
     (search needs)
     (λ c κs. tt)
     (search needs)
-    (λ c κs. c .before .before .before .before .before .before .before .before .before .before .pre .0)
+    (λ c κs. c .before .before .before .before .before .before .before .before .before .before .before .pre .0)
     (λ c κs. tt)
     (λ c. omega arith)
     (λ c. omega arith)
@@ -176,7 +179,7 @@ respond-spec =
     (search needs)
     (λ c κs. tt)
     (search needs)
-    (λ c κs. c .before .before .before .before .before .before .before .before .before .before .pre .0)
+    (λ c κs. c .before .before .before .before .before .before .before .before .before .before .before .pre .0)
     (λ c κs. tt)
     (search needs)
     (λ c κs. tt)

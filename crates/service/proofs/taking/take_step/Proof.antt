@@ -11,8 +11,8 @@ stores c = let a = c .args in lent (now (a .blocks)) (now (a .copies)) (now (a .
 
 returns : tie.Need-returns
 returns c =
-    let start = c .before .before .before .before .before .before .before .before .before in
-    c .take-other .ensures (start .args .file) (start .args .block) (start .args .value)
+    let start = c .before .before .before .before .before .before .before .before in
+    c .take-other .ensures (now (start .args .blocks)) (start .args .block) (start .args .value)
 
 returns-2 : tie.Need-returns-2
 returns-2 c =
@@ -27,7 +27,7 @@ returns-2 c =
 
 take-other-requires : tie.Need-take-other-requires
 take-other-requires c κs =
-    let then = c .before .before .before .before .before .before .before in
+    let then = c .before .before .before .before .before .before in
     let start = then .before in
     (then .if1 .taken, (start .pre .0, (start .pre .1 .0, start .pre .1 .1)))
 

@@ -1,19 +1,19 @@
--- `count_missing` meets its contract: after i clients the sum is how many of them have not reported. Assumes nothing.
+-- `count_missing` meets its contract: after i clients the sum is how many of them are still to be heard. Assumes nothing.
 use Prim.Native.Nat.{_-_}
 use mathlib.Core.Path.{refl}
 use mathlib.Core.Bool.{not}
 use native.Mathlib.Omega.{arith}
 use Rattle.decision.proofs.Counting.{Counted, counted-none, counted-next, counted-fits, counted-all}
-use Rattle.table.specs.TableStep.{isReported}
+use Rattle.table.specs.TableStep.{isHeard}
 use borrow.Author.Needs.{needs}
 use Rattle.table.proofs.refusal.count_missing.Statement.{statement}
 use Rattle.table.proofs.refusal.count_missing.Tie as tie
 
 abbrev Inv-loop : tie.InvT-loop
-Inv-loop clients reported count₀ i₀ count i = Counted clients (λ k. not (isReported reported k)) count i
+Inv-loop clients reported embargoed count₀ i₀ count i = Counted clients (λ k. not (isHeard reported embargoed k)) count i
 
 abbrev μ-loop : tie.MeasureT-loop
-μ-loop clients reported count₀ i₀ count i = clients - i
+μ-loop clients reported embargoed count₀ i₀ count i = clients - i
 
 add-count : tie.Need-add-count Inv-loop μ-loop
 add-count c =
@@ -30,6 +30,7 @@ count-missing-spec =
     Inv-loop
     μ-loop
     (λ c. counted-none)
+    (search needs)
     (search needs)
     (search needs)
     add-count

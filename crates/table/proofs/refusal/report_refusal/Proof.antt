@@ -11,4 +11,6 @@ report-refusal-spec =
     (search needs)
     (search needs)
     (search needs)
+    (search needs)
+    (search needs)
     (λ c. cc))

@@ -20,6 +20,7 @@ granting-at-spec =
     (search needs)
     (search needs)
     (search needs)
+    (search needs)
     returns
     (search needs)
     returns-2)

@@ -7,19 +7,12 @@ use native.Mathlib.Omega.{arith}
 use denote.Ref.{now}
 use lib.ListN.{length, set, length-set}
 use Rattle.protocol.specs.declared.reply.Reply.the-variants.{Granted, Value, Refused, Answered}
-use Rattle.protocol.specs.Reply.{grantValues, noGrants}
-use Rattle.words.specs.Rows.{listed}
-use Rattle.words.specs.Said.{grantsSaid}
+use Rattle.protocol.specs.Reply.{grantValues}
 use Rattle.words.proofs.SaidWords.{begun-none, begun-next, second-as, says-values, says-calls, says-as}
-use Rattle.words.proofs.SaidWords.{first-back, answer-back}
+use Rattle.words.proofs.SaidWords.{first-back, answer-back, none-done, none-answered, none-further}
 use borrow.Author.Needs.{needs}
 use Rattle.words.proofs.saying.say.Statement.{statement}
 use Rattle.words.proofs.saying.say.Tie as tie
-
--- K with no words after it grants nothing to others
-none-said : (ws : List ℕ) → grantsSaid 75 ws ≡ noGrants
-unfolding listed
-none-said ws = refl
 
 abbrev came : tie.Start → List ℕ
 came s = now (s .args .words)
@@ -68,7 +61,8 @@ returns-5 c =
     says-as _ _ _ _ _ _ _ (is .reply4 .given .1)
     (says-values _ 1 (came start) _ _ _ (start .args .calls) refl refl refl (omega arith) refl
     (begun-next (came start) [] (came start) 0 _ (omega (arith, start .pre)) (begun-none (came start)))
-    (ap Answered (first-back (came start) _ (omega (arith, start .pre)))) refl)
+    (ap Answered (first-back (came start) _ (omega (arith, start .pre))))
+    (none-answered (begun-next (came start) [] (came start) 0 _ (omega (arith, start .pre)) (begun-none (came start)))))
 
 returns-6 : tie.Need-returns-6
 returns-6 c =
@@ -82,7 +76,8 @@ returns-6 c =
     (second-as _ _ _ _ (opener .wide2 .ensures .0))
     (c .say-grant2 .ensures .0 w _ (two .say-two .ensures))
     (answer-back w _ _ _ _ _ (c .say-grant2 .ensures .0 w _ (two .say-two .ensures)) (opener .wide2 .ensures .0)
-    (opener .wide2 .ensures .1) (c .say-grant2 .ensures .1)) refl)
+    (opener .wide2 .ensures .1) (c .say-grant2 .ensures .1))
+    (none-further (c .say-grant2 .ensures .0 w _ (two .say-two .ensures))))
 
 say-grant-requires-2 : tie.Need-say-grant-requires-2
 say-grant-requires-2 c κs =
@@ -94,7 +89,7 @@ returns-7 : tie.Need-returns-7
 returns-7 c =
     let start = c .before .before in
     says-as _ _ _ _ _ _ _ (c .enum-told2 .given .1)
-    (says-values _ 0 (came start) [] (came start) _ (start .args .calls) refl refl refl (omega arith) refl (begun-none (came start)) refl (none-said (came start)))
+    (says-values _ 0 (came start) [] (came start) _ (start .args .calls) refl refl refl (omega arith) refl (begun-none (came start)) refl (none-done (came start)))
 
 pub say-spec : {M : Type 1} → statement M
 say-spec =

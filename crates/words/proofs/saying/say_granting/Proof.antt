@@ -3,7 +3,7 @@ use mathlib.Core.Path.{_∙_}
 use native.Mathlib.Omega.{arith}
 use denote.Ref.{now}
 use lib.ListN.{length-set}
-use Rattle.words.proofs.SaidGrants.{granting-begun, granting-back, earlier-back}
+use Rattle.words.proofs.SaidGranting.{granting-begun, granting-back, earlier-back}
 use borrow.Author.Needs.{needs}
 use Rattle.words.proofs.saying.say_granting.Statement.{statement}
 use Rattle.words.proofs.saying.say_granting.Tie as tie

@@ -13,7 +13,7 @@ pub struct Fault {
 /// What is told wrongly, given the lines so far.
 pub enum Wrong {
     Read(fn(&Lines, &mut Reading)),
-    /// A grant, at its open, after the last answer or by a restart.
+    /// A grant, at its open, after the last answer, by a restart or by an embargo.
     Grant(fn(&Lines, &mut Granted)),
     Refusal(fn(&Lines, &mut Reason)),
     /// A line of any kind.
@@ -60,7 +60,7 @@ impl Distortion for Faulty<'_> {
             (Wrong::Grant(change), Told::Granted(granted) | Told::AnsweredLast { granted, .. }) => {
                 change(&lines, granted);
             }
-            (Wrong::Grant(change), Told::Restarted { granted, .. }) => {
+            (Wrong::Grant(change), Told::Restarted { granted, .. } | Told::Embargoed { granted, .. }) => {
                 granted.iter_mut().for_each(|granted| change(&lines, granted));
             }
             (Wrong::Refusal(change), Told::Refused(reason)) => change(&lines, reason),

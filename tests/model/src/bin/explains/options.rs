@@ -7,7 +7,8 @@ use model::generate::seeds;
 use crate::sample::Kind;
 
 pub const USAGE: &str = "usage: explains --explainer PROGRAM [--seeds A..B] [--lines N] \
-                         [--kinds hot,wide,malformed,session,restart,resumed,resumed-restart] [-- WORD..]
+                         [--kinds hot,wide,malformed,session,restart,embargo,resumed,resumed-restart,resumed-embargo] \
+                         [-- WORD..]
        explains faults
        explains explain FAULT [--read-image FILE]";
 

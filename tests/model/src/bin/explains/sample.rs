@@ -2,7 +2,9 @@
 
 use model::check::Cuts;
 use model::explain::{Distortion, distorted, explained_from};
-use model::generate::{FileKind, closing_time, restarted_run, resumed_run, step_file};
+use model::generate::{
+    FileKind, closing_time, embargoed_run, leaving_embargoes, restarted_run, resumed_run, step_file,
+};
 use model::images::written;
 use model::{Document01, Service, play_on, replay, replay_from};
 
@@ -13,17 +15,21 @@ pub enum Kind {
     Resumed,
     /// The same, and clients restart.
     ResumedRestart,
+    /// The same, and clients are under embargo, some of them by the image.
+    ResumedEmbargo,
 }
 
 impl Kind {
-    pub const ALL: [Kind; 7] = [
+    pub const ALL: [Kind; 9] = [
         Kind::Fresh(FileKind::Hot),
         Kind::Fresh(FileKind::Wide),
         Kind::Fresh(FileKind::Malformed),
         Kind::Fresh(FileKind::Session),
         Kind::Fresh(FileKind::Restart),
+        Kind::Fresh(FileKind::Embargo),
         Kind::Resumed,
         Kind::ResumedRestart,
+        Kind::ResumedEmbargo,
     ];
 
     pub fn name(self) -> &'static str {
@@ -31,6 +37,7 @@ impl Kind {
             Kind::Fresh(kind) => kind.name(),
             Kind::Resumed => "resumed",
             Kind::ResumedRestart => "resumed-restart",
+            Kind::ResumedEmbargo => "resumed-embargo",
         }
     }
 
@@ -52,12 +59,29 @@ impl Sample {
         let name = format!("{} seed {seed} lines {lines}", kind.name());
         match kind {
             Kind::Fresh(kind) => Sample { name, seed, input: step_file(kind, seed, lines), image: None },
-            Kind::Resumed | Kind::ResumedRestart => {
-                let run = if matches!(kind, Kind::Resumed) { resumed_run } else { restarted_run };
-                let (image, input) = resumed(seed, lines, run);
-                Sample { name, seed, input, image: Some(image) }
-            }
+            Kind::Resumed => Sample::resumed(name, seed, lines, |_, _| vec![], resumed_run),
+            Kind::ResumedRestart => Sample::resumed(name, seed, lines, |_, _| vec![], restarted_run),
+            Kind::ResumedEmbargo => Sample::resumed(name, seed, lines, leaving_embargoes, embargoed_run),
         }
+    }
+
+    /// The image that a session, hot or wide file leaves once every client has closed and flushed and this is done, and
+    /// the next run.
+    fn resumed(
+        name: String,
+        seed: u64,
+        lines: usize,
+        leave: fn(&mut Service, u64) -> Vec<u8>,
+        run: fn(&mut Service, u64, usize) -> Vec<u8>,
+    ) -> Self {
+        let kind = [FileKind::Session, FileKind::Hot, FileKind::Wide][seed as usize % 3];
+        let mut service = Service::fresh();
+        replay_from::<Document01>(&mut service, &step_file(kind, seed, lines), &mut ());
+        closing_time(&mut service);
+        leave(&mut service, seed);
+        let image = written(&service).expect("no open waits, and no recovery is under way");
+        let input = run(&mut service, seed, lines);
+        Sample { name, seed, input, image: Some(image) }
     }
 
     /// The file cut short, so that the picture shows the service halfway: as the differential run does it, and of a
@@ -97,15 +121,4 @@ impl Sample {
         let resumed = |image: &Vec<u8>| Service::resumed(image).expect("the model wrote the image");
         self.image.as_ref().map_or_else(Service::fresh, resumed)
     }
-}
-
-/// The image that a session, hot or wide file leaves once every client has closed and flushed, and the next run.
-fn resumed(seed: u64, lines: usize, run: fn(&mut Service, u64, usize) -> Vec<u8>) -> (Vec<u8>, Vec<u8>) {
-    let kind = [FileKind::Session, FileKind::Hot, FileKind::Wide][seed as usize % 3];
-    let mut service = Service::fresh();
-    replay_from::<Document01>(&mut service, &step_file(kind, seed, lines), &mut ());
-    closing_time(&mut service);
-    let image = written(&service).expect("no open waits, and no recovery is under way");
-    let input = run(&mut service, seed, lines);
-    (image, input)
 }

@@ -139,4 +139,10 @@ rule_faults! {
             Ok(kind)
         }
     }
+    /// Another client has a dirty block of the file only under embargo.
+    close_counts_dirty_blocks_of_other_clients {
+        fn dirty_at_close(service: &Service, _client: usize, file: usize) -> bool {
+            (0..service.sizes().clients).any(|client| service.any_dirty(client, file))
+        }
+    }
 }

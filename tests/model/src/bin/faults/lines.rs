@@ -92,8 +92,8 @@ fn without_extra_fields(line: &[u8]) -> Vec<u8> {
     let fields: Vec<&[u8]> = line.split(|&byte| byte == b' ').collect();
     let needed = match fields[0] {
         b"XX" | b"EN" => 1,
-        b"RP" | b"BT" => 2,
-        b"OR" | b"OW" | b"CR" | b"CW" | b"AN" => 3,
+        b"RP" | b"BT" | b"LF" => 2,
+        b"OR" | b"OW" | b"CR" | b"CW" | b"AN" | b"EM" => 3,
         b"RD" | b"FL" | b"SET" => 4,
         _ => 5,
     };

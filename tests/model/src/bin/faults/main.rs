@@ -8,6 +8,7 @@ mod callbacks;
 mod closing;
 mod copies;
 mod door;
+mod embargo;
 mod fault;
 mod lines;
 mod opening;
@@ -38,6 +39,7 @@ fn all_faults() -> impl Iterator<Item = &'static Fault> {
         said::FAULTS,
         recovery::FAULTS,
         restart::FAULTS,
+        embargo::FAULTS,
         door::FAULTS,
         lines::FAULTS,
         settings::FAULTS,

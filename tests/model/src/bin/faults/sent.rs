@@ -83,4 +83,10 @@ rule_faults! {
             if kind.writes_back() { service.clients[client].files[file].copies.count_dirty(four) } else { 0 }
         }
     }
+    /// Another client has a dirty block of the file only under embargo.
+    dirty_blocks_of_other_clients_told {
+        fn blocks_sent(service: &Service, _client: usize, file: usize, kind: Kind) -> usize {
+            (0..service.sizes().clients).map(|client| service.blocks_to_send(client, file, kind)).sum()
+        }
+    }
 }

@@ -66,13 +66,6 @@ rule_faults! {
             file.last_writer_flag |= last_writer_flag;
         }
     }
-    close_counts_dirty_blocks_of_other_clients(
-        "no other client has a dirty block of a file that one has open for write with permission"
-    ) {
-        fn dirty_at_close(service: &Service, _client: usize, file: usize) -> bool {
-            (0..service.sizes().clients).any(|client| service.any_dirty(client, file))
-        }
-    }
     last_flush_clears_the_last_writer_whoever_it_is(
         "a client with a dirty block is the last writer, or it has writers and there is none"
     ) {
@@ -143,11 +136,6 @@ rule_faults! {
         fn blocks_sent(service: &Service, client: usize, file: usize, kind: Kind) -> usize {
             let called = service.server.entries[file].waiting.callbacks;
             if called.without(client).is_empty() { service.blocks_to_send(client, file, kind) } else { 0 }
-        }
-    }
-    dirty_blocks_of_other_clients_told("no other client has a dirty block of a file whose blocks are asked for") {
-        fn blocks_sent(service: &Service, _client: usize, file: usize, kind: Kind) -> usize {
-            (0..service.sizes().clients).map(|client| service.blocks_to_send(client, file, kind)).sum()
         }
     }
     blocks_past_the_settings_told("they are never dirty") {
@@ -227,6 +215,35 @@ rule_faults! {
     restart_reaches_past_the_settings("what lies there is as a restart would leave it") {
         fn restart_at_client(_sizes: Sizes, file: &mut ClientFile, _server: &mut [u64; BLOCKS]) {
             file.restart(Sizes::LARGEST);
+        }
+    }
+    lift_keeps_the_label(
+        "the blocks are gone, so that keeping the copy at the next grant and dropping it are the same"
+    ) {
+        fn lift_at_client(sizes: Sizes, file: &mut ClientFile, _server: &mut [u64; BLOCKS]) {
+            let cached_version = file.cached_version;
+            file.restart(sizes);
+            file.cached_version = cached_version;
+        }
+    }
+    lift_keeps_permission(
+        "the permission of a client that is not open is never looked at, and its next open judges it anew"
+    ) {
+        fn lift_at_client(sizes: Sizes, file: &mut ClientFile, _server: &mut [u64; BLOCKS]) {
+            let may_cache = file.record.may_cache;
+            file.restart(sizes);
+            file.record.may_cache = may_cache;
+        }
+    }
+    lift_reports_while_running("a running server's reports are never looked at, and a crash takes them back") {
+        fn lift_reports(server: &mut Server, client: usize) {
+            server.reported = server.reported.with(client);
+        }
+    }
+    lift_empties_the_servers_end("the server has nothing of a client under embargo") {
+        fn lift_reports(server: &mut Server, client: usize) {
+            server.entries.iter_mut().for_each(|entry| entry.records[client] = Record::default());
+            server.count_as_reported(client);
         }
     }
     crash_reaches_past_the_settings("what lies there is as a crash would leave it") {

@@ -1,7 +1,7 @@
 //! Deliberate faults of a judge, each named for the wrong answer it gives, and whether the strings find it.
 
 use model::images::{ByteString, Judge, Sections, strings};
-use model::{ClientFile, Entry, Record, Refusal, Service, Settings};
+use model::{Client, ClientFile, ClientSet, Entry, Record, Refusal, Service, Settings};
 
 use crate::compare::{first_difference, located};
 use crate::wrong::{Fault, Wrong};
@@ -55,6 +55,11 @@ faults! {
     descending_blocks_accepted: Accepts(|_, image| {
         pairs(image.blocks(), |one, next| (one.0, one.1) <= (next.0, next.1))
     });
+    embargo_of_client_out_of_range_accepted: Accepts(|sizes, image| {
+        image.embargoes().all(|client| client < low(sizes.clients))
+    });
+    embargo_twice_accepted: Accepts(|_, image| pairs(image.embargoes(), |one, next| one != next));
+    descending_embargoes_accepted: Accepts(|_, image| pairs(image.embargoes(), |one, next| one <= next));
 
     // Images that are refused.
     empty_image_refused: Refuses(|_, image| image.entries.iter().any(|entries| !entries.is_empty()));
@@ -84,6 +89,16 @@ faults! {
     block_of_file_at_version_1_refused: Refuses(|_, image| {
         image.blocks().all(|(file, ..)| image.files().any(|(listed, ..)| listed == file))
     });
+    embargo_of_last_client_refused: Refuses(|sizes, image| {
+        image.embargoes().all(|client| client != low(sizes.clients) - 1)
+    });
+    every_client_under_embargo_refused: Refuses(|sizes, image| image.embargoes().count() < sizes.clients);
+    embargo_of_an_open_client_refused: Refuses(|_, image| {
+        image.embargoes().all(|embargoed| image.opens().all(|[client, ..]| client != embargoed))
+    });
+    embargo_of_a_last_writer_refused: Refuses(|_, image| {
+        image.embargoes().all(|embargoed| image.files().all(|(.., last_writer)| last_writer != embargoed))
+    });
     more_than_255_entries_refused: Refuses(|_, image| image.entries.iter().all(|entries| entries.len() < 256));
 
     // Fields taken wrongly.
@@ -104,6 +119,18 @@ faults! {
             return sections.join();
         }
         Vec::new()
+    });
+    image_without_its_last_section_accepted: Bytes(|_, bytes| {
+        let longer = [bytes, &[0, 0]].concat();
+        let sections = Sections::of(&longer);
+        let is_its_count = !sections.cut_short && sections.rest.is_empty() && sections.entries[3].is_empty();
+        if is_its_count { longer } else { bytes.to_vec() }
+    });
+    count_of_embargoes_of_one_byte: Bytes(|_, bytes| {
+        let [.., place] = Sections::of(bytes).count_places();
+        let mut bytes = bytes.to_vec();
+        bytes.insert((place + 1).min(bytes.len()), 0);
+        bytes
     });
     sizes_of_the_image_taken: Bytes(|sizes, bytes| {
         let mut bytes = bytes.to_vec();
@@ -163,6 +190,19 @@ faults! {
         });
         service.server.recovering = false;
     });
+    embargoes_not_taken: Taken(|before, _, service| service.server.embargoed = before.server.embargoed);
+    embargoes_kept: Taken(|before, _, service| {
+        service.server.embargoed = service.server.embargoed.or(before.server.embargoed);
+    });
+    embargoes_lifted_alone: Taken(|before, _, service| {
+        service.server.embargoed = service.server.embargoed.and(before.server.embargoed);
+    });
+    every_embargo_lifted: Taken(|_, _, service| service.server.embargoed = ClientSet::NONE);
+    client_under_embargo_told_of_it: Taken(|before, _, service| {
+        for client in before.server.embargoed.minus(service.server.embargoed).members() {
+            service.clients[client] = Client::fresh();
+        }
+    });
     no_recovery: Taken(|_, _, service| service.server.recovering = false);
     recovery_goes_on: Taken(|before, _, service| service.server.reported = before.server.reported);
     all_count_as_reported: Taken(|_, _, service| service.server.reported = service.sizes().client_set());
@@ -178,6 +218,11 @@ faults! {
 
     // What a refused reading does.
     refused_reading_is_a_crash: Refused(|_, service| service.server.crash(service.sizes()));
+    refused_reading_lifts_embargoes: Refused(|_, service| service.server.embargoed = ClientSet::NONE);
+    refused_reading_takes_embargoes: Refused(|image, service| {
+        let taken = image.service(service.sizes()).server.embargoed;
+        service.server.set_embargoes(service.sizes(), taken);
+    });
     refused_reading_drops_waits: Refused(|_, service| {
         let sizes = service.sizes();
         on_files(service, |_, entry| entry.end_wait(sizes));
@@ -190,6 +235,12 @@ faults! {
         let taken = image.service(service.sizes());
         on_files(service, |file, entry| entry.blocks = taken.server.entries[file].blocks);
     });
+
+    // What is written.
+    embargoes_not_written: Written(|image| image.entries[3].clear());
+    embargoes_written_descending: Written(|image| image.entries[3].reverse());
+    first_embargo_written_alone: Written(|image| image.entries[3].truncate(1));
+    embargoes_written_before_the_blocks: Written(|image| image.entries.swap(2, 3));
 }
 
 fn low(size: usize) -> u8 {
@@ -239,7 +290,8 @@ fn found(fault: &Fault, groups: &[Vec<ByteString>]) -> Option<String> {
     let checks = checks();
     let read = |service: &mut Service, bytes: &[u8]| fault.read_with(&checks, service, bytes);
     groups.iter().enumerate().find_map(|(seed, group)| {
-        let at = first_difference(group, Judge::model(), Judge::new(&read))?;
+        let write = |service: &Service| fault.written(service);
+        let at = first_difference(group, Judge::model(), Judge::new(&read, &write))?;
         Some(format!("found with seed {seed}, {}", located(at, &group[at])))
     })
 }

@@ -27,7 +27,7 @@
 //! 2. The string is read as an image.
 //! 3. The files in force are counted whose state, by the table as it is now, is not CLOSED.
 //! 4. `RP 0`, `RP 1` and so on for each client in force, then `EN`.
-//! 5. The image is written, into a buffer of at least 8,073 bytes.
+//! 5. The image is written, into a buffer of at least 8,083 bytes.
 //!
 //! Its standard output has, for each string,
 //!
@@ -51,7 +51,7 @@ use std::process::ExitCode;
 
 use model::generate::seeds;
 use model::images::Judge;
-use model::verdict;
+use model::{Service, verdict};
 
 const USAGE: &str = "usage: images [--seeds A..B] --judge PROGRAM [WORD..] | images judge [FAULT] | images faults";
 
@@ -69,7 +69,10 @@ fn main() -> ExitCode {
         },
         ["judge"] => judge(Judge::model()),
         ["judge", name] => match faults::named(name) {
-            Some(fault) => judge(Judge::new(&|service, bytes| fault.read_image(service, bytes))),
+            Some(fault) => {
+                let read = |service: &mut Service, bytes: &[u8]| fault.read_image(service, bytes);
+                judge(Judge::new(&read, &|service| fault.written(service)))
+            }
             None => verdict(Err(format!("there is no {name}"))),
         },
         ["faults"] => verdict(faults::try_all()),

@@ -1,7 +1,7 @@
-//! The rules of reading as a list of checks on an image taken apart, so that one can be left out, and what a reading
-//! does, so that it can do something else.
+//! The rules of reading as a list of checks on an image taken apart, so that one can be left out, and what a reading or
+//! a writing does, so that it can do something else.
 
-use model::images::Sections;
+use model::images::{Sections, written};
 use model::{Refusal, Service, Sizes};
 
 pub type Check = fn(Sizes, &Sections) -> bool;
@@ -17,6 +17,8 @@ pub enum Wrong {
     Taken(fn(&Service, &Sections, &mut Service)),
     /// After a string that is refused.
     Refused(fn(&Sections, &mut Service)),
+    /// The image is written in another way.
+    Written(fn(&mut Sections)),
 }
 
 pub struct Fault {
@@ -41,6 +43,7 @@ impl Fault {
             Wrong::Refuses(holds) if !holds(sizes, &sections) => Err(Refusal::NoImage),
             Wrong::Refuses(_) => service.read_image(bytes),
             Wrong::Bytes(taken) => service.read_image(&taken(sizes, bytes)),
+            Wrong::Written(_) => service.read_image(bytes),
             Wrong::Taken(change) => {
                 let before = service.clone();
                 service.read_image(bytes)?;
@@ -58,11 +61,23 @@ impl Fault {
     }
 }
 
+impl Fault {
+    /// The image as it is written with this fault.
+    pub fn written(&self, service: &Service) -> Result<Vec<u8>, Refusal> {
+        let image = written(service)?;
+        let Wrong::Written(change) = self.wrong else { return Ok(image) };
+        let mut sections = Sections::of(&image);
+        change(&mut sections);
+        Ok(sections.join())
+    }
+}
+
 /// The reading of an image that is taken for one: each entry that has a place, the later over the earlier.
 fn take(sections: &Sections, service: &mut Service) {
     let sizes = service.sizes();
     let image = sections.service(sizes);
     service.server.crash(sizes);
+    service.server.set_embargoes(sizes, image.server.embargoed);
     for (entry, taken) in service.server.entries[..sizes.files].iter_mut().zip(&image.server.entries) {
         entry.version = taken.version;
         entry.blocks[..sizes.blocks].copy_from_slice(&taken.blocks[..sizes.blocks]);

@@ -3,7 +3,8 @@
 //! [--lines N]`
 //!
 //! The image keeps nothing of the clients, so each of them has closed and flushed before. Until then a session may be
-//! anything; its image as far as it went is compared with the model's too.
+//! anything; its image as far as it went is compared with the model's too. Some clients go through the image under
+//! embargo.
 
 mod runs;
 mod session;

@@ -3,7 +3,7 @@
 use std::fmt;
 
 use model::check::Difference;
-use model::generate::{FileKind, closing_time, resumed_run, step_file};
+use model::generate::{FileKind, closing_time, leaving_embargoes, resumed_run, step_file};
 use model::images::written;
 use model::{Document01, Service, replay, replay_from};
 
@@ -15,7 +15,7 @@ pub struct Session {
     /// The first part as far as anything may happen, and its image if there is one.
     begun: Vec<u8>,
     image_begun: Option<Vec<u8>>,
-    /// The whole first part, after which every client has closed and flushed, and its image.
+    /// The whole first part, after which every client has closed and flushed, and its image. Some may be under embargo.
     first: Vec<u8>,
     image: Vec<u8>,
     /// The reports, the end and the second part.
@@ -26,12 +26,15 @@ pub struct Session {
 
 impl Session {
     pub fn of(seed: u64, lines: usize) -> Self {
-        let kind = [FileKind::Session, FileKind::Hot, FileKind::Wide][seed as usize % 3];
+        let kind = [FileKind::Session, FileKind::Embargo, FileKind::Hot, FileKind::Wide][seed as usize % 4];
         let begun = step_file(kind, seed, lines);
         let mut service = Service::fresh();
         replay_from::<Document01>(&mut service, &begun, &mut ());
         let image_begun = written(&service).ok();
-        let closing = closing_time(&mut service);
+        let mut closing = closing_time(&mut service);
+        if kind == FileKind::Embargo {
+            closing.extend(leaving_embargoes(&mut service, seed));
+        }
         let image = written(&service).expect("no open waits, and no recovery is under way");
         let sizes = service.sizes();
         let mut entries = service.server.entries[..sizes.files].iter();

@@ -23,7 +23,7 @@ module _ (c : tie.Start) where
   stores = let a = c .args in lent (now (a .blocks)) (now (a .copies)) (now (a .held)) (now (a .dirty))
 
   abbrev ledger : Ledger
-  ledger = let a = c .args in entered (now (a .written)) (now (a .writers)) (now (a .copied)) (now (a .waiting))
+  ledger = let a = c .args in entered (now (a .written)) (now (a .writers)) (now (a .copied)) (now (a .since))
 
   abbrev stands : Standing Annotated
   stands =

@@ -11,5 +11,5 @@ pub crash-spec : {M : Type 1} → statement M
 crash-spec =
     tie.close
     (tie.spec
-    (λ c κs. c .before .pre .clients)
+    (λ c κs. c .before .before .pre .clients)
     returns)

@@ -1,5 +1,6 @@
 //! Deliberate faults of an explainer, and whether the comparison finds each.
 
+mod embargoes;
 mod opens;
 mod picture;
 mod reads;
@@ -19,9 +20,16 @@ const SEEDS: u64 = 40;
 const LINES: [usize; 3] = [350, 1000, 3000];
 
 fn all() -> impl Iterator<Item = &'static Fault> {
-    [reads::FAULTS, opens::FAULTS, restarts::FAULTS, refusals::FAULTS, picture::FAULTS, text::FAULTS]
-        .into_iter()
-        .flatten()
+    let groups = [
+        reads::FAULTS,
+        opens::FAULTS,
+        restarts::FAULTS,
+        embargoes::FAULTS,
+        refusals::FAULTS,
+        picture::FAULTS,
+        text::FAULTS,
+    ];
+    groups.into_iter().flatten()
 }
 
 pub fn named(name: &str) -> Option<&'static Fault> {

@@ -202,7 +202,9 @@ fn is_to(granted: &Granted, of: Place) -> bool {
 fn is_grant(told: &Told, of: Place) -> bool {
     match told {
         Told::Granted(granted) | Told::AnsweredLast { granted, .. } => is_to(granted, of),
-        Told::Restarted { granted, .. } => granted.iter().any(|granted| is_to(granted, of)),
+        Told::Restarted { granted, .. } | Told::Embargoed { granted, .. } => {
+            granted.iter().any(|granted| is_to(granted, of))
+        }
         _ => false,
     }
 }

@@ -149,7 +149,7 @@ fn on_grants(told: &mut Told, change: impl FnOnce(&mut Vec<Granted>)) {
 fn granted_in(told: &Told, client: usize, file: usize) -> Option<u32> {
     let granted = match told {
         Told::Granted(granted) | Told::AnsweredLast { granted, .. } => std::slice::from_ref(granted),
-        Told::Restarted { granted, .. } => granted,
+        Told::Restarted { granted, .. } | Told::Embargoed { granted, .. } => granted,
         _ => &[],
     };
     let is_to_it = |granted: &&Granted| (granted.opening.client, granted.opening.file) == (client, file);
