@@ -7,7 +7,7 @@ use mathlib.Core.List.{List, [], _∷_, _++_}
 use lib.ListN.{take, replicate}
 use Rattle.records.specs.declared.record.Mode.{Mode}
 use Rattle.records.specs.declared.record.Mode.the-variants.{Read, Write}
-use Rattle.decision.specs.Lists.{count, stored}
+use Rattle.decision.specs.Lists.{count, stored, firstBelow}
 use Rattle.decision.specs.Permission.{permissionAtGrant}
 use Rattle.decision.specs.State.{stateOf}
 use Rattle.protocol.specs.declared.reply.Reply.{Reply}
@@ -87,7 +87,7 @@ pub record Examples : Type 0 where
   pub emptyService : batchOf busy 5 [] .service ≡ busy
 
 pub examples : Examples
-unfolding fresh stepOf fileStep tableStep stateOf permissionAtGrant count stored batchOf
+unfolding fresh stepOf fileStep tableStep firstBelow stateOf permissionAtGrant count stored batchOf
 examples =
     record {
       pairs = refl;

@@ -5,3 +5,4 @@ pub mod Agreeing
 pub mod Beyond
 pub mod Storing
 pub mod CallOrder
+pub mod Finding

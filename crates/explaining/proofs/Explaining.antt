@@ -25,7 +25,7 @@ use borrow.Author.Tests.{eqb-true, leb-false}
 use Rattle.protocol.specs.Reply.{isRefused, noCalls, noGrants}
 use Rattle.protocol.specs.Step.{numbersOf, clientOf, fileOf, blockOf}
 use Rattle.blocks.specs.Stores.{Stores, lent}
-use Rattle.table.specs.TableStep.{noEntry, noSides}
+use Rattle.table.specs.TableStep.{noEntry, noSides, isReported}
 use Rattle.words.specs.Words.{sideHeld}
 use Rattle.words.specs.Rows.{tableWords, wordAt, entryHeld, sidesHeld, fileHeld}
 use Rattle.words.specs.Said.{replySaid, callsSaid, grantsSaid, Says}
@@ -60,13 +60,14 @@ use Rattle.ledger.specs.Annotated.{annotatedBy, annotatedAfter}
 use Rattle.ledger.proofs.Wrapping.{found-there, noted-wrapped}
 use Rattle.sentences.specs.Scene.{asideHeld, sceneHeld, wholeHeld, wholeOf, keptBefore}
 use Rattle.sentences.specs.Explained.{saidOf, besidesText, forgottenText, isEmbargo, sentenceOf, noStepText, settingText, explainedText, explainedRoom, explainedLine, explainedBy}
+use Rattle.sentences.proofs.Clashes.{clash-agree}
 use Rattle.telling.specs.Lines.{canTell}
 use Rattle.telling.proofs.Reaching.{lineBytes, line-bytes}
 use Rattle.telling.specs.Reached.{Reached}
 use Rattle.telling.proofs.LineByLine.{one-more}
 use Rattle.explaining.specs.declared.tell.Seen.{Seen}
 use Rattle.explaining.specs.Lines.{explaining, settingAt, stateHeld, TellsLine}
-use Rattle.explaining.proofs.Scenes.{sceneBy, no-client-refused, said-alike}
+use Rattle.explaining.proofs.Scenes.{sceneBy, clashSaid, no-client-refused, said-alike}
 use Rattle.explaining.proofs.Wholes.{kept-whole, kept-row, Alike, opened-agree, forgotten-agree}
 
 -- ---- what is kept from before a step
@@ -216,6 +217,26 @@ module _
       sceneBy sizes (tableIn s .reported) (tableIn s .embargoed) (came k) (after k) (sides-is k) (waitingSince l₀ f)
       (aside-is k) (embargoedSince l₀ i) (seen .told) (seen .caching)
 
+  -- a file in force, after the step
+  module _ (g : ℕ) (below : g < sizesOf s .files) where
+    fits : g < maxFiles
+    fits = file-fits (in-force-permitted given) below
+
+    entry-after : entryHeld t g ≡ entryAt (o .service) g
+    entry-after = entry-there given t flags a g fits ∙ ap (λ (k : Service). entryAt k g) service-is
+
+    side-after : (j : ℕ) → sideOf (sidesHeld t g) j ≡ clientAt (o .service) j g
+    side-after j = own-there given t flags a g fits j ∙ ap (λ (k : Service). clientAt k j g) service-is
+
+  -- what a report that clashes is told by
+  clashes :
+      clashSaid (sizesOf s) (tableIn s .reported) (wholeHeld before t lines) x
+      ≡ clashSaid (sizesOf s) (tableIn s .reported) (wholeOf s l₀ x) x
+  clashes =
+      clash-agree (sizesOf s) (isReported (tableIn s .reported)) (isReported (tableIn s .reported)) (entryHeld t)
+      (entryAt (o .service)) (λ g. sideOf (sidesHeld t g) (clientOf x)) (λ g. clientAt (o .service) (clientOf x) g)
+      (λ j h. refl) entry-after (λ g h. side-after g h (clientOf x)) (clientOf x)
+
   -- what a step on all files is told by
   module _ (on-all : leb 11 (numbersOf x .kind) ≡ true) where
     all-kept : before ≡ t₀
@@ -226,10 +247,9 @@ module _
 
     whole-alike : Alike (sizesOf s .files) (wholeHeld before t lines) (wholeOf s l₀ x)
     whole-alike =
-        let fits : (g : ℕ) → g < sizesOf s .files → g < maxFiles = λ g h. file-fits (in-force-permitted given) h in
         record {
           entry = λ g h. ap (λ (l : List ℕ). entryHeld l g) all-kept ∙ entry-there given t₀ flags₀ a₀ g (fits g h);
-          after = λ g h. entry-there given t flags a g (fits g h) ∙ ap (λ (k : Service). entryAt k g) service-is;
+          after = entry-after;
           side = λ j g h.
               ap (λ (l : List ℕ). sideOf (sidesHeld l g) j) all-kept ∙ own-there given t₀ flags₀ a₀ g (fits g h) j;
           lines = refl;
@@ -269,7 +289,7 @@ module _
   sentence-is =
       ap (λ c. saidOf fresh c (wholeHeld before t lines) x (o .calls) (o .reply)) scene-is
       ∙ said-alike fresh s l₀ x sizes sized (seen .told) (seen .caching) (wholeHeld before t lines)
-      (λ ok. (found ok .0, found ok .1)) looks forgets
+      (λ ok. (found ok .0, found ok .1)) clashes looks forgets
 
   -- a step that is taken names a client that is there, or none
   aside-found : refused s x ≡ false → asideHeld flags₀ (clientOf x) ≡ isAside s x

@@ -22,6 +22,7 @@ use Rattle.protocol.specs.declared.step.Step.the-variants.{Open, Close, Read, W
 use Rattle.protocol.specs.declared.step.Step.the-variants.{Restart, Embargo, Lift}
 use Rattle.protocol.specs.Reply.{isRefused}
 use Rattle.protocol.specs.Step.{clientOf, fileOf}
+use Rattle.table.specs.TableStep.{isReported}
 use Rattle.service.specs.declared.service.Service.{Service}
 use Rattle.service.specs.declared.outcome.Outcome.{Outcome}
 use Rattle.service.specs.Contents.{sizesOf, tableIn, entryAt, embargoedAt, sidesAt}
@@ -33,7 +34,7 @@ use Rattle.ledger.specs.declared.ledger.Ledger.{Ledger}
 use Rattle.ledger.specs.declared.told.Told.{Told}
 use Rattle.ledger.specs.Ledger.{waitingSince, embargoedSince, mayCache, stepTold}
 use Rattle.sentences.specs.Scene.{Scene, sceneOf, Whole, wholeOf}
-use Rattle.sentences.specs.Explained.{besidesText, forgottenText, isEmbargo, saidOf}
+use Rattle.sentences.specs.Explained.{besidesText, forgottenText, isEmbargo, clashText, saidOf}
 
 abbrev pub sceneBy : Sizes → List Bool → List Bool → Entry → Entry → Sides → ℕ → Bool → ℕ → Told → Bool → Scene
 sceneBy z reported embargoed e e′ sides since aside embargo told caching =
@@ -50,6 +51,10 @@ sceneBy z reported embargoed e e′ sides since aside embargo told caching =
       told = told;
       caching = caching;
     }
+
+-- what is said of the step x where it is refused with 22
+abbrev pub clashSaid : Sizes → List Bool → Whole → Step → List ℕ
+clashSaid z reported w x = clashText z (isReported reported) (w .after) (w .sideAfter (clientOf x)) (clientOf x)
 
 -- ---- a step that names no client
 
@@ -134,15 +139,23 @@ module _
       saidOf fresh (sceneBy z p q e₁ a₁ d₁ n₁ b₁ m₁ t₁ c₁) w₁ x kinds r
       ≡ saidOf fresh (sceneBy z p q e₂ a₂ d₂ n₂ b₂ m₂ t₂ c₂) w₂ x kinds r
 
-  -- a refusal looks at the entry, and at the lines of the wait and of the embargo
-  same-refused : (r : Reply) → isRefused r ≡ true → e₁ ≡ e₂ → n₁ ≡ n₂ → m₁ ≡ m₂ → Same r
-  same-refused (Refused k) h e n m = rw (e, n, m)
-  same-refused (Granted g) h e n m = conflict h refl
-  same-refused Waiting h e n m = conflict h refl
-  same-refused (Value v) h e n m = conflict h refl
-  same-refused (Answered k) h e n m = conflict h refl
-  same-refused (AnsweredGrant k i g) h e n m = conflict h refl
-  same-refused Done h e n m = conflict h refl
+  -- a refusal looks at the entry, and at the lines of the wait and of the embargo; that of a report that clashes at all
+  -- files after it
+  same-refused :
+      (r : Reply)
+      → isRefused r ≡ true
+      → e₁ ≡ e₂
+      → n₁ ≡ n₂
+      → m₁ ≡ m₂
+      → clashSaid z p w₁ x ≡ clashSaid z p w₂ x
+      → Same r
+  same-refused (Refused k) h e n m w = rw (e, n, m, w)
+  same-refused (Granted g) h e n m w = conflict h refl
+  same-refused Waiting h e n m w = conflict h refl
+  same-refused (Value v) h e n m w = conflict h refl
+  same-refused (Answered k) h e n m w = conflict h refl
+  same-refused (AnsweredGrant k i g) h e n m w = conflict h refl
+  same-refused Done h e n m w = conflict h refl
 
   -- any other reply does not look at the line of a wait
   same-accepted :
@@ -171,6 +184,7 @@ module _
 -- what the code finds in the row of the step's file and at its client, wrapped, and tells of a read
 module _ (fresh : Bool) (s : Service) (l : Ledger) (x : Step) (z : Sizes) (sized : z ≡ sizesOf s) (told : Told) (caching : Bool)
     (whole : Whole) (found : refused s x ≡ false → (told ≡ stepTold s l x) × (caching ≡ mayCache s x))
+    (clashes : clashSaid (sizesOf s) (tableIn s .reported) whole x ≡ clashSaid (sizesOf s) (tableIn s .reported) (wholeOf s l x) x)
     (looks : besidesText (sizesOf s) whole x ≡ besidesText (sizesOf s) (wholeOf s l x) x)
     (forgets :
     isEmbargo x ≡ true
@@ -212,7 +226,8 @@ module _ (fresh : Bool) (s : Service) (l : Ledger) (x : Step) (z : Sizes) (sized
       not-ok
       (ap (entryAt s) here)
       (ap (waitingSince l) here)
-      (ap (embargoedSince l) own))
+      (ap (embargoedSince l) own)
+      clashes)
       (λ ok.
       same-accepted fresh x (o .calls) (sizesOf s) _ _ _ _ _ _ _ _ _ _ _ _ _ _ _ _ _ _ whole (wholeOf s l x) (o .reply)
       ok

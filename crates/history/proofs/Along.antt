@@ -12,6 +12,7 @@ use Rattle.service.specs.NothingBehind.{afterSteps}
 use Rattle.service.proofs.Owing.{Owed}
 use Rattle.service.proofs.NothingBehind.{fresh-owed}
 use Rattle.service.proofs.Reached.{Reached, reached-fresh, reached-after, promised-at, owed-after, behind-at}
+use Rattle.service.proofs.NeverClash.{passes-at}
 use Rattle.service.proofs.SetAside.{unseen, is-told}
 use Rattle.ledger.proofs.AllBooked.{all-booked}
 use Rattle.ledger.proofs.Provenance.{Agrees, agrees-after, line-told, fresh-agrees}
@@ -38,6 +39,7 @@ module _ (z : Sizes) where
               end = end;
               unseen = unseen s x;
               lifted = is-told s x;
+              passes = passes-at z s (p .memory) (p .recovery) (h .reached) x;
               told = line-told (in-force-permitted z) s (p .memory) (p .ledger) (p .steps) x
                   (all-booked z s (p .memory) (p .recovery) (h .reached)) (h .agrees) read;
             };

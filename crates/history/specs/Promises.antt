@@ -1,5 +1,5 @@
 -- What is promised of every history, from the fresh service of any sizes on: Demand 3, nothing left behind, what an
--- embargo is worth, and what is told of each read. A new promise is a field here.
+-- embargo is worth, that no report clashes, and what is told of each read. A new promise is a field here.
 use Prim.Native.Nat.{ℕ, _<_}
 use mathlib.Core.List.{List, [], _∷_}
 use Rattle.sizes.specs.declared.sizes.Sizes.{Sizes}
@@ -9,6 +9,7 @@ use Rattle.service.specs.Aside.{Forgotten, Unseen, Told}
 use Rattle.service.specs.Demand3.{ReadIsLatest, EndRestores}
 use Rattle.service.specs.Fresh.{fresh}
 use Rattle.service.specs.NothingBehind.{NothingBehind}
+use Rattle.service.specs.Reports.{Passes}
 use Rattle.ledger.specs.Provenance.{LineIsTold}
 use Rattle.history.specs.Event.{Event, step, next, stepsOf, Premise}
 use Rattle.history.specs.Past.{Past, noPast, pastAll}
@@ -29,6 +30,8 @@ pub record StepKept (s : Service) (p : Past) (x : Step) : Type 0 where
   pub unseen : Unseen s x
   -- a client that is told of its embargo, or restarts, is under embargo no more
   pub lifted : Told s x
+  -- "Reports of stations that follow the rules always pass": it is not refused with 22
+  pub passes : Passes s x
   -- what `explain` says of a read is so
   pub told : LineIsTold s (p .ledger) (p .steps) x
 

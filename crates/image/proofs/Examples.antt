@@ -7,7 +7,7 @@ use mathlib.Core.List.{List, [], _∷_, _++_}
 use lib.ListN.{replicate, set}
 use Rattle.records.specs.declared.record.Mode.the-variants.{Read}
 use Rattle.records.specs.Record.{notOpen}
-use Rattle.decision.specs.Lists.{count, stored}
+use Rattle.decision.specs.Lists.{count, stored, firstBelow}
 use Rattle.decision.specs.Permission.{permissionAtGrant}
 use Rattle.sizes.specs.Sizes.{nobody, place, maxClients, defaultSizes}
 use Rattle.decision.specs.State.{stateOf}
@@ -141,7 +141,7 @@ pub record Examples : Type 0 where
       ≡ Length 11
 
 pub examples : Examples
-unfolding fresh stepOf fileStep blockStep tableStep allStep forgottenBelow grantsBelow droppedBelow afterForgetting afterDropping stateOf permissionAtGrant count stored low below flat imageBytes imageWritten bufferAfter
+unfolding fresh stepOf fileStep blockStep tableStep firstBelow allStep forgottenBelow grantsBelow droppedBelow afterForgetting afterDropping stateOf permissionAtGrant count stored low below flat imageBytes imageWritten bufferAfter
 examples =
     record {
       freshImage = refl;

@@ -1,4 +1,6 @@
--- What is said of a step, in reading order: phrases, what is said of an accepted step, and of a refusal.
+-- What is said of a step, in reading order: phrases, what is said of an accepted step, of a refusal, and of a report that
+-- clashes.
 pub mod Phrase
 pub mod Accepted
 pub mod Refusal
+pub mod Clash

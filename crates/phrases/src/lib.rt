@@ -1,5 +1,6 @@
 // The phrases and sentences that are said of a step: definitions, in specs/, and the functions that write each of them
 // into a lent buffer.
+mod clash;
 mod done;
 mod grant;
 mod list;
@@ -10,6 +11,8 @@ mod refusal;
 mod restart;
 mod wait;
 
+pub use clash::put_not_both;
+pub use clash::put_untrue;
 pub use done::put_answer;
 pub use done::put_done;
 pub use grant::put_grant;

@@ -7,7 +7,7 @@ use mathlib.Core.Path.{_≡_, refl}
 use mathlib.Core.Bool.{true}
 use mathlib.Core.List.{List, [], _∷_, _++_}
 use Rattle.sizes.specs.Sizes.{defaultSizes}
-use Rattle.decision.specs.Lists.{count, stored}
+use Rattle.decision.specs.Lists.{count, firstBelow, stored}
 use Rattle.decision.specs.State.{stateOf}
 use Rattle.decision.specs.Permission.{permissionAtGrant}
 use Rattle.access.specs.BlockStep.{blockStep}
@@ -180,9 +180,9 @@ pub record Examples : Type 0 where
       ∷ [])
 
 pub examples : Examples
-unfolding fresh emptyLedger ledgerAfter stepOf fileStep blockStep tableStep stateOf permissionAtGrant count stored
-    decimal digitsOf digitsOn numeral argument shapeOf shaped step parseLine settingOf lines after serviceAfter
-    numbersText annotatedAfter asidesText stationsText filesText timesText pictureText
+unfolding fresh emptyLedger ledgerAfter stepOf fileStep blockStep tableStep stateOf permissionAtGrant count
+    firstBelow stored decimal digitsOf digitsOn numeral argument shapeOf shaped step parseLine settingOf lines after
+    serviceAfter numbersText annotatedAfter asidesText stationsText filesText timesText pictureText
 examples =
     record {
       start = refl;

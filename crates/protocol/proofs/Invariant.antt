@@ -7,7 +7,7 @@ use mathlib.Core.Path.{_≡_}
 use mathlib.Core.Bool.{Bool, true, false, cond, not, _&&_}
 use mathlib.Core.Logic.{_⊎_}
 use mathlib.Core.List.{List, [], _∷_}
-use lib.Dec.{eqb, ltb}
+use lib.Dec.{eqb}
 use lib.ListN.{length}
 use Rattle.records.specs.declared.record.Mode.{Mode}
 use Rattle.records.specs.declared.record.ClientRecord.{ClientRecord}
@@ -15,13 +15,14 @@ use Rattle.records.specs.declared.version.Version.{Version}
 use Rattle.protocol.specs.declared.client.ClientFile.{ClientFile}
 use Rattle.sizes.specs.Sizes.{nobody}
 use Rattle.records.specs.Version.{numberOf, sameVersion, isLastVersion}
-use Rattle.records.specs.Record.{isOpen, isWrite}
+use Rattle.records.specs.Record.{isWrite}
 use Rattle.decision.specs.State.{recordIn}
 use Rattle.decision.specs.Callback.{writesBack, invalidates}
 use Rattle.protocol.specs.Entry.{waits, callTo}
 use Rattle.protocol.specs.Client.{noClient}
 use Rattle.protocol.specs.Book.{HistoryOf, History, latest, riskedBy}
 use Rattle.protocol.specs.Table.{Row}
+pub use Rattle.protocol.specs.Clash.{hasOpen, mayCache, hasWriters}
 use Rattle.protocol.proofs.View.{View}
 pub mod Flags
 pub mod Lists
@@ -44,17 +45,8 @@ pub mod Answer
 pub mod Open
 pub mod Recovery
 pub mod Restart
+pub mod Clash
 pub mod Summary
-
--- what a client has of the file
-abbrev pub mayCache : ClientFile → Bool
-mayCache c = c .opens .caching
-
-abbrev pub hasOpen : ClientFile → Bool
-hasOpen c = isOpen (c .opens)
-
-abbrev pub hasWriters : ClientFile → Bool
-hasWriters c = ltb 0 (c .opens .writers)
 
 abbrev pub isLatest : Version → ClientFile → Bool
 isLatest version c = sameVersion (c .label) version

@@ -11,6 +11,7 @@ use Rattle.protocol.proofs.Invariant.Settle.{settle-kept, settle-backs}
 use Rattle.protocol.proofs.Invariant.Owing.{running-owes, recovering-owes}
 use Rattle.protocol.proofs.Invariant.Answer.{answer-kept, answer-backs}
 use Rattle.protocol.proofs.Invariant.Recovery.{crash-kept, crash-again-kept, report-kept, end-kept}
+use Rattle.protocol.proofs.Invariant.Clash.{never-clashes}
 use Rattle.protocol.proofs.Invariant.Restart.{restart-kept, restart-backs, restart-cut-off-kept}
 use Rattle.protocol.proofs.Invariant.Restart.{restart-cut-off-backs}
 
@@ -41,6 +42,7 @@ promises n bound =
       readsOwn = λ v k i reported row h _. own-read-is n v k i reported row h;
       writesOwn = λ v k i x reported row h _. own-write-kept n v k i x reported row h;
       reports = λ v k i reported row h below _. report-kept n v k i reported row h below;
+      neverClashes = never-clashes n;
       restartsCutOff = λ v k i reported row. restart-cut-off-kept n v k i reported row bound;
       restartsCutOffBack = λ v k i reported row. restart-cut-off-backs n v k i reported row bound;
       owesStill = λ v k i reported row. recovering-owes n v k i reported row;

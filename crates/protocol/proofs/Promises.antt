@@ -13,6 +13,7 @@ use Rattle.records.specs.Version.{isLastVersion}
 use Rattle.records.specs.Record.{isOpen, isWrite, countOf}
 use Rattle.protocol.specs.Entry.{waits, callTo, callsOut, callsFor}
 use Rattle.protocol.specs.Client.{noClient, readNeedsServer, writeNeedsServer}
+use Rattle.protocol.specs.Clash.{clashesOn}
 use Rattle.protocol.specs.Book.{History, latest, wrote, came, lost}
 use Rattle.protocol.specs.Table.{Row, rowOf, without}
 use Rattle.protocol.proofs.View.{View, at, freshView, waitingView, grantedView, closedView, valueIn, readView}
@@ -153,6 +154,13 @@ pub record Promises
       → i < n
       → reported i ≡ false
       → Recovering (reportedView v i) k (at i true reported) row
+  -- what a client reports does not clash with what was accepted before
+  pub neverClashes :
+      (v : View) (k : History) (i : ℕ) (reported accepted : ℕ → Bool) (row : Row)
+      → Recovering v k reported row
+      → reported i ≡ false
+      → ((j : ℕ) → j < n → accepted j ≡ true → reported j ≡ true)
+      → clashesOn n accepted (v .entry) (v .client i) ≡ false
   pub restartsCutOff :
       (v : View) (k : History) (i : ℕ) (reported : ℕ → Bool) (row : Row)
       → Recovering v k reported row

@@ -3,22 +3,24 @@
 -- have room for more clients than there are. Assumes nothing.
 use Prim.Native.Nat.{ℕ, zero, suc, _<_, _≤_}
 use mathlib.Core.Path.{_≡_, refl, sym, ap, _∙_}
-use mathlib.Core.Bool.{Bool, true, false, cond, not}
+use mathlib.Core.Bool.{Bool, true, false, cond, not, _&&_, _||_}
 use mathlib.Core.List.{List, _∷_}
 use native.Mathlib.Nat.{le-refl}
 use native.Mathlib.Omega.{arith}
-use lib.Dec.{eqb}
+use lib.Dec.{eqb, ltb}
 use lib.ListN.{set, take, replicate}
 use lib.Seq.{getD-take, take-set-lt}
 use Rattle.records.specs.declared.record.Mode.{Mode}
 use Rattle.records.specs.declared.record.ClientRecord.{ClientRecord}
 use Rattle.protocol.specs.declared.client.ClientFile.{ClientFile}
 use Rattle.protocol.specs.declared.entry.Entry.{Entry}
+use Rattle.records.specs.Version.{noVersion}
 use Rattle.records.specs.Record.{notOpen, isWrite, opened, closed, uncached, endsWriting}
 use Rattle.sizes.specs.Sizes.{nobody}
 use Rattle.decision.specs.Lists.{stored, filled}
 use Rattle.decision.specs.Callback.{asksNothing, callbackDue, writesBack, invalidates}
 use Rattle.decision.proofs.Counting.{count-agree}
+use Rattle.decision.proofs.Finding.{first-agree}
 use Rattle.decision.proofs.Agreeing.{due-agree, calls-agree, permission-agree}
 use Rattle.decision.proofs.Storing.{stored-agree}
 use Rattle.protocol.specs.Entry.{recordAt, waits, kindOf, callTo, callsOut, callsFor, callsDue, waitingEntry}
@@ -26,6 +28,8 @@ use Rattle.protocol.specs.Entry.{grantOf}
 use Rattle.protocol.specs.Entry.{grantedEntry, closedEntry, answeredEntry, crashedEntry, freshEntry}
 use Rattle.protocol.specs.Entry.{reportedEntry, forgottenEntry}
 use Rattle.protocol.specs.Table.{seen}
+use Rattle.protocol.specs.Client.{noClient}
+use Rattle.protocol.specs.Clash.{clash, saysAnything, acceptedOf, clashesOn}
 
 -- storing into a list, and taking the places that are stored
 take-stored {ℓ} : {A : Type ℓ} (m n : ℕ) (v : ℕ → A) (l : List A)
@@ -65,6 +69,18 @@ module _ (n : ℕ) (e : Entry) where
 
   pub calls-out-seen : callsOut n (seen n e) ≡ callsOut n e
   calls-out-seen = count-agree n _ _ (λ i below. ap (λ k. not (asksNothing k)) (call-seen i below))
+
+  -- what is accepted of a client, and with whom it clashes
+  accepted-seen : (i : ℕ) → i < n → acceptedOf (seen n e) i ≡ acceptedOf e i
+  accepted-seen i below =
+      ap (λ (r : ClientRecord). record { opens = r; marked = eqb (e .last) i; label = noVersion }) (record-seen i below)
+
+  pub clashes-seen :
+      (accepted : ℕ → Bool) (own : ClientFile) → clashesOn n accepted (seen n e) own ≡ clashesOn n accepted e own
+  clashes-seen accepted own =
+      ap (λ k. saysAnything own && (clash own noClient || ltb k n))
+      (first-agree n (λ j. accepted j && clash own (acceptedOf (seen n e) j)) (λ j. accepted j && clash own (acceptedOf e j))
+      (λ j below. ap (λ (d : ClientFile). accepted j && clash own d) (accepted-seen j below)))
 
   -- ---- what a step makes of it
 

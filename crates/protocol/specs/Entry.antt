@@ -160,8 +160,7 @@ freshEntry n =
       calls = replicate n 0;
     }
 
--- "a station gives counts, permissions and marks for all files; the table takes them. If two claim one mark, the
--- later stands."
+-- "a station gives counts, permissions and marks for all files; the table takes them"
 abbrev pub reportedEntry : Entry → ℕ → ClientFile → Entry
 reportedEntry e i own =
     record {

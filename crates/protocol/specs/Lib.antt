@@ -6,6 +6,7 @@ pub mod Reply
 pub mod Step
 pub mod Entry
 pub mod Client
+pub mod Clash
 pub mod Access
 pub mod Needs
 pub mod Refusal

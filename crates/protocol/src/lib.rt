@@ -1,6 +1,7 @@
 // The consistency protocol of one file: the types of both sides, what the steps make of each, and the definitions of
 // every rule of one file with the theorem that they keep it consistent. Nothing here knows of lists of files or of the
 // whole service.
+mod clash;
 mod client;
 mod copy;
 mod entry;
@@ -36,6 +37,7 @@ pub use refusal::OPEN_WAITS_AT_WRITING;
 pub use refusal::OUT_OF_RANGE;
 pub use refusal::REPORT_MISSING;
 pub use refusal::REPORTED;
+pub use refusal::REPORTS_CLASH;
 pub use refusal::UNDER_EMBARGO;
 pub use refusal::VERSION_SPENT;
 pub use refusal::refused_if;

@@ -7,7 +7,7 @@ use mathlib.Core.List.{List, [], _∷_, _++_}
 use lib.ListN.{replicate, set}
 use Rattle.records.specs.Record.{notOpen}
 use Rattle.records.specs.Version.{versionOf}
-use Rattle.decision.specs.Lists.{count, stored}
+use Rattle.decision.specs.Lists.{count, stored, firstBelow}
 use Rattle.decision.specs.Permission.{permissionAtGrant}
 use Rattle.sizes.specs.Sizes.{defaultSizes, maxClients}
 use Rattle.decision.specs.State.{stateOf}
@@ -170,7 +170,7 @@ unfolding isImage sameBytes imageBytes low below flat decodedFiles decodedBlocks
 images = record { empty = refl; version1 = refl; disagree = refl; embargo = refl; allEmbargoed = refl; whole = refl }
 
 pub reads : Reads
-unfolding fresh stepOf fileStep blockStep tableStep stateOf permissionAtGrant count stored isImage sameBytes imageBytes low below flat decodedFiles decodedBlocks decodedEmbargoes numberAt entriesIn placed withBlocks readingOf
+unfolding fresh stepOf fileStep blockStep tableStep firstBelow stateOf permissionAtGrant count stored isImage sameBytes imageBytes low below flat decodedFiles decodedBlocks decodedEmbargoes numberAt entriesIn placed withBlocks readingOf
 reads =
     record {
       reply = refl;

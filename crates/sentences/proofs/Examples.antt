@@ -3,16 +3,20 @@
 -- steps. Assumes nothing.
 use Prim.Native.Nat.{ℕ}
 use mathlib.Core.Path.{_≡_, refl}
-use mathlib.Core.Bool.{true}
+use mathlib.Core.Bool.{Bool, true, false, cond}
 use mathlib.Core.List.{List, [], _∷_, _++_}
+use lib.Dec.{eqb, ltb}
 use Rattle.records.specs.declared.record.Mode.the-variants.{Read as ForRead, Write as ForWrite}
+use Rattle.records.specs.Version.{noVersion}
 use Rattle.sizes.specs.Sizes.{defaultSizes}
-use Rattle.decision.specs.Lists.{count, stored}
+use Rattle.decision.specs.Lists.{count, firstBelow, stored}
 use Rattle.decision.specs.State.{stateOf}
 use Rattle.decision.specs.Callback.{orderedCalls}
 use Rattle.decision.specs.Permission.{permissionAtGrant}
 use Rattle.protocol.specs.declared.step.Step.the-variants.{Open}
-use Rattle.protocol.specs.Entry.{freshEntry}
+use Rattle.protocol.specs.declared.client.ClientFile.{ClientFile}
+use Rattle.protocol.specs.Client.{noClient}
+use Rattle.protocol.specs.Entry.{freshEntry, reportedEntry}
 use Rattle.protocol.specs.Reply.{grantsValues}
 use Rattle.access.specs.BlockStep.{blockStep}
 use Rattle.file.specs.FileStep.{fileStep, afterForgetting, afterDropping}
@@ -31,12 +35,21 @@ use Rattle.ledger.specs.Annotated.{unannotated, annotatedAfter}
 use Rattle.phrases.specs.Phrase.{numbersText}
 use Rattle.phrases.specs.Accepted.{callsText, lossesOn, lossesBelow}
 use Rattle.phrases.specs.Refusal.{refusalText}
-use Rattle.sentences.specs.Explained.{grantsText, sentenceOf, explainedText, explainedLine}
+use Rattle.sentences.specs.Explained.{clashText, grantsText, sentenceOf, explainedText, explainedLine}
 
 -- what is said of an input, line by line, from the fresh service and an empty ledger
 abbrev explained : List ℕ → List ℕ
 explained input =
     transcript (explainedLine true) (annotatedAfter true) (unannotated (fresh defaultSizes)) 1 (lines input)
+
+-- what a client says of a file
+abbrev says : ℕ → ℕ → Bool → Bool → ClientFile
+says readers writers caching marked =
+    record {
+      opens = record { readers = readers; writers = writers; caching = caching };
+      marked = marked;
+      label = noVersion;
+    }
 
 abbrev joined : List (List ℕ) → List ℕ
 joined [] = []
@@ -251,7 +264,7 @@ pub record Examples : Type 0 where
 
 pub examples : Examples
 unfolding fresh emptyLedger ledgerAfter stepOf fileStep blockStep tableStep stateOf permissionAtGrant orderedCalls
-    count stored decimal digitsOf valuesText digitsOn numeral argument shapeOf shaped step parseLine settingOf
+    count firstBelow stored decimal digitsOf valuesText digitsOn numeral argument shapeOf shaped step parseLine settingOf
     replyCalls lines transcript serviceAfter numbersText callsText sentenceOf explainedText explainedLine
     annotatedAfter lossesOn lossesBelow grantsText afterForgetting afterDropping forgottenBelow grantsBelow droppedBelow
     allStep cameFrom lostBelow grantsValues
@@ -340,7 +353,7 @@ pub record Embargoes : Type 0 where
 
 pub embargoes : Embargoes
 unfolding fresh emptyLedger ledgerAfter stepOf fileStep blockStep tableStep stateOf permissionAtGrant orderedCalls
-    count stored decimal digitsOf valuesText digitsOn numeral argument shapeOf shaped step parseLine settingOf
+    count firstBelow stored decimal digitsOf valuesText digitsOn numeral argument shapeOf shaped step parseLine settingOf
     replyCalls lines transcript serviceAfter numbersText callsText sentenceOf explainedText explainedLine
     annotatedAfter lossesOn lossesBelow grantsText afterForgetting afterDropping forgottenBelow grantsBelow droppedBelow
     allStep cameFrom lostBelow grantsValues
@@ -350,3 +363,23 @@ embargoes =
       recovery = refl;
       image = refl;
     }
+
+-- a report that has permission of a file that is not open, and one that is open beside a mark that was accepted: the
+-- first file is told, and the first of the stations
+pub record Clashes : Type 0 where
+  pub untrue :
+      clashText defaultSizes (λ j. false) (λ f. freshEntry 8) (λ f. cond (eqb f 3) (says 0 0 true false) noClient) 5
+      ≡ bytes "the report on file 3 cannot be true: station 5 has readers 0, writers 0, may cache, no mark"
+  pub beside :
+      clashText defaultSizes (λ j. ltb 0 j) (λ f. reportedEntry (freshEntry 8) 2 (says 0 0 false true))
+      (λ f. cond (ltb f 6) noClient (says 255 0 true false)) 5
+      ≡ joined
+      (bytes "the reports on file 6 cannot both be true: station 5 has readers 255, writers 0, may cache, no mark;"
+      ∷ bytes " station 2 has readers 0, writers 0, may not cache, a mark"
+      ∷ [])
+  -- nothing is said where nothing clashes
+  pub none : clashText defaultSizes (λ j. true) (λ f. freshEntry 8) (λ f. noClient) 5 ≡ []
+
+pub clashes : Clashes
+unfolding firstBelow decimal digitsOf
+clashes = record { untrue = refl; beside = refl; none = refl }

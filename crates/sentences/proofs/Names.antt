@@ -1,5 +1,5 @@
--- What the numbers of a step name; the same sentence where it names the same; and what is said of an embargo, and
--- besides of a restart or a lift. Assumes nothing.
+-- What the numbers of a step name; the same sentence where it names the same; and what is said of an embargo, of a
+-- report that clashes, and besides of a restart or a lift. Assumes nothing.
 use Prim.Native.Nat.{ℕ}
 use mathlib.Core.Path.{_≡_, refl, sym, ap, _∙_}
 use mathlib.Core.Bool.{Bool, true, false, cond}
@@ -102,6 +102,14 @@ module _ (z : Sizes) (w : Whole) (x : Step) {q : Numbers} (is : q ≡ numbersOf 
       → eqb (q .kind) 12 ≡ false
       → other ≡ cond (isEmbargo x) (embargoedText z w (clientOf x)) other
   no-embargo other e = sym (unless (embargoedText z w (clientOf x)) other (sym same-kind ∙ e))
+
+-- a report that clashes is told by the number of its refusal
+module _ (k : ℕ) (clash other : List ℕ) where
+  pub a-clash : eqb k 22 ≡ true → clash ≡ cond (eqb k 22) clash other
+  a-clash e = sym (when clash other e)
+
+  pub no-clash : eqb k 22 ≡ false → other ≡ cond (eqb k 22) clash other
+  no-clash e = sym (unless clash other e)
 
 -- what is said besides of a restart or a lift, by the kind
 module _ (z : Sizes) (w : Whole) where

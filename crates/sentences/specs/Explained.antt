@@ -3,8 +3,8 @@
 -- crates/stepfile/specs/Played.antt), and no block comes from an image.
 use Prim.Native.Nat.{ℕ, zero, suc}
 use mathlib.Core.Bool.{Bool, cond, not, _&&_}
-use mathlib.Core.List.{List, [], _∷_, _++_}
-use lib.Dec.{eqb}
+use mathlib.Core.List.{List, [], _++_}
+use lib.Dec.{eqb, ltb}
 use Rattle.records.specs.Record.{isOpen}
 use Rattle.records.specs.Version.{asRead, previousVersion}
 use Rattle.sizes.specs.declared.sizes.Sizes.{Sizes}
@@ -18,9 +18,12 @@ use Rattle.protocol.specs.declared.reply.Reply.the-variants.{AnsweredGrant, Don
 use Rattle.protocol.specs.declared.step.Step.{Step}
 use Rattle.protocol.specs.declared.step.Step.the-variants.{Open, Close, Read, Write, Flush, Answer, Crash, Report, End}
 use Rattle.protocol.specs.declared.step.Step.the-variants.{Restart, Embargo, Lift}
-use Rattle.protocol.specs.Client.{sideOf}
+use Rattle.protocol.specs.Clash.{clash, acceptedOf, clashesWith}
+use Rattle.protocol.specs.Client.{noClient, sideOf}
 use Rattle.protocol.specs.Entry.{recordAt, waits}
 use Rattle.protocol.specs.Step.{numbersOf, clientOf, fileOf, blockOf, modeOf}
+use Rattle.table.specs.Clash.{clashFile}
+use Rattle.table.specs.TableStep.{isReported}
 use Rattle.service.specs.declared.service.Service.{Service}
 use Rattle.service.specs.Step.{stepOf}
 use Rattle.stepfile.specs.declared.parsed.Parsed.{Parsed}
@@ -37,6 +40,7 @@ use Rattle.ledger.specs.declared.ledger.Ledger.{Ledger}
 use Rattle.phrases.specs.Phrase.{clientText, listText}
 use Rattle.phrases.specs.Accepted.{readText, grantText, waitText, answerText, stillText, doneText, risksText}
 use Rattle.phrases.specs.Refusal.{refusalText}
+use Rattle.phrases.specs.Clash.{untrueText, notBothText}
 use Rattle.sentences.specs.Scene.{Scene, sceneOf, Whole, wholeOf}
 
 -- ---- restarts, embargoes and lifts
@@ -104,10 +108,25 @@ embargoedText z w i = clientText i ++ (bytes " is put under embargo" ++ forgotte
 abbrev pub isEmbargo : Step → Bool
 isEmbargo x = eqb (numbersOf x .kind) 12
 
+-- ---- reports that clash
+
+-- what is said of client i and a file f on which its report clashes (document 02, Wish 10): `own` is its side of it, e the
+-- server's entry, and `accepted` says who of the n clients has reported
+abbrev pub clashOnText : ℕ → (ℕ → Bool) → Entry → ClientFile → ℕ → ℕ → List ℕ
+clashOnText n accepted e own i f =
+    let j = clashesWith n accepted e own in
+    cond (clash own noClient) (untrueText f i own) (notBothText f i own j (acceptedOf e j))
+
+-- the first such file is told
+abbrev pub clashText : Sizes → (ℕ → Bool) → (ℕ → Entry) → (ℕ → ClientFile) → ℕ → List ℕ
+clashText z accepted entry own i =
+    let f = clashFile z accepted entry own in
+    cond (ltb f (z .files)) (clashOnText (z .clients) accepted (entry f) (own f) i f) []
+
 -- ---- steps
 
 -- What is said of the step x, by its reply. An answer that grants gives the open that waited: the waiter's, in the mode
--- in which it waits.
+-- in which it waits. A refused report changes nothing, so what it clashes with is looked at after it.
 abbrev pub saidOf : Bool → Scene → Whole → Step → List ℕ → Reply → List ℕ
 saidOf fresh c w x kinds (Granted g) =
     grantText (modeOf x) g (sideOf (c .sides) (clientOf x)) (clientOf x) (fileOf x)
@@ -116,7 +135,9 @@ saidOf fresh c w x kinds Waiting =
 saidOf fresh c w x kinds (Value v) =
     readText fresh (c .told) (c .aside) (c .embargo) (clientOf x) (fileOf x) (blockOf x)
 saidOf fresh c w x kinds (Refused k) =
-    refusalText (c .sizes) (c .reported) (c .embargoed) (c .entry) (c .since) (c .embargo) x k
+    cond (eqb k 22)
+    (clashText (c .sizes) (isReported (c .reported)) (w .after) (w .sideAfter (clientOf x)) (clientOf x))
+    (refusalText (c .sizes) (c .reported) (c .embargoed) (c .entry) (c .since) (c .embargo) x k)
 saidOf fresh c w x kinds (Answered n) =
     cond (isEmbargo x)
     (embargoedText (c .sizes) w (clientOf x))

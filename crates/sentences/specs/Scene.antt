@@ -61,13 +61,14 @@ sceneOf s l x =
       caching = mayCache s x;
     }
 
--- of every file, which is what a restart and an embargo are told by
+-- of every file, which is what a restart and an embargo are told by, and a report that clashes
 pub record Whole : Type 0 where
   -- the server's entry of a file, before the step and after it
   pub entry : ℕ → Entry
   pub after : ℕ → Entry
-  -- a client's side of a file, before the step
+  -- a client's side of a file, before the step and after it
   pub side : ℕ → ℕ → ClientFile
+  pub sideAfter : ℕ → ℕ → ClientFile
   -- the lines of the writes to a block of a file, before the step
   pub lines : ℕ → ℕ → Lines
 
@@ -77,6 +78,7 @@ wholeOf s l x =
       entry = entryAt s;
       after = entryAt (stepOf s x .service);
       side = λ i f. clientAt s i f;
+      sideAfter = λ i f. clientAt (stepOf s x .service) i f;
       lines = linesAt l;
     }
 
@@ -122,5 +124,6 @@ wholeHeld before t lines =
       entry = entryHeld before;
       after = entryHeld t;
       side = λ i f. sideOf (sidesHeld before f) i;
+      sideAfter = λ i f. sideOf (sidesHeld t f) i;
       lines = lines;
     }

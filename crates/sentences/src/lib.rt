@@ -1,4 +1,5 @@
 // What is said of each line: definitions, in specs/, and the functions that write it into a lent buffer.
+mod clash;
 mod explained;
 mod forgotten;
 mod scene;

@@ -10,6 +10,7 @@ ghost use Rattle.ledger.specs.Ledger.{entered, linesAt};
 ghost use Rattle.writer.specs.Buffer.{Wrote};
 ghost use Rattle.sentences.specs.Scene.{sceneHeld, wholeHeld};
 ghost use Rattle.sentences.specs.Explained.{saidOf, besidesText, embargoedText};
+use crate::clash::put_clash;
 use crate::forgotten::put_files_open;
 use crate::forgotten::put_forgotten;
 use crate::scene::EMBARGO;
@@ -33,6 +34,7 @@ use phrases::put_refusal;
 use phrases::put_still;
 use phrases::put_text;
 use phrases::put_wait;
+use protocol::REPORTS_CLASH;
 use protocol::Reply;
 use protocol::Step;
 use protocol::asked;
@@ -110,6 +112,9 @@ pub fn put_sentence(
             )
         }
         Reply::Refused(number) => {
+            if number == REPORTS_CLASH {
+                return put_clash(out, at, sizes, client, table, flags);
+            }
             let reported = reported_in(flags);
             let embargoed = embargoed_in(flags);
             let entry = entry_at(before, row);

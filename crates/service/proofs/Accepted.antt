@@ -19,7 +19,7 @@ use Rattle.protocol.specs.Reply.{isRefused}
 use Rattle.access.specs.BlockStep.{afterRead, afterWrite, blockStep}
 use Rattle.protocol.specs.Reply.{noCalls, noGrants}
 use Rattle.file.specs.FileStep.{FileAfter, afterOpen, afterClose, afterFlush, answered, afterAnswer, fileStep}
-use Rattle.table.specs.TableStep.{reportTests, endTests, crashed, reported, ended, tableStep}
+use Rattle.table.specs.TableStep.{clashing, reportTests, endTests, crashed, reported, ended, tableStep}
 use Rattle.service.specs.declared.service.Service.{Service}
 use Rattle.service.specs.declared.outcome.Outcome.{Outcome}
 use Rattle.service.specs.Contents.{sizesOf, tableIn, entryAt, reportedAt, embargoedAt, clientAt, heldAt, dirtyAt, fileAt}
@@ -71,7 +71,8 @@ testsOf z s (Write i f b v) =
 testsOf z s (Flush i f b) = flushTests z (embargoedAt s i) (tableIn s .recovering) (dirtyAt s i f b) i f b
 testsOf z s (Answer i f) = answerTests z (embargoedAt s i) (tableIn s .recovering) (entryAt s f) i f
 testsOf z s Crash = []
-testsOf z s (Report i) = reportTests z (tableIn s .recovering) (tableIn s .reported) (tableIn s .embargoed) i
+testsOf z s (Report i) =
+    reportTests z (embargoedAt s i) (tableIn s .recovering) (reportedAt s i) (clashing z (tableIn s) (s .clients) i) i
 testsOf z s End = endTests z (tableIn s .recovering) (tableIn s .reported) (tableIn s .embargoed)
 testsOf z s (Restart i) = restartTests z i
 testsOf z s (Embargo i f) = embargoTests z (tableIn s .recovering) (entryAt s f) i f
@@ -115,7 +116,7 @@ answering-service s [] = refl
 answering-service s (g ∷ gs) = refl
 
 -- what is done is no refusal
-accepts : (z : Sizes) (s : Service) (x : Step) → isRefused (doneOf z s x .reply) ≡ false
+pub accepts : (z : Sizes) (s : Service) (x : Step) → isRefused (doneOf z s x .reply) ≡ false
 accepts z s (Open m i f) =
     either (λ (o : FileAfter). isRefused (o .reply) ≡ false) (eqb (callsFor (z .clients) (entryAt s f) i m) 0)
     (λ e. refl) (λ e. refl)

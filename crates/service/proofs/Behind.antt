@@ -10,7 +10,7 @@ use Rattle.protocol.specs.declared.reply.Reply.{Reply}
 use Rattle.protocol.specs.declared.reply.Reply.the-variants.{Granted, Value, Refused, AnsweredGrant}
 use Rattle.protocol.specs.declared.step.Step.{Step}
 use Rattle.sizes.specs.Sizes.{nobody}
-use Rattle.decision.specs.Lists.{count, stored}
+use Rattle.decision.specs.Lists.{count, stored, firstBelow}
 use Rattle.decision.specs.State.{stateOf}
 use Rattle.decision.specs.Permission.{permissionAtGrant}
 use Rattle.file.specs.FileStep.{fileStep}
@@ -82,7 +82,7 @@ pub record Behind : Type 0 where
   pub recoveredOpen : reply (called ++ (XX ∷ recovered)) (OR 1 0) ≡ Granted (grant 2 1)
 
 pub behind : Behind
-unfolding fresh stepOf fileStep blockStep tableStep stateOf permissionAtGrant count stored
+unfolding fresh stepOf fileStep blockStep tableStep firstBelow stateOf permissionAtGrant count stored
 behind =
     record {
       writes = refl;

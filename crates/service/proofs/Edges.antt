@@ -7,7 +7,7 @@ use Rattle.protocol.specs.declared.reply.Reply.the-variants.{Granted, Refused}
 use Rattle.protocol.specs.declared.step.Step.{Step}
 use Rattle.decision.specs.declared.state.FileState.the-variants.{MultReaders, WriteShared}
 use Rattle.sizes.specs.Sizes.{nobody}
-use Rattle.decision.specs.Lists.{count, stored}
+use Rattle.decision.specs.Lists.{count, stored, firstBelow}
 use Rattle.records.specs.Version.{versionOf}
 use Rattle.records.specs.Record.{notOpen}
 use Rattle.decision.specs.State.{stateOf}
@@ -69,7 +69,7 @@ pub record Edges : Type 0 where
   pub secondAfter : serverRecord brokenOff 2 0 ≡ record { readers = 1; writers = 0; caching = true }
 
 pub edges : Edges
-unfolding fresh stepOf fileStep blockStep tableStep stateOf permissionAtGrant count stored
+unfolding fresh stepOf fileStep blockStep tableStep firstBelow stateOf permissionAtGrant count stored
 edges =
     record {
       lastClient = refl;

@@ -1,7 +1,7 @@
 -- Embargoes by evaluation: the readings of Wish 9. Assumes nothing.
 use mathlib.Core.Path.{_≡_, refl}
 use mathlib.Core.List.{List, [], _∷_, _++_}
-use Rattle.decision.specs.Lists.{count, stored}
+use Rattle.decision.specs.Lists.{count, stored, firstBelow}
 use Rattle.decision.specs.State.{stateOf}
 use Rattle.decision.specs.Permission.{permissionAtGrant}
 use Rattle.protocol.specs.declared.reply.Reply.the-variants.{Granted, Value, Refused, Answered, AnsweredGrant, Done}
@@ -88,7 +88,7 @@ pub record Cases : Type 0 where
   pub restartReports : reply (aside ++ (XX ∷ BT 0 ∷ [])) (RP 0) ≡ Refused 7
 
 pub cases : Cases
-unfolding fresh stepOf fileStep blockStep tableStep allStep afterForgetting afterDropping forgottenBelow grantsBelow droppedBelow grantsValues stateOf permissionAtGrant count stored
+unfolding fresh stepOf fileStep blockStep tableStep firstBelow allStep afterForgetting afterDropping forgottenBelow grantsBelow droppedBelow grantsValues stateOf permissionAtGrant count stored
 cases =
     record {
       absent = refl;

@@ -1,39 +1,38 @@
 -- The server has nothing of a client under embargo, after every accepted step. Assumes nothing.
 use Prim.Native.Nat.{ℕ, zero, suc, _≤_, _<_}
 use mathlib.Core.Path.{_≡_, refl, sym, ap, _∙_, subst, subst⁻¹}
-use mathlib.Core.Bool.{Bool, true, false, cond, not, _&&_, _||_}
+use mathlib.Core.Bool.{Bool, true, false, cond, not}
 use mathlib.Core.List.{List}
 use native.Mathlib.Omega.{arith}
-use lib.Dec.{eqb, ltb}
+use lib.Dec.{eqb}
 use lib.ListN.{length, getD, set, length-set}
 use lib.Seq.{getD-set-other, set-getD}
 use borrow.Author.Tests.{eqb-true, eqb-false, eq-eqb, leb-false, not-false}
 use Rattle.sizes.specs.declared.sizes.Sizes.{Sizes}
-use Rattle.sizes.specs.Sizes.{maxClients, maxFiles, Permitted, nobody}
+use Rattle.sizes.specs.Sizes.{maxFiles, Permitted, nobody}
 use Rattle.sizes.proofs.InForce.{client-fits, file-fits}
 use Rattle.decision.specs.Callback.{asksNothing}
 use Rattle.decision.specs.Lists.{stored, filled}
 use Rattle.records.specs.declared.record.Mode.{Mode}
 use Rattle.protocol.specs.declared.reply.Grant.{Grant}
 use Rattle.protocol.specs.declared.entry.Entry.{Entry}
-use Rattle.protocol.specs.declared.reply.Reply.the-variants.{Granted, Answered, Done}
-use Rattle.protocol.specs.declared.shared.SharedFile.{SharedFile}
+use Rattle.protocol.specs.declared.reply.Reply.the-variants.{Granted}
 use Rattle.protocol.specs.declared.step.Step.{Step}
 use Rattle.protocol.specs.declared.step.Step.the-variants.{Open, Close, Read, Write, Flush, Answer, Crash, Report, End}
 use Rattle.protocol.specs.declared.step.Step.the-variants.{Restart, Embargo, Lift}
-use Rattle.protocol.specs.Entry.{callTo, callsFor, callsOut, waitingEntry, grantOf, answeredEntry, forgottenEntry}
+use Rattle.protocol.specs.Entry.{callTo, callsFor, callsOut, grantOf, answeredEntry, forgottenEntry}
 use Rattle.protocol.specs.Entry.{grantedEntry, crashedEntry, reportedEntry}
 use Rattle.blocks.specs.Stores.{anyDirty, sentBlocks, flushedStores}
-use Rattle.file.specs.FileStep.{FileAfter, leaving, withEntry, granted, waiting, afterClose, afterFlush, answered}
-use Rattle.file.specs.FileStep.{waiterGranted, grantedIfLast}
+use Rattle.file.specs.FileStep.{FileAfter, granted, waiting, afterClose, afterFlush, answered}
+use Rattle.file.specs.FileStep.{waiterGranted}
 use Rattle.file.specs.FileStep.{afterForgetting, afterDropping}
 use Rattle.decision.proofs.Storing.{getD-stored}
 use Rattle.table.specs.TableStep.{noEntry}
 use Rattle.service.specs.declared.service.Service.{Service}
 use Rattle.service.specs.Aside.{Unknown, Forgotten}
-use Rattle.service.specs.Contents.{tableIn, entryAt, reportedAt, embargoedAt, clientAt, fileAt, storesOf, withFile, withTable}
-use Rattle.service.specs.Embargo.{marked, forgottenFile, forgottenOn, forgottenBelow, putAside, droppedOn, droppedBelow}
-use Rattle.service.specs.Embargo.{told, restarted, grantsAside}
+use Rattle.service.specs.Contents.{tableIn, entryAt, reportedAt, embargoedAt, clientAt, fileAt, storesOf}
+use Rattle.service.specs.Embargo.{marked, forgottenFile, forgottenOn, forgottenBelow, putAside, droppedBelow}
+use Rattle.service.specs.Embargo.{told, grantsAside}
 use Rattle.service.proofs.Tests.{split, conflict, either}
 use Rattle.service.proofs.Lists.{getD-set}
 use Rattle.service.proofs.Views.{Sized}
@@ -324,19 +323,21 @@ aside-entries {z} most {i} hi {s} n same before f hf j hj out =
 -- ---- client i is told
 
 -- the table stays
-record Kept (s s′ : Service) : Type 0 where
-  entries : tableIn s′ .files ≡ tableIn s .files
-  recovering : tableIn s′ .recovering ≡ tableIn s .recovering
-  reports : tableIn s′ .reported ≡ tableIn s .reported
-  embargoes : tableIn s′ .embargoed ≡ tableIn s .embargoed
+pub record Kept (s s′ : Service) : Type 0 where
+  pub sizes : s′ .sizes ≡ s .sizes
+  pub entries : tableIn s′ .files ≡ tableIn s .files
+  pub recovering : tableIn s′ .recovering ≡ tableIn s .recovering
+  pub reports : tableIn s′ .reported ≡ tableIn s .reported
+  pub embargoes : tableIn s′ .embargoed ≡ tableIn s .embargoed
 
 module _ (z : Sizes) (i : ℕ) where
-  kept : (k : ℕ) (s : Service) → Kept s (droppedBelow z i k s)
+  pub kept : (k : ℕ) (s : Service) → Kept s (droppedBelow z i k s)
   unfolding droppedBelow afterDropping
-  kept zero s = record { entries = refl; recovering = refl; reports = refl; embargoes = refl }
+  kept zero s = record { sizes = refl; entries = refl; recovering = refl; reports = refl; embargoes = refl }
   kept (suc k) s =
       let h = kept k s in
       record {
+        sizes = h .sizes;
         entries = set-getD (tableIn (droppedBelow z i k s) .files) k noEntry ∙ h .entries;
         recovering = h .recovering;
         reports = h .reports;

@@ -11,7 +11,7 @@ use Rattle.protocol.specs.declared.reply.Grant.{Grant}
 use Rattle.protocol.specs.declared.reply.Reply.the-variants.{Granted, Refused, Answered, AnsweredGrant, Done}
 use Rattle.decision.specs.declared.state.FileState.the-variants.{Closed, OneReader, MultReaders}
 use Rattle.sizes.specs.Sizes.{maxClients, nobody}
-use Rattle.decision.specs.Lists.{count, stored}
+use Rattle.decision.specs.Lists.{count, stored, firstBelow}
 use Rattle.records.specs.Version.{versionOf}
 use Rattle.records.specs.Record.{notOpen}
 use Rattle.decision.specs.State.{stateOf}
@@ -69,7 +69,7 @@ pub record Fields : Type 0 where
   pub lastBesideCalls : stepOf lastAway (OW 1 0) .calls ≡ kinds 2 0
 
 pub fields : Fields
-unfolding fresh stepOf fileStep blockStep tableStep stateOf permissionAtGrant count stored
+unfolding fresh stepOf fileStep blockStep tableStep firstBelow stateOf permissionAtGrant count stored
 fields =
     record {
       zeroRead = refl;
@@ -107,7 +107,7 @@ pub record Limits : Type 0 where
   pub lastEntry : entryAfter lastVersion (AN 0 0) ≡ entry 4294967295 notOpen writing nobody
 
 pub limits : Limits
-unfolding fresh stepOf fileStep blockStep tableStep stateOf permissionAtGrant count stored
+unfolding fresh stepOf fileStep blockStep tableStep firstBelow stateOf permissionAtGrant count stored
 limits =
     record {
       fullGrant = refl;
@@ -167,7 +167,7 @@ pub record Waits : Type 0 where
   pub judged : reply stillWriting (AN 0 0) ≡ AnsweredGrant 0 1 (grantUncached 1 0)
 
 pub waits : Waits
-unfolding fresh stepOf fileStep blockStep tableStep stateOf permissionAtGrant count stored
+unfolding fresh stepOf fileStep blockStep tableStep firstBelow stateOf permissionAtGrant count stored
 waits =
     record {
       leftOpen = refl;
@@ -213,12 +213,13 @@ pub record Recoveries : Type 0 where
   pub runningReport : reply (allReported false) (RP 0) ≡ Refused 6
   pub runningEnd : reply (allReported false) EN ≡ Refused 6
   pub runningCrash : reply (after (allReported false) (XX ∷ [])) (RP 0) ≡ Done
-  -- of two that claim the flag the later report stands
-  pub laterSecond : entryAt (after twoFlags (RP 0 ∷ RP 1 ∷ [])) 0 .last ≡ 1
-  pub laterFirst : entryAt (after twoFlags (RP 1 ∷ RP 0 ∷ [])) 0 .last ≡ 0
+  -- of two that claim the flag the second is refused, and what was accepted stays
+  pub secondFlag : reply (after twoFlags (RP 0 ∷ [])) (RP 1) ≡ Refused 22
+  pub firstFlag : reply (after twoFlags (RP 1 ∷ [])) (RP 0) ≡ Refused 22
+  pub firstStays : entryAt (after twoFlags (RP 0 ∷ RP 1 ∷ [])) 0 .last ≡ 0
 
 pub recoveries : Recoveries
-unfolding fresh stepOf fileStep blockStep tableStep stateOf permissionAtGrant count stored
+unfolding fresh stepOf fileStep blockStep tableStep firstBelow stateOf permissionAtGrant count stored
 recoveries =
     record {
       storedOpen = refl;
@@ -229,8 +230,9 @@ recoveries =
       runningReport = refl;
       runningEnd = refl;
       runningCrash = refl;
-      laterSecond = refl;
-      laterFirst = refl;
+      secondFlag = refl;
+      firstFlag = refl;
+      firstStays = refl;
     }
 
 -- "A hand-made grant": latest and previous version, and permission

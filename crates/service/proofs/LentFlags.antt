@@ -1,18 +1,18 @@
 -- The lent flags. Assumes nothing.
 use Prim.Native.Nat.{ℕ, _+_, _-_, _<_}
 use mathlib.Core.Path.{_≡_, refl, sym, ap, _∙_, subst}
-use mathlib.Core.Bool.{Bool, false}
+use mathlib.Core.Bool.{Bool, true, false}
 use mathlib.Core.List.{List}
 use native.Mathlib.Omega.{arith}
 use lib.Dec.{eqb, ltb}
 use lib.ListN.{length, getD, set}
-use lib.Seq.{ext-getD, getD-take}
+use lib.Seq.{ext-getD, getD-take, getD-set-other, take-set-lt}
 use borrow.Author.Tests.{eqb-true, eqb-false, ltb-true, ltb-false}
 use Rattle.sizes.proofs.Choosing.{split}
 use Rattle.sizes.specs.Sizes.{maxClients}
 use Rattle.decision.specs.Lists.{stored}
 use Rattle.words.specs.Rows.{listed}
-use Rattle.words.proofs.Listing.{getD-listed}
+use Rattle.words.proofs.Listing.{getD-listed, listed-agree}
 use Rattle.service.specs.Lent.{lentFlags, recoveringHeld, reportedHeld, embargoedHeld}
 use Rattle.service.proofs.Copying.{listed-getD}
 
@@ -81,3 +81,18 @@ same-flags l m long long′ recovering reported embargoed =
     (sym (flag-embargoed l client there)
     ∙ ap (λ (x : List Bool). getD x client false) embargoed
     ∙ flag-embargoed m client there))))
+
+-- the flags, once client i has reported
+pub flag-reported :
+    (l : List Bool) (i : ℕ)
+    → length l ≡ lentFlags
+    → i < maxClients
+    → (recoveringHeld (set l i true) ≡ recoveringHeld l)
+    × (reportedHeld (set l i true) ≡ set (reportedHeld l) i true)
+    × (embargoedHeld (set l i true) ≡ embargoedHeld l)
+flag-reported l i long below = (
+  getD-set-other l i maxClients true false (λ e. omega (arith, below, e)),
+  take-set-lt maxClients l i true below,
+  listed-agree maxClients (λ j. getD (set l i true) (maxClients + 1 + j) false) (λ j. getD l (maxClients + 1 + j) false)
+      (λ j h. getD-set-other l i (maxClients + 1 + j) true false (λ e. omega (arith, below, e))),
+)

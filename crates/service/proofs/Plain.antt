@@ -16,9 +16,9 @@ use Rattle.sizes.specs.Sizes.{maxClients}
 use Rattle.decision.specs.Lists.{firstOf}
 use Rattle.decision.proofs.Beyond.{getD-alike}
 use Rattle.table.specs.declared.table.TableOutcome.{TableOutcome}
-use Rattle.table.specs.TableStep.{reportTests, endTests, tableStep}
+use Rattle.table.specs.TableStep.{clashing, reportTests, endTests, tableStep}
 use Rattle.service.specs.declared.service.Service.{Service}
-use Rattle.service.specs.Contents.{sizesOf, tableIn, embargoedAt}
+use Rattle.service.specs.Contents.{sizesOf, tableIn, embargoedAt, reportedAt}
 use Rattle.service.specs.Fresh.{fresh}
 use Rattle.service.specs.Step.{stepOf}
 use Rattle.service.proofs.Tests.{either}
@@ -78,7 +78,12 @@ embargoes-stay s (Answer i f) e = refl
 embargoes-stay s Crash e = refl
 embargoes-stay s (Report i) e =
     either (λ (o : TableOutcome). o .table .embargoed ≡ tableIn s .embargoed)
-    (eqb (firstOf (reportTests (sizesOf s) (tableIn s .recovering) (tableIn s .reported) (tableIn s .embargoed) i)) 0)
+    (eqb
+    (firstOf
+    (reportTests (sizesOf s) (embargoedAt s i) (tableIn s .recovering) (reportedAt s i)
+    (clashing (sizesOf s) (tableIn s) (s .clients) i)
+    i))
+    0)
     (λ _. refl) (λ _. refl)
 embargoes-stay s End e =
     either (λ (o : TableOutcome). o .table .embargoed ≡ tableIn s .embargoed)

@@ -30,7 +30,7 @@ module _ (z : Sizes) where
   abbrev pub Reached : Service → Memory → Recovery → Type 0
   Reached = Sound (inForce z) (Running (inForce z .clients)) (Recovering (inForce z .clients))
 
-  kept-promises : Promises (inForce z .clients) (Running (inForce z .clients)) (Recovering (inForce z .clients))
+  pub kept-promises : Promises (inForce z .clients) (Running (inForce z .clients)) (Recovering (inForce z .clients))
   kept-promises =
       let most = in-force-permitted z .clients in
       let bound : inForce z .clients ≤ nobody = omega arith in

@@ -4,7 +4,7 @@ use mathlib.Core.List.{List, [], _∷_, _++_}
 use Rattle.protocol.specs.declared.reply.Reply.the-variants.{Granted, Waiting, Value, Refused, AnsweredGrant, Done}
 use Rattle.protocol.specs.declared.step.Step.{Step}
 use Rattle.decision.specs.declared.state.FileState.the-variants.{Closed, OneReader, WriteShared}
-use Rattle.decision.specs.Lists.{count, stored}
+use Rattle.decision.specs.Lists.{count, stored, firstBelow}
 use Rattle.decision.specs.State.{stateOf}
 use Rattle.decision.specs.Permission.{permissionAtGrant}
 use Rattle.service.specs.Contents.{entryAt}
@@ -82,7 +82,7 @@ pub record Readings : Type 0 where
       ∷ []
 
 pub readings : Readings
-unfolding fresh stepOf fileStep blockStep tableStep stateOf permissionAtGrant count stored
+unfolding fresh stepOf fileStep blockStep tableStep firstBelow stateOf permissionAtGrant count stored
 readings =
     record {
       anyNumber = refl;

@@ -2,7 +2,7 @@
 use Prim.Native.Nat.{ℕ}
 use mathlib.Core.Path.{_≡_, refl}
 use mathlib.Core.List.{List, [], _∷_, _++_}
-use Rattle.decision.specs.Lists.{count, stored}
+use Rattle.decision.specs.Lists.{count, stored, firstBelow}
 use Rattle.decision.specs.State.{stateOf}
 use Rattle.decision.specs.Permission.{permissionAtGrant}
 use Rattle.protocol.specs.declared.reply.Reply.{Reply}
@@ -74,7 +74,7 @@ pub record Cases : Type 0 where
   pub answerRead : reply answering (RD 1 0 0) ≡ Value 7
 
 pub cases : Cases
-unfolding fresh stepOf fileStep blockStep tableStep allStep afterForgetting afterDropping forgottenBelow grantsBelow droppedBelow grantsValues stateOf permissionAtGrant count stored
+unfolding fresh stepOf fileStep blockStep tableStep firstBelow allStep afterForgetting afterDropping forgottenBelow grantsBelow droppedBelow grantsValues stateOf permissionAtGrant count stored
 cases =
     record {
       absent = refl;

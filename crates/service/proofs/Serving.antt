@@ -2,30 +2,36 @@
 -- definition of the step makes of the service that they held. Assumes nothing.
 use Prim.Native.Nat.{ℕ, _%_, _<_, _≤_, _+_}
 use mathlib.Core.Path.{_≡_, refl, sym, ap, ap₂, _∙_, subst⁻¹}
-use mathlib.Core.Bool.{Bool, true, false, not, _&&_}
-use mathlib.Core.List.{List}
+use mathlib.Core.Bool.{Bool, true, false, not}
+use mathlib.Core.List.{List, [], _∷_}
 use native.Mathlib.Nat.{mod-lt}
 use native.Mathlib.Omega.{arith}
 use lib.Dec.{eqb, leb, ltb}
-use lib.ListN.{length, getD}
+use lib.ListN.{length, getD, set, length-set}
+use types.Run.{OneOf}
+use denote.Enum.Declared.{tagOf}
 use lib.Seq.{getD-take}
 use borrow.Author.Tests.{eqb-false, leb-true, ltb-true, not-false}
 use Rattle.sizes.specs.declared.sizes.Sizes.{Sizes}
 use Rattle.sizes.specs.Sizes.{maxClients, maxFiles, Permitted}
-use Rattle.sizes.proofs.Choosing.{conflict, and-left, and-right}
+use Rattle.sizes.proofs.Choosing.{split, conflict, and-left, and-right}
+use Rattle.decision.specs.Lists.{firstOf}
 use Rattle.protocol.specs.declared.client.ClientFile.{ClientFile}
 use Rattle.protocol.specs.declared.client.Sides.{Sides}
 use Rattle.protocol.specs.declared.reply.Reply.{Reply}
-use Rattle.protocol.specs.declared.reply.Reply.the-variants.{Done}
+use Rattle.protocol.specs.declared.reply.Reply.the-variants.{Granted, Waiting, Value, Refused, Answered}
+use Rattle.protocol.specs.declared.reply.Reply.the-variants.{AnsweredGrant, Done}
 use Rattle.protocol.specs.declared.shared.SharedFile.{SharedFile}
 use Rattle.protocol.specs.Step.{Class}
 use Rattle.protocol.specs.Step.{OnFile, OnBlock, OnTable}
 use Rattle.protocol.specs.declared.step.Step.{Step}
-use Rattle.protocol.specs.declared.step.Step.the-variants.{Crash}
+use Rattle.protocol.specs.declared.step.Step.the-variants.{Crash, Report, End}
 use Rattle.protocol.specs.Client.{sideOf}
-use Rattle.protocol.specs.Entry.{crashedEntry}
+use Rattle.protocol.specs.Entry.{crashedEntry, reportedEntry}
 use Rattle.protocol.specs.Reply.{letterOf, isRefused, noCalls, noGrants}
 use Rattle.protocol.specs.Step.{classOf, clientOf}
+use Rattle.protocol.proofs.OtherKinds.{not-among}
+use Rattle.protocol.proofs.reply.Reply.{the-type}
 use Rattle.blocks.specs.Stores.{Stores, lent}
 use Rattle.access.specs.BlockStep.{blockStep}
 use Rattle.access.specs.BlockStep.{Leaves as LeavesBlock}
@@ -34,12 +40,12 @@ use Rattle.file.specs.Held.{Holds}
 use Rattle.table.specs.declared.recovery.Recovery.{Recovery}
 use Rattle.table.specs.declared.recovery.RecoveryOutcome.{RecoveryOutcome}
 use Rattle.table.specs.declared.recovery.Sweep.{Sweep}
-use Rattle.table.specs.declared.recovery.Sweep.the-variants.{Stay}
-use Rattle.table.specs.Recovery.{recoveryStep}
-use Rattle.table.specs.TableStep.{noEntry, noSides}
-use Rattle.table.proofs.Steps.{recoveryIn, refused-stays}
+use Rattle.table.specs.declared.recovery.Sweep.the-variants.{Stay, Report as Reports}
+use Rattle.table.specs.Recovery.{kept, recoveryStep}
+use Rattle.table.specs.TableStep.{noEntry, noSides, clashing, endTests}
+use Rattle.table.proofs.Steps.{recoveryIn, reporter, refused-stays}
 use Rattle.table.specs.Swept.{Swept, Sweeps as SweepsRows}
-use Rattle.table.proofs.SweptRows.{swept-sides, swept-crash}
+use Rattle.table.proofs.SweptRows.{swept-sides, swept-stay, swept-crash, swept-report}
 use Rattle.words.specs.Said.{calls?}
 use Rattle.words.specs.Words.{sideHeld}
 use Rattle.words.specs.Rows.{listed, wordAt, entryHeld, sidesHeld, fileHeld, Puts}
@@ -49,12 +55,13 @@ use Rattle.words.proofs.Places.{others-held}
 use Rattle.service.specs.declared.service.Service.{Service}
 use Rattle.service.specs.declared.outcome.Outcome.{Outcome}
 use Rattle.service.specs.Contents.{tableIn, fileAt, withFile, clientAt, reportedAt, embargoedAt}
-use Rattle.service.specs.Step.{stepOf, fileOutcome}
-use Rattle.service.specs.Lent.{lentFlags, recoveringHeld, reportedHeld, embargoedHeld, serviceHeld, isSide, mayChange, mayReport}
+use Rattle.service.specs.Step.{fileOutcome}
+use Rattle.service.specs.Lent.{lentFlags, recoveringHeld, reportedHeld, embargoedHeld, tableHeld, serviceHeld, isSide, mayChange}
+use Rattle.service.specs.Lent.{mayReport}
 use Rattle.service.specs.Lent.{Keeps}
-use Rattle.service.specs.Served.{Serves, SweptBy}
+use Rattle.service.specs.Served.{replyNumbered, numberIn, Serves, SweptBy}
 use Rattle.service.proofs.Arms.Result.{file-result, block-result, table-result}
-use Rattle.service.proofs.LentFlags.{flag-embargoed, same-flags}
+use Rattle.service.proofs.LentFlags.{flag-embargoed, flag-reported, same-flags}
 
 outcome-as :
     (s s′ : Service) (r r′ : Reply) (k k′ : List ℕ)
@@ -194,6 +201,10 @@ is-side k e =
     let side : isSide k ≡ true = not-false (isSide k) e in
     (leb-true 10 k (and-left (leb 10 k) (ltb k 18) side), ltb-true k 18 (and-right (leb 10 k) (ltb k 18) side))
 
+-- whether the report of client i clashes, in the service that the arrays hold
+abbrev pub clashHeld : Sizes → List ℕ → List Bool → ℕ → Bool
+clashHeld sizes t flags i = clashing sizes (tableHeld t flags) (listed maxFiles (λ f. sidesHeld t f)) i
+
 recovery-as :
     (v w : Recovery)
     → v .recovering ≡ w .recovering
@@ -214,7 +225,7 @@ module _
     (o : RecoveryOutcome)
     (reply : Reply)
     (class : classOf x ≡ OnTable)
-    (is : o ≡ recoveryStep sizes v x)
+    (is : o ≡ recoveryStep sizes v (clashHeld sizes t₀ flags₀ (reporter x)) x)
     (recovers : v .recovering ≡ recoveringHeld flags₀)
     (reports : v .reported ≡ reportedHeld flags₀)
     (embargoes : v .embargoed ≡ embargoedHeld flags₀)
@@ -223,7 +234,7 @@ module _
   -- a refusal leaves the rows, and stores the flags as they were
   refused-keeps : isRefused reply ≡ true → (t ≡ t₀) × (flags ≡ flags₀)
   refused-keeps e =
-      let stays = refused-stays sizes v x (ap isRefused (ap (λ (o : RecoveryOutcome). o .reply) (sym is) ∙ sym (done .same)) ∙ e) in
+      let stays = refused-stays sizes v (clashHeld sizes t₀ flags₀ (reporter x)) x (ap isRefused (ap (λ (o : RecoveryOutcome). o .reply) (sym is) ∙ sym (done .same)) ∙ e) in
       let rests : o .recovery ≡ v = ap (λ (o : RecoveryOutcome). o .recovery) is ∙ stays .1 in (
         done .rows .stays (ap (λ (o : RecoveryOutcome). o .sweep) is ∙ stays .0),
         same-flags flags flags₀ (done .flagsLong ∙ size) size
@@ -243,7 +254,7 @@ module _
             let same : v ≡ recoveryIn (tableIn s) = recovery-as v (recoveryIn (tableIn s)) recovers reports embargoes in
             outcome-as _ _ _ _ _ _ (rw (swept-sides (done .rows), done .recovers, done .reports, done .embargoes)) (done .same) refl
             ∙ table-result s x sizes force o (listed maxFiles (λ f. entryHeld t f)) class
-            (is ∙ ap (λ (w : Recovery). recoveryStep sizes w x) same)
+            (is ∙ ap (λ (w : Recovery). recoveryStep sizes w (clashHeld sizes t₀ flags₀ (reporter x)) x) same)
             (done .rows .files);
         quiet = λ e. refl;
         keeps =
@@ -262,7 +273,7 @@ module _ (sizes : Sizes) (t₀ t : List ℕ) (flags₀ flags : List Bool) (v : R
   pub crash-serves :
       (a : Stores)
       → Permitted sizes
-      → o ≡ recoveryStep sizes v Crash
+      → ((clash : Bool) → o ≡ recoveryStep sizes v clash Crash)
       → v .recovering ≡ recoveringHeld flags₀
       → v .reported ≡ reportedHeld flags₀
       → v .embargoed ≡ embargoedHeld flags₀
@@ -274,7 +285,8 @@ module _ (sizes : Sizes) (t₀ t : List ℕ) (flags₀ flags : List Bool) (v : R
       → length flags ≡ lentFlags
       → Serves sizes Crash t₀ flags₀ a t flags a Done noCalls
   unfolding recoveryStep
-  crash-serves a p is recovers reports embargoes size rows recovers′ reports′ embargoes′ long =
+  crash-serves a p so recovers reports embargoes size rows recovers′ reports′ embargoes′ long =
+      let is = so (clashHeld sizes t₀ flags₀ 0) in
       table-serves sizes Crash t₀ t flags₀ flags a v o Done refl is recovers reports embargoes size
       (record {
         rows =
@@ -285,4 +297,121 @@ module _ (sizes : Sizes) (t₀ t : List ℕ) (flags₀ flags : List Bool) (v : R
         embargoes = embargoes′;
         flagsLong = long ∙ sym size;
         same = sym (ap (λ (o : RecoveryOutcome). o .reply) is);
+      })
+
+-- the state of the recovery that the flags hold
+abbrev pub recoveryHeld : List Bool → Recovery
+recoveryHeld flags =
+    record { recovering = recoveringHeld flags; reported = reportedHeld flags; embargoed = embargoedHeld flags }
+
+-- a report that is refused
+pub refused-serves :
+    (sizes : Sizes) (i : ℕ) (t : List ℕ) (flags : List Bool) (a : Stores) (k : ℕ)
+    → length flags ≡ lentFlags
+    → recoveryStep sizes (recoveryHeld flags) (clashHeld sizes t flags i) (Report i) ≡ kept (recoveryHeld flags) (Refused k)
+    → Serves sizes (Report i) t flags a t flags a (Refused k) noCalls
+refused-serves sizes i t flags a k size is =
+    table-serves sizes (Report i) t t flags flags a (recoveryHeld flags) (kept (recoveryHeld flags) (Refused k)) (Refused k) refl
+    (sym is) refl refl refl size
+    (record {
+      rows = swept-stay sizes t;
+      recovers = refl;
+      reports = refl;
+      embargoes = refl;
+      flagsLong = refl;
+      same = refl;
+    })
+
+-- one that is taken
+module _ (sizes : Sizes) (i : ℕ) (t₀ t : List ℕ) (flags : List Bool) where
+  abbrev pub heard : RecoveryOutcome
+  heard =
+      record {
+        recovery =
+            record {
+              recovering = recoveringHeld flags;
+              reported = set (reportedHeld flags) i true;
+              embargoed = embargoedHeld flags;
+            };
+        reply = Done;
+        sweep = Reports i;
+      }
+
+  pub report-serves :
+      (a : Stores)
+      → Permitted sizes
+      → i < maxClients
+      → length flags ≡ lentFlags
+      → recoveryStep sizes (recoveryHeld flags) (clashHeld sizes t₀ flags i) (Report i) ≡ heard
+      → SweepsRows (sizes .files) (λ f. reportedEntry (entryHeld t₀ f) i (sideOf (sidesHeld t₀ f) i)) t₀ t
+      → Serves sizes (Report i) t₀ flags a t (set flags i true) a Done noCalls
+  report-serves a p below size is rows =
+      let (recovers, reports, embargoes) = flag-reported flags i size below in
+      table-serves sizes (Report i) t₀ t flags (set flags i true) a (recoveryHeld flags) heard Done refl
+      (sym is) refl refl refl size
+      (record {
+        rows = swept-report sizes (p .files) t₀ t i rows;
+        recovers = recovers;
+        reports = reports;
+        embargoes = embargoes;
+        flagsLong = length-set flags i true;
+        same = refl;
+      })
+
+-- a reply that is no refusal has no number
+abbrev accepted : List ℕ
+accepted = 0 ∷ 1 ∷ 2 ∷ 4 ∷ 5 ∷ 6 ∷ []
+
+pub no-number : (y : Reply) → OneOf accepted (tagOf the-type y) → 0 ≡ numberIn y
+no-number (Granted g) h = refl
+no-number Waiting h = refl
+no-number (Value v) h = refl
+no-number (Refused k) h = absurd (not-among accepted 3 refl h)
+no-number (Answered n) h = refl
+no-number (AnsweredGrant n j g) h = refl
+no-number Done h = refl
+
+-- the end of a recovery
+module _ (sizes : Sizes) (t : List ℕ) (flags₀ flags : List Bool) (v : Recovery) (o : RecoveryOutcome) where
+  end-stays : (clash : Bool) → recoveryStep sizes v clash End .sweep ≡ Stay
+  unfolding recoveryStep
+  end-stays clash =
+      split (eqb (firstOf (endTests sizes (v .recovering) (v .reported) (v .embargoed))) 0) (λ e. rw e) (λ e. rw e)
+
+  end-numbered :
+      (clash : Bool)
+      → replyNumbered (numberIn (recoveryStep sizes v clash End .reply)) ≡ recoveryStep sizes v clash End .reply
+  unfolding recoveryStep
+  end-numbered clash =
+      split (eqb (firstOf (endTests sizes (v .recovering) (v .reported) (v .embargoed))) 0) (λ e. rw e) (λ e. rw (e, e))
+
+  pub end-serves :
+      (a : Stores) (k : ℕ)
+      → ((clash : Bool) → o ≡ recoveryStep sizes v clash End)
+      → v .recovering ≡ recoveringHeld flags₀
+      → v .reported ≡ reportedHeld flags₀
+      → v .embargoed ≡ embargoedHeld flags₀
+      → length flags₀ ≡ lentFlags
+      → recoveringHeld flags ≡ o .recovery .recovering
+      → reportedHeld flags ≡ o .recovery .reported
+      → embargoedHeld flags ≡ o .recovery .embargoed
+      → length flags ≡ lentFlags
+      → k ≡ numberIn (o .reply)
+      → Serves sizes End t flags₀ a t flags a (replyNumbered k) noCalls
+  end-serves a k so recovers reports embargoes size recovers′ reports′ embargoes′ long number =
+      let clash = clashHeld sizes t flags₀ 0 in
+      let is = so clash in
+      table-serves sizes End t t flags₀ flags a v o (replyNumbered k) refl is recovers reports embargoes size
+      (record {
+        rows =
+            subst⁻¹ (λ (s : Sweep). Swept sizes s t t) (ap (λ (o : RecoveryOutcome). o .sweep) is ∙ end-stays clash)
+            (swept-stay sizes t);
+        recovers = recovers′;
+        reports = reports′;
+        embargoes = embargoes′;
+        flagsLong = long ∙ sym size;
+        same =
+            ap replyNumbered (number ∙ ap (λ (o : RecoveryOutcome). numberIn (o .reply)) is)
+            ∙ end-numbered clash
+            ∙ sym (ap (λ (o : RecoveryOutcome). o .reply) is);
       })

@@ -13,7 +13,7 @@ use Rattle.protocol.specs.declared.reply.Reply.the-variants.{Granted, Waiting, 
 use Rattle.protocol.specs.declared.step.Step.{Step}
 use Rattle.decision.specs.declared.state.FileState.the-variants.{Closed}
 use Rattle.sizes.specs.Sizes.{maxClients, nobody}
-use Rattle.decision.specs.Lists.{count, stored}
+use Rattle.decision.specs.Lists.{count, stored, firstBelow}
 use Rattle.records.specs.Version.{versionOf}
 use Rattle.records.specs.Record.{notOpen}
 use Rattle.decision.specs.State.{stateOf}
@@ -79,7 +79,7 @@ pub record Chosen : Type 0 where
       ∷ []
 
 pub chosen : Chosen
-unfolding fresh stepOf fileStep blockStep tableStep stateOf permissionAtGrant count stored
+unfolding fresh stepOf fileStep blockStep tableStep firstBelow stateOf permissionAtGrant count stored
 chosen =
     record {
       noClient = refl;
@@ -113,7 +113,7 @@ pub record OutOfRange : Type 0 where
       ≡ Granted (grant 1 0) ∷ Value 0 ∷ Refused 2 ∷ Refused 3 ∷ Refused 4 ∷ []
 
 pub outOfRange : OutOfRange
-unfolding fresh stepOf fileStep blockStep tableStep stateOf permissionAtGrant count stored
+unfolding fresh stepOf fileStep blockStep tableStep firstBelow stateOf permissionAtGrant count stored
 outOfRange = record { noClients = refl; manyFiles = refl; manyBlocks = refl; noneGiven = refl }
 
 -- Two clients, one file, one block. The entry of file 0 has the record of client 0, a last writer and a waiting open as
@@ -176,7 +176,7 @@ pub record Past : Type 0 where
   pub notDropped : copyOf (after called (AN 0 0 ∷ [])) 1 ≡ (7, true, true)
 
 pub past : Past
-unfolding fresh stepOf fileStep blockStep tableStep stateOf permissionAtGrant count stored
+unfolding fresh stepOf fileStep blockStep tableStep firstBelow stateOf permissionAtGrant count stored
 past =
     record {
       state = refl;

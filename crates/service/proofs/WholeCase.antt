@@ -3,7 +3,7 @@ use mathlib.Core.Path.{_≡_, refl}
 use mathlib.Core.List.{[], _∷_}
 use Rattle.protocol.specs.declared.reply.Reply.the-variants.{Granted, Waiting, Value, Refused, AnsweredGrant, Done}
 use Rattle.decision.specs.declared.state.FileState.the-variants.{OneReader}
-use Rattle.decision.specs.Lists.{count, stored}
+use Rattle.decision.specs.Lists.{count, stored, firstBelow}
 use Rattle.sizes.specs.Sizes.{nobody}
 use Rattle.records.specs.Version.{versionOf}
 use Rattle.decision.specs.State.{stateOf}
@@ -42,6 +42,6 @@ pub record WholeCase : Type 0 where
   pub last : entryAt (after freshDefault listing) 3 .last ≡ nobody
 
 pub wholeCase : WholeCase
-unfolding fresh stepOf fileStep blockStep tableStep stateOf permissionAtGrant count stored
+unfolding fresh stepOf fileStep blockStep tableStep firstBelow stateOf permissionAtGrant count stored
 wholeCase =
     record { lines = refl; call = refl; secondCall = refl; state = refl; version = refl; last = refl }

@@ -9,3 +9,4 @@ pub mod Demand3
 pub mod Plain
 pub mod NothingBehind
 pub mod Aside
+pub mod Reports

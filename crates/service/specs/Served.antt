@@ -1,6 +1,6 @@
 -- What a step leaves, as the code finds it: by the sizes in force, with its reply as a value. Derived: the contract of
 -- `take_step` does not mention it.
-use Prim.Native.Nat.{ℕ, _+_, _*_, _%_, _≤_}
+use Prim.Native.Nat.{ℕ, _+_, _*_, _%_, _≤_, _<_}
 use mathlib.Core.Path.{_≡_}
 use mathlib.Core.Bool.{Bool, true, false, cond}
 use mathlib.Core.List.{List}
@@ -11,11 +11,14 @@ use Rattle.records.specs.declared.record.Mode.the-variants.{Read, Write}
 use Rattle.sizes.specs.declared.sizes.Sizes.{Sizes}
 use Rattle.sizes.specs.Sizes.{inForce}
 use Rattle.protocol.specs.declared.reply.Reply.{Reply}
+use Rattle.protocol.specs.declared.reply.Reply.the-variants.{Granted, Waiting, Value, Refused, Answered}
+use Rattle.protocol.specs.declared.reply.Reply.the-variants.{AnsweredGrant, Done}
 use Rattle.protocol.specs.declared.step.Step.{Step}
 use Rattle.protocol.specs.Reply.{letterOf, isRefused, noCalls, noGrants}
 use Rattle.blocks.specs.Stores.{Stores}
 use Rattle.table.specs.declared.recovery.RecoveryOutcome.{RecoveryOutcome}
 use Rattle.table.specs.Swept.{Swept}
+use Rattle.words.specs.Rows.{wordAt}
 use Rattle.words.specs.Said.{calls?, SaysIn, SaidSoFar}
 use Rattle.service.specs.declared.outcome.Outcome.{Outcome}
 use Rattle.service.specs.Embargo.{forgottenBelow, grantsBelow, droppedBelow}
@@ -25,6 +28,24 @@ use Rattle.service.specs.Lent.{recoveringHeld, reportedHeld, embargoedHe
 -- the mode of an open or a close, by its kind
 abbrev pub modeAsked : ℕ → Mode
 modeAsked kind = cond (eqb (kind % 2) 1) Write Read
+
+-- the reply to a step on the table, by the number of its refusal; 0 is none
+abbrev pub replyNumbered : ℕ → Reply
+replyNumbered k = cond (eqb k 0) Done (Refused k)
+
+-- and that number
+abbrev pub numberIn : Reply → ℕ
+numberIn (Granted g) = 0
+numberIn Waiting = 0
+numberIn (Value v) = 0
+numberIn (Refused k) = k
+numberIn (Answered n) = 0
+numberIn (AnsweredGrant n i g) = 0
+numberIn Done = 0
+
+-- the words of a client's sides say nothing of the files from one on, below another
+abbrev pub Silent : ℕ → ℕ → ℕ → List ℕ → Type 0
+Silent i from to t = (f : ℕ) → from ≤ f → f < to → wordAt t f (10 + i) % 4294967296 ≡ 0
 
 -- the arrays hold the service that the step's definition makes of the one that they held, for all sizes given of which
 -- these are in force

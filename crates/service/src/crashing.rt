@@ -1,47 +1,23 @@
-// A crash of a service by value: the reading of an image begins with it. It goes by the rows alone, so that `take_step`
-// has one caller in a program that reads images, and is compiled into its loop.
+// A crash of a service by value: the reading of an image begins with it. It goes by the step on the table, so that
+// `take_step` has one caller in a program that reads images, and is compiled into its loop.
 ghost use mathlib.Core.Path.{_≡_};
-ghost use lib.ListN.{length};
-ghost use Rattle.sizes.specs.Sizes.{Permitted};
-ghost use Rattle.protocol.specs.Reply.{noCalls};
-ghost use Rattle.blocks.specs.Stores.{Stores};
-ghost use Rattle.words.specs.Rows.{tableWords};
-ghost use Rattle.service.specs.Lent.{lentFlags};
-ghost use Rattle.service.specs.Served.{Serves};
+ghost use Rattle.service.specs.Reports.{RecoveryAgrees};
 ghost use Rattle.service.specs.Step.{stepOf};
 use crate::flags::FLAGS;
-use crate::flags::put_recovery;
-use crate::flags::recovery_of;
 use crate::holding::held_service;
 use crate::holding::hold;
+use crate::recovering::step_table;
 use crate::service::Service;
-use protocol::Reply;
 use protocol::Step;
 use sizes::MAX_CELLS;
 use sizes::MAX_PLACES;
-use sizes::Sizes;
-use table::crash_rows;
 use words::WORDS;
 
-// The rows and the flags after a crash.
-fn crash(sizes: Sizes, table: &mut [u64; WORDS], flags: &mut [bool; FLAGS])
-    requires { ⌜ Permitted sizes ⌝ }
-    requires { ⌜ length (now table) ≡ tableWords ⌝ }
-    requires { ⌜ length (now flags) ≡ lentFlags ⌝ }
-    ensures { λ _. ⌜ ((a : Stores) → Serves sizes Step.Crash (now (table .entry)) (now (flags .entry)) a
-        (now (table .exit)) (now (flags .exit)) a Reply.Done noCalls) ⌝ }
-{
-    let recovery = recovery_of(flags);
-    let done = recovery.crash(sizes);
-    let after = done.recovery;
-    crash_rows(sizes, table);
-    put_recovery(flags, after);
-}
-
 impl Service {
-    // The service after a crash.
+    // The service after a crash. Whatever it was, the reports accepted in the recovery that begins agree.
     pub fn crashed(self) -> Self
         ensures { λ r. ⌜ r ≡ stepOf self Step.Crash .service ⌝ }
+        ensures { λ r. ⌜ RecoveryAgrees r ⌝ }
     {
         let given = self.sizes;
         let mut table = [0u64; WORDS];
@@ -59,7 +35,7 @@ impl Service {
             &mut held,
             &mut dirty,
         );
-        crash(given.in_force(), &mut table, &mut flags);
+        let _ = step_table(given.in_force(), 8, 0, &mut table, &mut flags);
         held_service(given, &table, &flags, &blocks, &copies, &held, &dirty)
     }
 }

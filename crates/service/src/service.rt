@@ -1,6 +1,7 @@
 // The whole service, and the fresh one.
 ghost use mathlib.Core.Path.{_≡_};
 ghost use Rattle.service.specs.Aside.{SetsAside};
+ghost use Rattle.service.specs.Reports.{ReportsPass};
 ghost use Rattle.service.specs.Demand3.{Consistent};
 ghost use Rattle.service.specs.Fresh.{fresh};
 ghost use Rattle.service.specs.NothingBehind.{LeavesNothing};
@@ -43,6 +44,7 @@ impl Service {
         ensures { λ r. ⌜ PlainlyConsistent r ⌝ }
         ensures { λ r. ⌜ LeavesNothing r ⌝ }
         ensures { λ r. ⌜ SetsAside r ⌝ }
+        ensures { λ r. ⌜ ReportsPass r ⌝ }
     {
         let none = ClientFile::none();
         let sides = Sides {

@@ -7,17 +7,16 @@ ghost use Rattle.sizes.specs.Sizes.{Permitted};
 ghost use Rattle.protocol.specs.Reply.{noCalls};
 ghost use Rattle.protocol.specs.Step.{stepAsked};
 ghost use Rattle.blocks.specs.Stores.{lent};
-ghost use Rattle.table.specs.Recovery.{Fits, recoveryStep};
 ghost use Rattle.words.specs.Rows.{tableWords};
 ghost use Rattle.words.specs.Said.{saidRoom};
 ghost use Rattle.service.specs.Lent.{lentFlags, Stepped};
-ghost use Rattle.service.specs.Served.{modeAsked, SweptBy, Serves};
+ghost use Rattle.service.specs.Served.{modeAsked, Serves};
 use crate::embargo::embargo_client;
 use crate::embargo::lift_embargo;
 use crate::embargo::restart_client;
 use crate::flags::FLAGS;
-use crate::flags::put_recovery;
-use crate::flags::recovery_of;
+use crate::recovering::reply_numbered;
+use crate::recovering::step_table;
 use access::read_block;
 use access::write_block;
 use file::Response;
@@ -33,9 +32,6 @@ use sizes::MAX_CLIENTS;
 use sizes::MAX_FILES;
 use sizes::MAX_PLACES;
 use sizes::Sizes;
-use table::Recovery;
-use table::RecoveryOutcome;
-use table::sweep_rows;
 use words::ROW;
 use words::SAID;
 use words::WORDS;
@@ -255,24 +251,7 @@ fn respond(
             held,
             dirty,
         )),
-        _ => {
-            let recovery = recovery_of(flags);
-            let done = recover(recovery, sizes, kind, client);
-            silent(sweep(sizes, done, table, flags))
-        }
-    }
-}
-
-// A step on the table, by the state of the recovery.
-fn recover(recovery: Recovery, sizes: Sizes, kind: u64, client: usize) -> RecoveryOutcome
-    requires { ⌜ Permitted sizes ⌝ }
-    ensures { λ r. ⌜ ((f b v : ℕ) → 7 < kind → kind < 11 → r ≡ recoveryStep sizes recovery (stepAsked kind client f b v)) ⌝ }
-    ensures { λ r. ⌜ Fits (r .sweep) ⌝ }
-{
-    match kind {
-        8 => recovery.crash(sizes),
-        9 => recovery.report(sizes, client),
-        _ => recovery.end(sizes),
+        _ => silent(reply_numbered(step_table(sizes, kind, client, table, flags))),
     }
 }
 
@@ -295,25 +274,4 @@ fn silent(reply: Reply) -> Response
         reply,
         calls: [0; MAX_CLIENTS],
     }
-}
-
-// A step on the table was taken by the state of the recovery: the entries and the flags do as it tells.
-fn sweep(
-    sizes: Sizes,
-    done: RecoveryOutcome,
-    table: &mut [u64; WORDS],
-    flags: &mut [bool; FLAGS],
-) -> Reply
-    requires { ⌜ Permitted sizes ⌝ }
-    requires { ⌜ Fits (done .sweep) ⌝ }
-    requires { ⌜ length (now table) ≡ tableWords ⌝ }
-    requires { ⌜ length (now flags) ≡ lentFlags ⌝ }
-    ensures { λ r. ⌜ SweptBy sizes done (now (table .entry)) (now (flags .entry)) (now (table .exit)) (now (flags .exit)) r ⌝ }
-{
-    let sweep = done.sweep;
-    let after = done.recovery;
-    let reply = done.reply;
-    sweep_rows(sizes, sweep, table);
-    put_recovery(flags, after);
-    reply
 }

@@ -2,7 +2,7 @@
 -- evaluation. Assumes nothing.
 use mathlib.Core.Path.{_≡_, refl}
 use mathlib.Core.Bool.{false}
-use Rattle.decision.specs.Lists.{count, stored}
+use Rattle.decision.specs.Lists.{count, stored, firstBelow}
 use Rattle.decision.specs.State.{stateOf}
 use Rattle.decision.specs.Callback.{orderedCalls}
 use Rattle.decision.specs.Permission.{permissionAtGrant}
@@ -48,7 +48,7 @@ pub record WholeCase : Type 0 where
       ≡ bytes "1 G 2 1 1\n2 G 2 1 1\n3 W 0:3\n4 W 0:3\n5 A 0 1 2 1 1 2 2 1 1\n6 N 20\n7 K\n8 N 21\nfiles 2\n0 2 2 -\n1 2 2 -\n"
 
 pub wholeCase : WholeCase
-unfolding fresh stepOf fileStep blockStep tableStep allStep afterForgetting afterDropping forgottenBelow grantsBelow droppedBelow grantsValues stateOf orderedCalls permissionAtGrant count stored digitsOf decimal digitsOn numeral argument shapeOf shaped step parseLine settingOf valuesText callsText lineText filesText summaryText lines transcript after replyLine serviceAfter played
+unfolding fresh stepOf fileStep blockStep tableStep firstBelow allStep afterForgetting afterDropping forgottenBelow grantsBelow droppedBelow grantsValues stateOf orderedCalls permissionAtGrant count stored digitsOf decimal digitsOn numeral argument shapeOf shaped step parseLine settingOf valuesText callsText lineText filesText summaryText lines transcript after replyLine serviceAfter played
 wholeCase =
     record {
       empty = refl;

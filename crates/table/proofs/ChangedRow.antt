@@ -1,8 +1,8 @@
 -- A row after a crash: its records cleared, its head and its callbacks stored; and after a report: the client's record and
 -- the head. Assumes nothing.
 use Prim.Native.Nat.{ℕ, _+_, _*_, _<_, _≤_, _%_, _/_}
-use mathlib.Core.Path.{_≡_, refl, sym, ap, _∙_, subst}
-use mathlib.Core.Bool.{cond}
+use mathlib.Core.Path.{_≡_, refl, sym, ap, _∙_, subst, subst⁻¹}
+use mathlib.Core.Bool.{Bool, true, false, cond}
 use mathlib.Core.List.{List}
 use mathlib.Core.Logic.{_≢_, ⊎-elim}
 use native.Mathlib.Nat.{eq-or-lt-of-le, le-of-suc-le-suc}
@@ -19,6 +19,7 @@ use Rattle.records.specs.declared.version.Version.{Version}
 use Rattle.records.specs.Record.{notOpen}
 use Rattle.decision.specs.Lists.{filled}
 use Rattle.decision.proofs.Storing.{length-stored, getD-stored, getD-stored-other}
+use Rattle.protocol.specs.declared.entry.Entry.{Entry}
 use Rattle.protocol.specs.declared.shared.SharedFile.{SharedFile}
 use Rattle.protocol.specs.Entry.{crashedEntry, reportedEntry}
 use Rattle.words.specs.Words.{recordHeld, sideHeld, versionHeld, lastHeld, waiterHeld, modeHeld, callsHeld, Head}
@@ -58,6 +59,38 @@ module _ {f : ℕ} {t₀ : List ℕ} where
         past = λ j h. stored-beside t f (2 + i) 0 j (λ e. omega arith) ∙ c .past j (omega arith);
         beside = λ g j off h. stored-elsewhere t f (2 + i) 0 g j (omega arith) h off ∙ c .beside g j off h;
       }
+
+  -- all eight, one after the other
+  pub cleared-eight :
+      f < maxFiles
+      → length t₀ ≡ tableWords
+      → Cleared f t₀
+      (set
+      (set
+      (set
+      (set
+      (set
+      (set (set (set t₀ (f * rowWords + 2) 0) (f * rowWords + 3) 0) (f * rowWords + 4) 0)
+      (f * rowWords + 5)
+      0)
+      (f * rowWords + 6)
+      0)
+      (f * rowWords + 7)
+      0)
+      (f * rowWords + 8)
+      0)
+      (f * rowWords + 9)
+      0)
+      8
+  cleared-eight there size =
+      next 7 (omega arith)
+      (next 6 (omega arith)
+      (next 5 (omega arith)
+      (next 4 (omega arith)
+      (next 3 (omega arith) (next 2 (omega arith) (next 1 (omega arith) (next 0 (omega arith) cleared-none)))))))
+    where
+      next : (i : ℕ) {t : List ℕ} → i < maxClients → Cleared f t₀ t i → Cleared f t₀ (set t (f * rowWords + (2 + i)) 0) (i + 1)
+      next i h c = cleared-more (omega (arith, h, there, size)) h c
 
   pub cleared-all : {n m : ℕ} {t : List ℕ} → n ≤ m → m ≤ n → Cleared f t₀ t n → Cleared f t₀ t m
   cleared-all {n} {m} {t} a b c = let same : n ≡ m = omega arith in subst (λ (k : ℕ). Cleared f t₀ t k) same c
@@ -170,3 +203,46 @@ reported-puts t f i r h client there size known head =
           λ g j off lt.
           stored-elsewhere one f 1 h g j (omega arith) lt off ∙ stored-elsewhere t f (2 + i) r g j (omega arith) lt off;
     }
+
+-- without the flag the head stays
+pub reported-unmarked :
+    (t : List ℕ) (f i r : ℕ)
+    → i < maxClients
+    → f < maxFiles
+    → length t ≡ tableWords
+    → recordHeld r ≡ recordHeld (wordAt t f (10 + i))
+    → sideHeld (wordAt t f (10 + i)) .marked ≡ false
+    → PutsEntry f (reportedEntry (entryHeld t f) i (sideHeld (wordAt t f (10 + i)))) t (set t (f * rowWords + (2 + i)) r)
+reported-unmarked t f i r client there size known unmarked =
+    let one = set t (f * rowWords + (2 + i)) r in
+    let e : Entry = reportedEntry (entryHeld t f) i (sideHeld (wordAt t f (10 + i))) in
+    let head : Head (headAt t f) (versionHeld (headAt t f))
+    (cond (sideHeld (wordAt t f (10 + i)) .marked) i (lastHeld (headAt t f)))
+    (waiterHeld (headAt t f))
+    (modeHeld (headAt t f)) =
+    rw unmarked (record { version = refl; last = refl; waiter = refl; mode = refl }) in
+    let same : headAt t f ≡ headAt one f = sym (stored-beside t f (2 + i) r 1 (λ e. omega arith)) in
+    subst (λ (l : List ℕ). PutsEntry f e t l)
+    (ap (λ h. set one (f * rowWords + 1) h) same ∙ set-getD one (f * rowWords + 1) 0)
+    (reported-puts t f i r (headAt t f) client there size known head)
+
+-- with it the client is the last writer; the head is read once the record is stored
+pub reported-marked :
+    (t : List ℕ) (f i r h : ℕ)
+    → i < maxClients
+    → f < maxFiles
+    → length t ≡ tableWords
+    → recordHeld r ≡ recordHeld (wordAt t f (10 + i))
+    → sideHeld (wordAt t f (10 + i)) .marked ≡ true
+    → (let one = set t (f * rowWords + (2 + i)) r in
+    Head h (versionHeld (headAt one f)) i (waiterHeld (headAt one f)) (modeHeld (headAt one f)))
+    → PutsEntry f (reportedEntry (entryHeld t f) i (sideHeld (wordAt t f (10 + i)))) t
+    (set (set t (f * rowWords + (2 + i)) r) (f * rowWords + 1) h)
+reported-marked t f i r h client there size known marked head =
+    let same : headAt (set t (f * rowWords + (2 + i)) r) f ≡ headAt t f = stored-beside t f (2 + i) r 1 (λ e. omega arith) in
+    let before : Head h (versionHeld (headAt t f)) i (waiterHeld (headAt t f)) (modeHeld (headAt t f)) =
+    subst (λ w. Head h (versionHeld w) i (waiterHeld w) (modeHeld w)) same head in
+    reported-puts t f i r h client there size known
+    (subst⁻¹
+    (λ (b : Bool). Head h (versionHeld (headAt t f)) (cond b i (lastHeld (headAt t f))) (waiterHeld (headAt t f)) (modeHeld (headAt t f)))
+    marked before)

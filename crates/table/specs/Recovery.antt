@@ -1,11 +1,10 @@
 -- A step on the whole table, as the program takes it: what becomes of the state of the recovery, and what the entries
 -- in force do. Read to follow the proof of the service's step, whose contract does not mention them.
-use Prim.Native.Nat.{ℕ, _<_}
-use mathlib.Core.Bool.{true, false}
+use Prim.Native.Nat.{ℕ}
+use mathlib.Core.Bool.{Bool, true, false}
 use mathlib.Core.List.{List}
 use lib.ListN.{set}
 use Rattle.sizes.specs.declared.sizes.Sizes.{Sizes}
-use Rattle.sizes.specs.Sizes.{maxClients}
 use Rattle.decision.specs.Lists.{stored, filled}
 use Rattle.protocol.specs.declared.client.Sides.{Sides}
 use Rattle.protocol.specs.declared.entry.Entry.{Entry}
@@ -21,13 +20,7 @@ use Rattle.table.specs.declared.recovery.RecoveryOutcome.{RecoveryOutcom
 use Rattle.table.specs.declared.recovery.Sweep.{Sweep}
 use Rattle.table.specs.declared.recovery.Sweep.the-variants.{Stay, Crash as Crashes, Report as Reports}
 use Rattle.table.specs.declared.table.TableOutcome.{TableOutcome}
-use Rattle.table.specs.TableStep.{entryOf, sidesIn, reportTests, endTests}
-
--- the client of a report is there
-abbrev pub Fits : Sweep → Type 0
-Fits Stay = Unit {0}
-Fits Crashes = Unit {0}
-Fits (Reports i) = i < maxClients
+use Rattle.table.specs.TableStep.{entryOf, sidesIn, isReported, isEmbargoed, reportTests, endTests}
 
 -- the entries after a crash, and after the client's sides of every file have come
 abbrev pub crashedFiles : Sizes → List Entry → List Entry
@@ -47,8 +40,9 @@ filesAfter z (Reports i) entries clients = reportedFiles z entries clients i
 abbrev pub kept : Recovery → Reply → RecoveryOutcome
 kept v reply = record { recovery = v; reply = reply; sweep = Stay }
 
-abbrev pub recovered : Sizes → Recovery → TableAct → RecoveryOutcome
-recovered z v crashes =
+-- `clash` says whether a report clashes with those that were accepted before
+abbrev pub recovered : Sizes → Recovery → Bool → TableAct → RecoveryOutcome
+recovered z v clash crashes =
     record {
       recovery =
           record {
@@ -59,23 +53,24 @@ recovered z v crashes =
       reply = Done;
       sweep = Crashes;
     }
-recovered z v (reports i) =
-    tested (reportTests z (v .recovering) (v .reported) (v .embargoed) i) (λ k. kept v (Refused k))
+recovered z v clash (reports i) =
+    tested (reportTests z (isEmbargoed (v .embargoed) i) (v .recovering) (isReported (v .reported) i) clash i)
+    (λ k. kept v (Refused k))
     (record {
       recovery =
           record { recovering = v .recovering; reported = set (v .reported) i true; embargoed = v .embargoed };
       reply = Done;
       sweep = Reports i;
     })
-recovered z v ends =
+recovered z v clash ends =
     tested (endTests z (v .recovering) (v .reported) (v .embargoed)) (λ k. kept v (Refused k))
     (kept
     (record { recovering = false; reported = filled (z .clients) false (v .reported); embargoed = v .embargoed })
     Done)
-recovered z v nothing = kept v Done
+recovered z v clash nothing = kept v Done
 
-unfoldable pub recoveryStep : Sizes → Recovery → Step → RecoveryOutcome
-recoveryStep z v x = recovered z v (tableAct x)
+unfoldable pub recoveryStep : Sizes → Recovery → Bool → Step → RecoveryOutcome
+recoveryStep z v clash x = recovered z v clash (tableAct x)
 
 -- the table, once the entries have done so
 abbrev pub tableAfter : Sizes → List Entry → List Sides → RecoveryOutcome → TableOutcome

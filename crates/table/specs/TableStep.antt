@@ -18,6 +18,7 @@ use Rattle.protocol.specs.Step.{TableAct, crashes, reports, ends, nothing, tabl
 use Rattle.protocol.specs.Entry.{crashedEntry, reportedEntry}
 use Rattle.protocol.specs.Client.{sideOf}
 use Rattle.protocol.specs.Refusal.{Test, tested, noSuchClient, setAside}
+use Rattle.table.specs.Clash.{clashes}
 use Rattle.table.specs.declared.table.Table.{Table}
 use Rattle.table.specs.declared.table.TableOutcome.{TableOutcome}
 
@@ -45,8 +46,12 @@ notRecovering recovering = (not recovering, 6)
 abbrev pub isReported : List Bool → ℕ → Bool
 isReported reported i = getD reported i false
 
-abbrev pub hasReported : List Bool → ℕ → Test
-hasReported reported i = (isReported reported i, 7)
+abbrev pub hasReported : Bool → Test
+hasReported reported = (reported, 7)
+
+-- "22 when a report, alone or with one accepted, breaks one of these, after 7" (document 02, Wish 10)
+abbrev pub reportsClash : Bool → Test
+reportsClash clash = (clash, 22)
 
 -- "recovery doesn't wait for such stations" (document 02, Wish 9): whom the server need not hear any more
 abbrev pub isEmbargoed : List Bool → ℕ → Bool
@@ -62,13 +67,14 @@ missing n reported embargoed = count n (λ i. not (isHeard reported embargoed i)
 abbrev pub reportMissing : Sizes → List Bool → List Bool → Test
 reportMissing z reported embargoed = (ltb 0 (missing (z .clients) reported embargoed), 8)
 
--- "report 2, 6, 7; end 6, 8; crash none"; "20 .., after 4" (the same)
-abbrev pub reportTests : Sizes → Bool → List Bool → List Bool → ℕ → List Test
-reportTests z recovering reported embargoed i =
+-- "report 2, 6, 7; end 6, 8; crash none"; "20 .., after 4"
+abbrev pub reportTests : Sizes → Bool → Bool → Bool → Bool → ℕ → List Test
+reportTests z embargoed recovering reported clash i =
     noSuchClient z i
-    ∷ setAside (isEmbargoed embargoed i) (Report i)
+    ∷ setAside embargoed (Report i)
     ∷ notRecovering recovering
-    ∷ hasReported reported i
+    ∷ hasReported reported
+    ∷ reportsClash clash
     ∷ []
 
 abbrev pub endTests : Sizes → Bool → List Bool → List Bool → List Test
@@ -84,6 +90,11 @@ crashed z t =
       reported = filled (z .clients) false (t .reported);
       embargoed = t .embargoed;
     }
+
+-- whether the report of client i clashes: "the whole report is tested" before any of it is taken
+abbrev pub clashing : Sizes → Table → List Sides → ℕ → Bool
+clashing z t clients i =
+    clashes z (isReported (t .reported)) (entryIn t) (λ f. sideOf (sidesIn clients f) i)
 
 -- "a station gives counts, permissions and marks for all files; the table takes them"
 abbrev pub reported : Sizes → Table → List Sides → ℕ → Table
@@ -113,7 +124,10 @@ unlessTested ts t after =
 abbrev pub acted : Sizes → Table → List Sides → TableAct → TableOutcome
 acted z t clients crashes = record { table = crashed z t; reply = Done }
 acted z t clients (reports i) =
-    unlessTested (reportTests z (t .recovering) (t .reported) (t .embargoed) i) t (reported z t clients i)
+    unlessTested
+    (reportTests z (isEmbargoed (t .embargoed) i) (t .recovering) (isReported (t .reported) i) (clashing z t clients i) i)
+    t
+    (reported z t clients i)
 acted z t clients ends =
     unlessTested (endTests z (t .recovering) (t .reported) (t .embargoed)) t (ended z t)
 acted z t clients nothing = record { table = t; reply = Done }

@@ -1,12 +1,11 @@
 // The steps on the whole table. Each changes the state of the recovery, and tells what the entries in force do then.
 ghost use mathlib.Core.Path.{_≡_};
-ghost use mathlib.Core.Bool.{false};
+ghost use mathlib.Core.Bool.{Bool, false};
 ghost use Prim.Native.Nat.{_≤_};
 ghost use Rattle.sizes.specs.Sizes.{maxClients, Permitted};
 ghost use Rattle.decision.specs.Lists.{filled};
-ghost use Rattle.table.specs.Recovery.{Fits, kept as keptOutcome, recoveryStep};
+ghost use Rattle.table.specs.Recovery.{kept as keptOutcome, recoveryStep};
 use crate::refusal::end_refusal;
-use crate::refusal::report_refusal;
 use protocol::Reply;
 use protocol::Step;
 use sizes::MAX_CLIENTS;
@@ -50,8 +49,7 @@ impl Recovery {
     // The reports are lost, and recovery begins.
     pub fn crash(self, sizes: Sizes) -> RecoveryOutcome
         requires { ⌜ Permitted sizes ⌝ }
-        ensures { λ r. ⌜ r ≡ recoveryStep sizes self Step.Crash ⌝ }
-        ensures { λ r. ⌜ Fits (r .sweep) ⌝ }
+        ensures { λ r. ⌜ ((clash : Bool) → r ≡ recoveryStep sizes self clash Step.Crash) ⌝ }
     {
         let reports = self.reported;
         let embargoed = self.embargoed;
@@ -67,30 +65,10 @@ impl Recovery {
         }
     }
 
-    pub fn report(mut self, sizes: Sizes, client: usize) -> RecoveryOutcome
-        requires { ⌜ Permitted sizes ⌝ }
-        ensures { λ r. ⌜ r ≡ recoveryStep sizes self (Step.Report client) ⌝ }
-        ensures { λ r. ⌜ Fits (r .sweep) ⌝ }
-    {
-        let reports = self.reported;
-        let embargoed = self.embargoed;
-        let refusal = report_refusal(sizes, self.recovering, reports, embargoed, client);
-        if refusal != 0 {
-            return self.kept(Reply::Refused(refusal));
-        }
-        self.reported[client] = true;
-        RecoveryOutcome {
-            recovery: self,
-            reply: Reply::Done,
-            sweep: Sweep::Report { client },
-        }
-    }
-
     // Recovery ends, and the reports are forgotten.
     pub fn end(self, sizes: Sizes) -> RecoveryOutcome
         requires { ⌜ Permitted sizes ⌝ }
-        ensures { λ r. ⌜ r ≡ recoveryStep sizes self Step.End ⌝ }
-        ensures { λ r. ⌜ Fits (r .sweep) ⌝ }
+        ensures { λ r. ⌜ ((clash : Bool) → r ≡ recoveryStep sizes self clash Step.End) ⌝ }
     {
         let reports = self.reported;
         let embargoed = self.embargoed;

@@ -1,10 +1,11 @@
 // The refusals of a report and of the end of a recovery: each function tests exactly its own numbers, lowest first; 0
 // is none.
 ghost use mathlib.Core.Path.{_≡_};
+ghost use mathlib.Core.Bool.{false};
 ghost use Prim.Native.Nat.{_≤_};
 ghost use Rattle.sizes.specs.Sizes.{maxClients, Permitted};
 ghost use Rattle.decision.specs.Lists.{firstOf};
-ghost use Rattle.table.specs.TableStep.{isReported, missing, reportTests, endTests};
+ghost use Rattle.table.specs.TableStep.{missing, reportTests, endTests};
 use decision::one_if;
 use protocol::NO_CLIENT;
 use protocol::NOT_IN_RECOVERY;
@@ -15,18 +16,19 @@ use protocol::refused_if;
 use sizes::MAX_CLIENTS;
 use sizes::Sizes;
 
+// The tests of a report that do not look at the table, as flags of the client and the server.
 pub fn report_refusal(
     sizes: Sizes,
+    embargoed: bool,
     recovering: bool,
-    reported: [bool; MAX_CLIENTS],
-    embargoed: [bool; MAX_CLIENTS],
+    reported: bool,
     client: usize,
 ) -> u8
-    ensures { λ r. ⌜ r ≡ firstOf (reportTests sizes recovering reported embargoed client) ⌝ }
+    ensures { λ r. ⌜ r ≡ firstOf (reportTests sizes embargoed recovering reported false client) ⌝ }
 {
-    let again = refused_if(is_among(reported, client), REPORTED, 0);
+    let again = refused_if(reported, REPORTED, 0);
     let running = refused_if(!recovering, NOT_IN_RECOVERY, again);
-    let aside = refused_if(is_among(embargoed, client), UNDER_EMBARGO, running);
+    let aside = refused_if(embargoed, UNDER_EMBARGO, running);
     refused_if(sizes.clients <= client, NO_CLIENT, aside)
 }
 
@@ -42,17 +44,6 @@ pub fn end_refusal(
     let left = count_missing(reported, embargoed, sizes.clients);
     let waiting = refused_if(0 < left, REPORT_MISSING, 0);
     refused_if(!recovering, NOT_IN_RECOVERY, waiting)
-}
-
-// Whether the client is one of those that have reported, or are under embargo; one that is not there is not.
-fn is_among(flags: [bool; MAX_CLIENTS], client: usize) -> bool
-    ensures { λ r. ⌜ r ≡ isReported flags client ⌝ }
-{
-    if client < MAX_CLIENTS {
-        flags[client]
-    } else {
-        false
-    }
 }
 
 // How many of the clients the server has still to hear.

@@ -1,29 +1,26 @@
 // The steps on the whole table, in the lent rows: a crash and a report go through the files in force.
 ghost use mathlib.Core.Path.{_≡_};
-ghost use mathlib.Core.Bool.{cond};
 ghost use Prim.Native.Nat.{_+_, _≤_, _<_};
 ghost use lib.ListN.{length};
 ghost use Rattle.sizes.specs.Sizes.{Permitted, maxClients, maxFiles};
 ghost use Rattle.protocol.specs.Entry.{crashedEntry, reportedEntry};
 ghost use Rattle.protocol.specs.Client.{sideOf};
-ghost use Rattle.words.specs.Words.{recordHeld, sideHeld, versionHeld, lastHeld, waiterHeld, modeHeld, Head};
+ghost use Rattle.words.specs.Words.{recordHeld, sideHeld};
 ghost use Rattle.words.specs.Rows.{tableWords, wordAt, entryHeld, sidesHeld};
-ghost use Rattle.table.specs.Recovery.{Fits};
-ghost use Rattle.table.specs.Swept.{Cleared, PutsEntry, Sweeps, Swept};
-use crate::recovery::Sweep;
+ghost use Rattle.table.specs.Swept.{Cleared, PutsEntry, Sweeps};
 use protocol::NOBODY;
 use records::Mode;
+use sizes::MAX_CLIENTS;
 use sizes::Sizes;
 use words::ROW;
 use words::WORDS;
 use words::calls_past;
 use words::head_word;
-use words::side_of;
 use words::version_of;
 use words::with_last;
 
-// None of the clients has the file open.
-fn clear_records(clients: usize, f: usize, table: &mut [u64; WORDS])
+// None of the clients has the file open, one after the other.
+fn clear_each(clients: usize, f: usize, table: &mut [u64; WORDS])
     requires { ⌜ clients ≤ maxClients ⌝ }
     requires { ⌜ f < maxFiles ⌝ }
     requires { ⌜ length (now table) ≡ tableWords ⌝ }
@@ -34,6 +31,36 @@ fn clear_records(clients: usize, f: usize, table: &mut [u64; WORDS])
     while i < clients {
         table[row + (2 + i)] = 0;
         i += 1;
+    }
+}
+
+// None of eight clients has the file open.
+fn clear_eight(f: usize, table: &mut [u64; WORDS])
+    requires { ⌜ f < maxFiles ⌝ }
+    requires { ⌜ length (now table) ≡ tableWords ⌝ }
+    ensures { λ r. ⌜ Cleared f (now (table .entry)) (now (table .exit)) 8 ⌝ }
+{
+    let row = f * ROW;
+    table[row + 2] = 0;
+    table[row + 3] = 0;
+    table[row + 4] = 0;
+    table[row + 5] = 0;
+    table[row + 6] = 0;
+    table[row + 7] = 0;
+    table[row + 8] = 0;
+    table[row + 9] = 0;
+}
+
+fn clear_records(clients: usize, f: usize, table: &mut [u64; WORDS])
+    requires { ⌜ clients ≤ maxClients ⌝ }
+    requires { ⌜ f < maxFiles ⌝ }
+    requires { ⌜ length (now table) ≡ tableWords ⌝ }
+    ensures { λ r. ⌜ Cleared f (now (table .entry)) (now (table .exit)) clients ⌝ }
+{
+    if clients == MAX_CLIENTS {
+        clear_eight(f, table);
+    } else {
+        clear_each(clients, f, table);
     }
 }
 
@@ -75,20 +102,14 @@ fn record_part(side: u64) -> u64
     side % 16777216
 }
 
-// The head of a file that the client reports: with its flag the client is the last writer.
-fn head_reported(head: u64, marked: bool, client: usize) -> u64
-    requires { ⌜ client < maxClients ⌝ }
-    ensures { λ r. ⌜ Head r (versionHeld head) (cond marked client (lastHeld head)) (waiterHeld head)
-        (modeHeld head) ⌝ }
+// Whether the side has the last-writer flag.
+fn marked_in(side: u64) -> bool
+    ensures { λ r. ⌜ r ≡ sideHeld side .marked ⌝ }
 {
-    if marked {
-        with_last(head, client as u8)
-    } else {
-        head
-    }
+    side / 16777216 % 256 == 1
 }
 
-// A client reports its side of one file.
+// A client reports its side of one file: with its flag it is the last writer.
 fn report_row(client: usize, f: usize, table: &mut [u64; WORDS])
     requires { ⌜ client < maxClients ⌝ }
     requires { ⌜ f < maxFiles ⌝ }
@@ -99,14 +120,16 @@ fn report_row(client: usize, f: usize, table: &mut [u64; WORDS])
         (now (table .entry)) (now (table .exit)) ⌝ }
 {
     let row = f * ROW;
-    let head = table[row + 1];
     let side = table[row + (10 + client)];
-    let own = side_of(side);
     table[row + (2 + client)] = record_part(side);
-    table[row + 1] = head_reported(head, own.marked, client);
+    if marked_in(side) {
+        let head = table[row + 1];
+        table[row + 1] = with_last(head, client as u8);
+    }
 }
 
-fn report_rows(sizes: Sizes, client: usize, table: &mut [u64; WORDS])
+// A client reports its side of every file in force.
+pub fn report_rows(sizes: Sizes, client: usize, table: &mut [u64; WORDS])
     requires { ⌜ Permitted sizes ⌝ }
     requires { ⌜ client < maxClients ⌝ }
     requires { ⌜ length (now table) ≡ tableWords ⌝ }
@@ -119,19 +142,5 @@ fn report_rows(sizes: Sizes, client: usize, table: &mut [u64; WORDS])
     while f < sizes.files {
         report_row(client, f, table);
         f += 1;
-    }
-}
-
-// The entries of the files in force do what a step on the table tells them.
-pub fn sweep_rows(sizes: Sizes, sweep: Sweep, table: &mut [u64; WORDS])
-    requires { ⌜ Permitted sizes ⌝ }
-    requires { ⌜ Fits sweep ⌝ }
-    requires { ⌜ length (now table) ≡ tableWords ⌝ }
-    ensures { λ r. ⌜ Swept sizes sweep (now (table .entry)) (now (table .exit)) ⌝ }
-{
-    match sweep {
-        Sweep::Stay => {}
-        Sweep::Crash => crash_rows(sizes, table),
-        Sweep::Report { client } => report_rows(sizes, client, table),
     }
 }

@@ -4,7 +4,7 @@ use mathlib.Core.Path.{_≡_, refl}
 use mathlib.Core.Bool.{Bool, true, false}
 use mathlib.Core.List.{List, [], _∷_, _++_}
 use Rattle.sizes.specs.Sizes.{defaultSizes}
-use Rattle.decision.specs.Lists.{count, stored}
+use Rattle.decision.specs.Lists.{count, stored, firstBelow}
 use Rattle.decision.specs.State.{stateOf}
 use Rattle.decision.specs.Permission.{permissionAtGrant}
 use Rattle.access.specs.BlockStep.{blockStep}
@@ -55,6 +55,6 @@ pub record Examples : Type 0 where
       ≡ bytes "explain: station 0 file 0 block 0 is dirty, and not in the image\n"
 
 pub examples : Examples
-unfolding fresh stepOf fileStep blockStep tableStep stateOf permissionAtGrant count stored decimal digitsOf digitsOn
+unfolding fresh stepOf fileStep blockStep tableStep firstBelow stateOf permissionAtGrant count stored decimal digitsOf digitsOn
     numeral argument shapeOf shaped step parseLine settingOf lines after serviceAfter below flat
 examples = record { none = refl; flushed = refl; some = refl; explained = refl }

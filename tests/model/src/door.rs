@@ -1,5 +1,5 @@
 //! Who can cause a refusal: for each step the tests that document 01 lists for it, in the order of their numbers; 20
-//! comes after 4, and 21 after 20 (document 02, Wish 9).
+//! comes after 4, and 21 after 20 (document 02, Wish 9); 22 comes after 7 (Wish 10).
 
 use crate::{ClientFile, Entry, Kind, Mode, Refusal, Service, Step};
 
@@ -91,7 +91,8 @@ impl Service {
         self.client_exists(client)?;
         self.without_embargo(client)?;
         self.in_recovery()?;
-        unless(self.has_reported(client), Refusal::AlreadyReported)
+        unless(self.has_reported(client), Refusal::AlreadyReported)?;
+        unless(self.first_clash(client as usize).is_some(), Refusal::ReportsClash)
     }
 
     pub fn may_end(&self) -> Admission {

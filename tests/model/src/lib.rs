@@ -9,6 +9,7 @@ pub mod images;
 pub mod process;
 
 mod callbacks;
+mod claim;
 mod client;
 mod client_set;
 mod door;
@@ -31,6 +32,7 @@ mod text;
 mod verdict;
 
 pub use callbacks::{Callbacks, Kind};
+pub use claim::{Claim, Clash};
 pub use client::{Client, ClientFile, Copies, copy_kept};
 pub use client_set::ClientSet;
 pub use door::Admission;

@@ -70,12 +70,13 @@ pub enum Refusal {
     SettingOutOfRange = 19,
     UnderEmbargo = 20,
     NotUnderEmbargo = 21,
+    ReportsClash = 22,
 }
 
 impl Refusal {
-    /// Those that a line of a step file can get.
-    pub const NUMBERS: [usize; 17] = [1, 2, 3, 4, 5, 6, 7, 8, 9, 10, 11, 12, 13, 14, 19, 20, 21];
-    pub const LAST_NUMBER: usize = 21;
+    /// Those that a step or a line of a step file can get.
+    pub const NUMBERS: [usize; 18] = [1, 2, 3, 4, 5, 6, 7, 8, 9, 10, 11, 12, 13, 14, 19, 20, 21, 22];
+    pub const LAST_NUMBER: usize = 22;
 
     pub fn number(self) -> usize {
         self as usize

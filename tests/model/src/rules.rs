@@ -114,6 +114,8 @@ pub trait Rules {
     fn crash(service: &mut Service) {
         service.server.crash(service.sizes());
     }
+    /// After a report that is refused.
+    fn report_refused(_service: &mut Service, _client: u64, _refusal: Refusal) {}
     fn report(entry: &mut Entry, client: usize, file: &ClientFile) {
         entry.report(client, file.record, file.last_writer_flag);
     }

@@ -145,7 +145,7 @@ impl Service {
     }
 
     fn report<R: Rules>(&mut self, client: u64) -> Answer {
-        R::may_report(self, client)?;
+        R::may_report(self, client).inspect_err(|refusal| R::report_refused(self, client, *refusal))?;
         let client = client as usize;
         let files = self.sizes().files;
         for (entry, file) in self.server.entries[..files].iter_mut().zip(&self.clients[client].files) {

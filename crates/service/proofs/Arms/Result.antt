@@ -17,9 +17,9 @@ use Rattle.access.specs.BlockStep.{Leaves as LeavesBlock}
 use Rattle.protocol.specs.Reply.{noCalls, noGrants}
 use Rattle.file.specs.FileStep.{fileStep}
 use Rattle.table.specs.declared.recovery.RecoveryOutcome.{RecoveryOutcome}
-use Rattle.table.specs.TableStep.{tableStep}
+use Rattle.table.specs.TableStep.{clashing, tableStep}
 use Rattle.table.specs.Recovery.{recoveryStep, filesAfter, tableAfter}
-use Rattle.table.proofs.Steps.{recoveryIn, as-taken}
+use Rattle.table.proofs.Steps.{recoveryIn, reporter, as-taken}
 use Rattle.service.specs.declared.service.Service.{Service}
 use Rattle.service.specs.declared.outcome.Outcome.{Outcome}
 use Rattle.service.specs.Contents.{sizesOf, tableIn, reportedAt, embargoedAt, clientAt, fileAt, storesOf, withStores}
@@ -83,7 +83,7 @@ module _ (s : Service) (x : Step) (z : Sizes) (inForce : z ≡ sizesOf s) where
   pub table-result :
       (o : RecoveryOutcome) (entries : List Entry)
       → classOf x ≡ OnTable
-      → o ≡ recoveryStep z (recoveryIn (tableIn s)) x
+      → o ≡ recoveryStep z (recoveryIn (tableIn s)) (clashing z (tableIn s) (s .clients) (reporter x)) x
       → entries ≡ filesAfter z (o .sweep) (tableIn s .files) (s .clients)
       → recovered entries o ≡ stepOf s x
   table-result o entries class is done =

@@ -7,7 +7,7 @@ use Rattle.records.specs.declared.record.ClientRecord.{ClientRecord}
 use Rattle.records.specs.declared.record.Mode.the-variants.{Read}
 use Rattle.protocol.specs.declared.reply.Reply.the-variants.{Granted, Value, Refused, AnsweredGrant}
 use Rattle.sizes.specs.Sizes.{nobody}
-use Rattle.decision.specs.Lists.{count, stored}
+use Rattle.decision.specs.Lists.{count, stored, firstBelow}
 use Rattle.records.specs.Record.{notOpen}
 use Rattle.decision.specs.State.{stateOf}
 use Rattle.decision.specs.Permission.{permissionAtGrant}
@@ -84,7 +84,7 @@ pub record Apart : Type 0 where
   pub idleRecovering : reply (inRecovery true false idle) (RD 0 0 0) ≡ Refused 5
 
 pub apart : Apart
-unfolding fresh stepOf fileStep blockStep tableStep stateOf permissionAtGrant count stored
+unfolding fresh stepOf fileStep blockStep tableStep firstBelow stateOf permissionAtGrant count stored
 apart =
     record {
       tableCalls = refl;
@@ -154,7 +154,7 @@ pub record Blocks : Type 0 where
   pub unreadCopy : copyAfter uncached (RD 0 0 0) ≡ (7, true, false)
 
 pub blocks : Blocks
-unfolding fresh stepOf fileStep blockStep tableStep stateOf permissionAtGrant count stored
+unfolding fresh stepOf fileStep blockStep tableStep firstBelow stateOf permissionAtGrant count stored
 blocks =
     record {
       flushed = refl;

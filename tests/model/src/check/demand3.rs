@@ -1,14 +1,16 @@
 //! Demand 3 over a whole run: reads by the reference memory, and the table that a recovery brings back, without the
-//! clients that restarted since the crash. One under embargo has nothing in it.
+//! clients that restarted since the crash. One under embargo has nothing in it. "Reports of stations that follow the
+//! rules always pass" (document 02, Wish 10) stands beside it: no report gets 22.
 
 use super::{ReferenceMemory, StateTable, Witness};
-use crate::{Outcome, Service, Step};
+use crate::{Outcome, Refusal, Service, Step};
 
 #[derive(Clone, PartialEq, Eq, Debug)]
 pub enum Breach {
     Read { line: usize, expected: u64, got: u64 },
     TableNotRestored { line: usize },
     OpenWaitsAfterRecovery { line: usize },
+    ReportsClash { line: usize },
 }
 
 #[derive(Default)]
@@ -43,6 +45,9 @@ impl Demand3 {
             && got != expected
         {
             return Some(Breach::Read { line, expected, got });
+        }
+        if *outcome == Outcome::Refused(Refusal::ReportsClash) {
+            return Some(Breach::ReportsClash { line });
         }
         if *step != Step::End || *outcome != Outcome::Done {
             return None;

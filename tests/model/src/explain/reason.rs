@@ -1,7 +1,7 @@
 //! What stands behind a refusal.
 
 use super::{Book, Opening, Place};
-use crate::{ClientSet, Mode, Refusal, Service, Step};
+use crate::{Clash, ClientSet, Mode, Refusal, Service, Step};
 
 #[derive(Clone, Copy, PartialEq, Eq, Debug)]
 pub enum Reason {
@@ -44,6 +44,10 @@ pub enum Reason {
     },
     NotUnderEmbargo {
         client: usize,
+    },
+    ReportsClash {
+        client: usize,
+        clash: Clash,
     },
 }
 
@@ -94,6 +98,10 @@ impl Reason {
             Refusal::VersionAtLimit => Reason::VersionAtLimit { file: at_file },
             Refusal::UnderEmbargo => Reason::UnderEmbargo { client: at_client, since: book.embargoed_since(at_client) },
             Refusal::NotUnderEmbargo => Reason::NotUnderEmbargo { client: at_client },
+            Refusal::ReportsClash => {
+                let clash = service.first_clash(at_client).expect("the report clashes on some file");
+                Reason::ReportsClash { client: at_client, clash }
+            }
             Refusal::NotAStep
             | Refusal::OpenWaitsAtWriting
             | Refusal::BufferTooShort

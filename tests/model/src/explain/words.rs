@@ -2,7 +2,7 @@
 
 use super::{CopyAtGrant, Granted, LostAt, Opening, Origin, Place, Reading, Reason, Source, Told, Waiting};
 use crate::text::Text;
-use crate::{CLIENTS, Callbacks, ClientSet, Kind, Mode, Sizes};
+use crate::{CLIENTS, Callbacks, Claim, Clash, ClientSet, Kind, Mode, Sizes};
 
 impl Text<'_> {
     /// The sentence of a line.
@@ -253,10 +253,34 @@ impl Text<'_> {
                 self.station(client);
                 self.words(" is not under embargo");
             }
+            Reason::ReportsClash { client, clash } => self.clash(client, &clash),
             Reason::SettingOutOfRange => {
                 self.words("a setting lies outside its range: 1 to 8 stations, 1 to 64 files, 1 to 8 blocks");
             }
         }
+    }
+
+    /// What the client claims, and what the server has accepted of the other.
+    fn clash(&mut self, client: usize, clash: &Clash) {
+        self.words(if clash.other.is_none() { "the report on" } else { "the reports on" });
+        self.file(clash.file);
+        self.words(if clash.other.is_none() { " cannot be true: " } else { " cannot both be true: " });
+        self.claim(client, clash.own);
+        if let Some((other, accepted)) = clash.other {
+            self.words("; ");
+            self.claim(other, accepted);
+        }
+    }
+
+    fn claim(&mut self, client: usize, claim: Claim) {
+        self.station(client);
+        self.words(" has readers ");
+        self.number(claim.record.readers.into());
+        self.words(", writers ");
+        self.number(claim.record.writers.into());
+        self.words(", ");
+        self.permission(claim.record.may_cache);
+        self.words(if claim.flagged { ", a mark" } else { ", no mark" });
     }
 
     fn not_there(&mut self, what: &str, number: u64, there_are: &str, count: usize) {

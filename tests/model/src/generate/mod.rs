@@ -5,6 +5,7 @@ mod closing;
 mod embargo;
 mod guided;
 mod malformed;
+mod recovery;
 mod restart;
 mod resumed;
 mod rng;
@@ -26,6 +27,7 @@ use settings::{SettingsLines, WithSettings};
 use crate::{Service, Settings};
 
 pub use closing::{closing_time, leaving_embargoes};
+pub use recovery::{Recovery, hand_made_recovery};
 pub use resumed::{embargoed_run, restarted_run, resumed_run};
 pub use rng::Rng;
 

@@ -1,7 +1,7 @@
 //! The judge's side of the protocol that src/bin/images/main.rs tells: strings in, answers out.
 
 use super::sections::written;
-use crate::{Document01, Mode, Refusal, Service, Settings, State, Step};
+use crate::{Document01, Mode, Outcome, Refusal, Service, Settings, State, Step};
 
 /// The most bytes of a string, and of the input of one run.
 pub const LONGEST_STRING: usize = 8_192;
@@ -72,12 +72,14 @@ pub struct Judge<'a> {
     write_image: &'a WriteImage<'a>,
     sizes: Option<[u8; 3]>,
     service: Service,
+    /// Reports refused with 22.
+    clashes: usize,
 }
 
 impl<'a> Judge<'a> {
     /// A judge that reads and writes images in this way.
     pub fn new(read_image: &'a ReadImage<'a>, write_image: &'a WriteImage<'a>) -> Self {
-        Judge { read_image, write_image, sizes: None, service: Service::fresh() }
+        Judge { read_image, write_image, sizes: None, service: Service::fresh(), clashes: 0 }
     }
 
     pub fn model() -> Self {
@@ -110,9 +112,15 @@ impl<'a> Judge<'a> {
         answer
     }
 
+    /// How many reports were refused with 22 so far: after a reading that lifts an embargo.
+    pub fn clashes(&self) -> usize {
+        self.clashes
+    }
+
     fn take(&mut self, steps: &[Step]) {
         for step in steps {
-            self.service.take::<Document01>(step);
+            let outcome = self.service.take::<Document01>(step);
+            self.clashes += usize::from(outcome == Outcome::Refused(Refusal::ReportsClash));
         }
     }
 

@@ -46,7 +46,7 @@ fn random_services_keep_every_promise() {
     assert!(tally.recoveries() > 100);
     assert!(tally.behind().least() > 20, "{}", tally.behind());
     assert!(tally.restarts().least() > 10, "{}", tally.restarts());
-    assert!(met(UnderEmbargo) && met(NotUnderEmbargo));
+    assert!(met(UnderEmbargo) && met(NotUnderEmbargo) && met(ReportsClash));
     assert!(tally.embargoes().least() > 5, "{}", tally.embargoes());
 }
 

@@ -1,9 +1,9 @@
 //! Recoveries made by hand: waits, reports and tables that stand where a crash would have cleared them.
 
-use model::{ClientField, ClientSet, Mode, Record, WaitField};
+use model::{ClientField, ClientSet, Mode, WaitField};
 
 use crate::listing::RECOVERY;
-use crate::made::{CLOSED, HandMade, READER, WRITER, block_0, uncached};
+use crate::made::{HandMade, READER, WRITER, block_0, uncached};
 
 /// "For the other steps 5 holds throughout recovery", and 5 comes before 9 and 10.
 #[test]
@@ -58,23 +58,6 @@ fn reports_stored_while_running_tell_nothing() {
     made.plays(&running, &["files 0"]);
     let ended = HandMade::fresh().recovering(ClientSet::ALL).plays(&[("EN", "K")], &["files 0"]);
     assert_eq!(ended.service.server.reported, ClientSet::NONE);
-}
-
-/// "If two claim one mark, the later stands."
-#[test]
-fn of_two_marks_the_later_report_stands() {
-    let made = HandMade::fresh().flagged(3).flagged(5).recovering(ClientSet::NONE);
-    made.clone().plays(&[("RP 3", "K"), ("RP 5", "K")], &["files 1", "0 1 1 5"]);
-    made.plays(&[("RP 5", "K"), ("RP 3", "K"), ("RP 4", "K")], &["files 1", "0 1 1 3"]);
-}
-
-/// "The table takes them" as they come: permission at a client that is not open, a mark at one that has writers.
-#[test]
-fn a_report_is_taken_as_it_comes() {
-    let permitted = Record { may_cache: true, ..CLOSED };
-    let made = HandMade::fresh().at_client(0, permitted).at_client(1, WRITER).flagged(1).recovering(ClientSet::NONE);
-    let reported = made.plays(&RECOVERY[1..], &["files 1", "0 5 1 1"]);
-    assert_eq!((reported.entry().records[0], reported.entry().records[1]), (permitted, WRITER));
 }
 
 /// A table that stands while recovering goes on standing where no report speaks of it; DECISIONS: "A report without the

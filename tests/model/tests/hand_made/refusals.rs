@@ -13,7 +13,7 @@ pub fn lowest(service: &Service, step: &Step) -> Option<usize> {
 /// "Open tests 2, 3, 5, 9, 12, 14; close 2, 3, 5, 9, 11; read and write 2, 3, 4, 5, 11; flush 2, 3, 4, 5, 13; reply 2,
 /// 3, 5, 10; report 2, 6, 7; end 6, 8; crash none." "BT tests 2 only" (Wish 8). "EM is tested as a reply is, never by
 /// 20 ..; LF tests 2 and 21. 20 when an embargoed station's step other than BT or LF needs the server (any but a read
-/// or write does), after 4" (Wish 9).
+/// or write does), after 4" (Wish 9). "22 when a report .. breaks one of these, after 7" (Wish 10).
 fn tested(step: &Step) -> &'static [usize] {
     match step {
         Step::Open { .. } => &[2, 3, 20, 5, 9, 12, 14],
@@ -22,7 +22,7 @@ fn tested(step: &Step) -> &'static [usize] {
         Step::Flush { .. } => &[2, 3, 4, 20, 5, 13],
         Step::Reply { .. } => &[2, 3, 20, 5, 10],
         Step::Embargo { .. } => &[2, 3, 5, 10],
-        Step::Report { .. } => &[2, 20, 6, 7],
+        Step::Report { .. } => &[2, 20, 6, 7, 22],
         Step::End => &[6, 8],
         Step::Crash => &[],
         Step::Restart { .. } => &[2],
@@ -51,6 +51,7 @@ fn holds(number: usize, service: &Service, step: &Step) -> bool {
         14 => mode(step) == Mode::Write && at().entry.version.0 == 4_294_967_295,
         20 => is_embargoed(service, client as usize) && needs_server(step, &at(), block as usize),
         21 => !is_embargoed(service, client as usize),
+        22 => report_cannot_be_true(service, client as usize),
         _ => unreachable!("no step tests {number}"),
     }
 }
@@ -143,4 +144,71 @@ fn mode(step: &Step) -> Mode {
 
 fn count(record: &Record, mode: Mode) -> u8 {
     if mode == Mode::Read { record.readers } else { record.writers }
+}
+
+/// What is known of one station on one file.
+#[derive(Clone, Copy)]
+pub struct Known {
+    open: bool,
+    writes: bool,
+    may_cache: bool,
+    marked: bool,
+}
+
+impl Known {
+    fn of(record: &Record, marked: bool) -> Self {
+        let Record { readers, writers, may_cache } = *record;
+        Known { open: readers != 0 || writers != 0, writes: writers != 0, may_cache, marked }
+    }
+
+    /// What the server has taken from the report of this station.
+    pub fn accepted(service: &Service, file: usize, station: usize) -> Self {
+        let entry = &service.server.entries[file];
+        Known::of(&entry.records[station], usize::from(entry.last_writer.0) == station)
+    }
+}
+
+/// "No file has permission at a station that isn't open; a mark at a station with writers, or open without permission; a
+/// marked station and another open or marked; or a station with writers and another that may cache" (Wish 10): of all
+/// these stations together.
+pub fn can_be_true(stations: &[Known]) -> bool {
+    if stations.is_empty() {
+        return true;
+    }
+    let count = |has: fn(&Known) -> bool| stations.iter().filter(|station| has(station)).count();
+    let (open, marked) = (count(|station| station.open), count(|station| station.marked));
+    let marked_and_open = count(|station| station.marked && station.open);
+    let (writing, caching) = (count(|station| station.writes), count(|station| station.may_cache));
+    let writing_and_caching = count(|station| station.writes && station.may_cache);
+    let closed_with_permission = count(|station| !station.open && station.may_cache);
+    let marked_writers = count(|station| station.marked && station.writes);
+    let marked_and_open_without = count(|station| station.marked && station.open && !station.may_cache);
+    let mark_beside_another = marked > 1 || marked == 1 && open > marked_and_open;
+    // One that writes and caches is no other to itself.
+    let writer_beside_cacher = writing * caching > writing_and_caching;
+    closed_with_permission + marked_writers + marked_and_open_without == 0
+        && !mark_beside_another
+        && !writer_beside_cacher
+}
+
+/// "22 when a report, alone or with one accepted, breaks one of these." DECISIONS: "A client that says nothing of a file"
+/// breaks nothing there.
+fn report_cannot_be_true(service: &Service, client: usize) -> bool {
+    let Sizes { clients, files, .. } = in_force(service);
+    for file in 0..files {
+        let own = &service.clients[client].files[file];
+        let own = Known::of(&own.record, own.last_writer_flag);
+        if !(own.open || own.may_cache || own.marked) {
+            continue;
+        }
+        if !can_be_true(&[own]) {
+            return true;
+        }
+        for other in (0..clients).filter(|&other| service.server.reported.contains(other)) {
+            if !can_be_true(&[own, Known::accepted(service, file, other)]) {
+                return true;
+            }
+        }
+    }
+    false
 }

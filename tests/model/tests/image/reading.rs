@@ -203,3 +203,84 @@ fn on_the_premise_a_reading_is_a_crash() {
     assert!(met.readings > 10_000 && met.later > 2_000, "{} {}", met.readings, met.later);
     assert!(met.under_embargo > 1_000, "{}", met.under_embargo);
 }
+
+/// "Reports of stations that follow the rules always pass, on Wish 2's premise" (Wish 10): an image from before an embargo
+/// breaks it, and the client that was put aside reports beside the one that was granted its file. A restart of either
+/// lets the recovery end.
+#[test]
+fn an_image_from_before_an_embargo_brings_22() {
+    let mut service = after(&["SET 2 1 1", "OW 0 0"]);
+    let image = written(&service).expect("it is written");
+    replay_from::<Document01>(&mut service, b"OR 1 0\nEM 0 0\n", &mut ());
+    assert_eq!(service.read_image(&image), Ok(()));
+    let said = |lines: &str| {
+        let output = replay_from::<Document01>(&mut service.clone(), lines.as_bytes(), &mut ());
+        String::from_utf8(output).expect("the output is ASCII")
+    };
+    assert_eq!(said("RP 0\nRP 1\nEN\n"), "1 K\n2 N 22\n3 N 8\nfiles 1\n0 5 2 -\n");
+    assert_eq!(said("RP 1\nRP 0\nEN\n"), "1 K\n2 N 22\n3 N 8\nfiles 1\n0 2 2 -\n");
+    assert_eq!(said("RP 0\nRP 1\nBT 0\nRP 1\nEN\n"), "1 K\n2 N 22\n3 K\n4 K\n5 K\nfiles 1\n0 2 2 -\n");
+    assert_eq!(said("RP 0\nRP 1\nBT 1\nEN\n"), "1 K\n2 N 22\n3 K\n4 K\nfiles 1\n0 5 2 -\n");
+}
+
+/// The first image of a run, read again later, and what the reports then get.
+#[derive(Default)]
+struct Later {
+    image: Option<(Vec<u8>, Lasting)>,
+    line: usize,
+    /// Readings with the embargoes that the server has, and other versions or blocks.
+    same_embargoes: usize,
+    other_embargoes: usize,
+    clashes: usize,
+}
+
+impl Witness for Later {
+    fn after(&mut self, service: &Service, _step: &Step, _outcome: &Outcome) {
+        self.line += 1;
+        if self.image.is_none() || self.line.is_multiple_of(150) {
+            self.image = written(service).ok().map(|image| (image, lasting(service))).or(self.image.take());
+        }
+        let Some((image, then)) = &self.image else { return };
+        let now = lasting(service);
+        if *then == now {
+            return;
+        }
+        let mut read = service.clone();
+        assert_eq!(read.read_image(image), Ok(()));
+        let clients = read.sizes().clients as u64;
+        let reports: Vec<Outcome> =
+            (0..clients).map(|client| read.take::<Document01>(&Step::Report { client })).collect();
+        let clashed = |outcome: &&Outcome| **outcome == Outcome::Refused(Refusal::ReportsClash);
+        let clashes = reports.iter().filter(clashed).count();
+        if then.1 == now.1 {
+            assert_eq!(clashes, 0);
+            self.same_embargoes += 1;
+        } else {
+            self.other_embargoes += 1;
+            self.clashes += clashes;
+        }
+        let refused = (0..clients).filter(|&client| clashed(&&reports[client as usize]));
+        for client in refused {
+            assert_eq!(read.take::<Document01>(&Step::Restart { client }), Outcome::Restarted { granted: vec![] });
+        }
+        assert_eq!(read.take::<Document01>(&Step::End), Outcome::Done);
+    }
+}
+
+/// Of the premise only the part on embargoes is needed: with other versions and blocks no report gets 22. Where one
+/// does, the restarts of those refused let the recovery end.
+#[test]
+fn only_other_embargoes_bring_22() {
+    let mut met = Later::default();
+    for seed in 0..40 {
+        for kind in [FileKind::Hot, FileKind::Embargo, FileKind::Embargo] {
+            (met.image, met.line) = (None, 0);
+            replay::<Document01>(&step_file(kind, seed, 400), &mut met);
+        }
+    }
+    let Later { same_embargoes, other_embargoes, clashes, .. } = met;
+    assert!(
+        same_embargoes > 5_000 && other_embargoes > 5_000 && clashes > 1_000,
+        "{same_embargoes} {other_embargoes} {clashes}"
+    );
+}

@@ -4,7 +4,7 @@ use mathlib.Core.Bool.{not}
 use native.Mathlib.Omega.{arith}
 use lib.Dec.{eqb}
 use Rattle.decision.proofs.Counting.{Counted, counted-none, counted-next, counted-fits, counted-all}
-use Rattle.ledger.specs.Refusals.{timesRefused}
+use Rattle.ledger.specs.Refusals.{refusalNumbers, timesRefused}
 use Rattle.picture.proofs.Parts.{some}
 use borrow.Author.Needs.{needs}
 use Rattle.picture.proofs.refused.count_given.Statement.{statement}
@@ -12,10 +12,10 @@ use Rattle.picture.proofs.refused.count_given.Tie as tie
 
 abbrev Inv-loop : tie.InvT-loop
 Inv-loop counts given₀ which₀ given which =
-    Counted 22 (λ k. not (eqb (timesRefused counts k) 0)) given which
+    Counted refusalNumbers (λ k. not (eqb (timesRefused counts k) 0)) given which
 
 abbrev μ-loop : tie.MeasureT-loop
-μ-loop counts given₀ which₀ given which = 22 - which
+μ-loop counts given₀ which₀ given which = refusalNumbers - which
 
 loop-holds : tie.Need-loop-holds Inv-loop μ-loop
 loop-holds c =

@@ -3,6 +3,7 @@ use Prim.Native.Nat.{_+_, _-_, _*_, _≤_}
 use mathlib.Core.Path.{_≡_, refl, sym, _∙_, ap}
 use native.Mathlib.Omega.{arith}
 use lib.ListN.{length}
+use Rattle.ledger.specs.Refusals.{refusalNumbers}
 use Rattle.writer.specs.Buffer.{Wrote}
 use Rattle.writer.proofs.Buffers.{wrote-none, wrote-then, wrote-as}
 use Rattle.picture.specs.Picture.{timesText}
@@ -14,12 +15,12 @@ use Rattle.picture.proofs.refused.put_times.Tie as tie
 abbrev Inv-loop : tie.InvT-loop
 Inv-loop out₀ at counts next₀ number₀ out next number =
     Wrote out₀ at (timesText counts number) out next
-    × (number ≤ 22)
+    × (number ≤ refusalNumbers)
     × (next ≤ at + 56 * number)
     × (length out ≡ length out₀)
 
 abbrev μ-loop : tie.MeasureT-loop
-μ-loop out₀ at counts next₀ number₀ out next number = 22 - number
+μ-loop out₀ at counts next₀ number₀ out next number = refusalNumbers - number
 
 loop-holds : tie.Need-loop-holds Inv-loop μ-loop
 unfolding timesText
@@ -67,7 +68,7 @@ returns c =
     let at-loop = c .before in
     let start = at-loop .before .before in
     let inv = at-loop .loop .inv in
-    let all : at-loop .loop .number ≡ 22 = omega (arith, inv .1, c .loop-test .left) in
+    let all : at-loop .loop .number ≡ refusalNumbers = omega (arith, inv .1, c .loop-test .left) in
     (wrote-as (ap (λ k. timesText (start .args .t3) k) all) (inv .0), omega (arith, inv .1, inv .2))
 
 pub put-times-spec : {M : Type 1} → statement M

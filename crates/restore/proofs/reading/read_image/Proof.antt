@@ -33,7 +33,7 @@ returns-2 c =
     let none = force .before .before in
     let known = none .before in
     let a = known .before .args in
-    let is = accepted (a .service) (now (a .bytes)) (force .in-force .result) (force .in-force .ensures .0) (files .decode-files .result) (files .decode-files .ensures) (blocks .decode-blocks .result) (blocks .decode-blocks .ensures) (embargoes .decode-embargoes .result) (embargoes .decode-embargoes .ensures) (none .none .result) (none .none .ensures) (test .is-image .result) (test .is-image .ensures) (not-false (test .is-image .result) (branch .if1 .left)) _ _ (crashed .crashed .ensures) (c .with-contents .ensures) in
+    let is = accepted (a .service) (now (a .bytes)) (force .in-force .result) (force .in-force .ensures .0) (files .decode-files .result) (files .decode-files .ensures) (blocks .decode-blocks .result) (blocks .decode-blocks .ensures) (embargoes .decode-embargoes .result) (embargoes .decode-embargoes .ensures) (none .none .result) (none .none .ensures) (test .is-image .result) (test .is-image .ensures) (not-false (test .is-image .result) (branch .if1 .left)) _ _ (crashed .crashed .ensures .0) (c .with-contents .ensures) in
     (is, exactly (a .service) (now (a .bytes)) (λ k. known .shared-slice-known .given k .fits) is)
 
 pub read-image-spec : {M : Type 1} → statement M

@@ -14,17 +14,19 @@ use Rattle.protocol.specs.declared.reply.Reply.{Reply}
 use Rattle.protocol.specs.Client.{sideOf}
 use Rattle.protocol.specs.Step.{clientOf, fileOf, blockOf, modeOf}
 use Rattle.words.specs.Rows.{entryHeld, sidesHeld}
+use Rattle.table.specs.TableStep.{isReported}
+use Rattle.service.specs.Lent.{reportedHeld}
 use Rattle.ledger.specs.Ledger.{entered, linesAt}
 use Rattle.stepfile.specs.Text.{bytes}
 use Rattle.phrases.specs.Phrase.{modeByKind}
 use Rattle.phrases.specs.Accepted.{grantText, answerText, stillText}
 use Rattle.sentences.specs.Scene.{sceneHeld, asideHeld, Whole, wholeHeld}
-use Rattle.sentences.specs.Explained.{saidOf}
+use Rattle.sentences.specs.Explained.{clashText, saidOf}
 use Rattle.writer.proofs.Buffers.{wrote-as, wrote-then}
 use Rattle.phrases.proofs.Names.{mode-named}
 use Rattle.sentences.proofs.Names.{client-named, file-named, block-named}
 use Rattle.sentences.proofs.Names.{grant-as, wait-as, read-as, refusal-as, answer-as}
-use Rattle.sentences.proofs.Names.{done-as, an-embargo, no-embargo}
+use Rattle.sentences.proofs.Names.{done-as, an-embargo, no-embargo, a-clash, no-clash}
 use Rattle.sentences.proofs.sentence.put_sentence.Statement.{statement}
 use Rattle.sentences.proofs.sentence.put_sentence.Tie as tie
 
@@ -73,6 +75,16 @@ module _ (c : tie.After-asked) where
       (sceneHeld (a .sizes) (a .step) (now (a .before)) (now (a .table)) (now (a .flags)) (now (a .since)) (a .told) (a .caching))
       whole (a .step) (a .calls) r
 
+  -- of a report that clashes
+  abbrev clash-of : ℕ → List ℕ
+  clash-of i =
+      let a = c .before .before .args in
+      clashText (a .sizes) (isReported (reportedHeld (now (a .flags)))) (entryHeld (now (a .table)))
+      (λ f. sideOf (sidesHeld (now (a .table)) f) i) i
+
+  abbrev clash : List ℕ
+  clash = clash-of (clientOf (c .before .before .args .step))
+
   -- of an answer, without a grant and with one
   abbrev answered : ℕ → List ℕ
   answered n =
@@ -111,15 +123,15 @@ put-grant-requires-2 c κs =
 returns : tie.Need-returns
 returns c =
     let put = c .before .before in
-    let test = put .before .before in
-    let is = test .before .before .before in
+    let then = put .before .before in
+    let is = then .before .before in
     let asked = is .before .before in
     let a = asked .before .before .args in (
       wrote-as
-          (an-embargo (a .sizes) (whole asked) (a .step) (asked .asked .ensures) (answered asked (is .reply3 .given .0 .0))
-          (eq-eqb _ 12 (test .if1 .taken))
-          ∙ ap (said asked) (sym (is .reply3 .given .1)))
-          (put .put-embargoed .ensures .0),
+          (ap (clash-of asked) (client-is asked)
+          ∙ a-clash (is .reply2 .given .0 .0) (clash asked) _ (eq-eqb _ 22 (then .if1 .taken))
+          ∙ ap (said asked) (sym (is .reply2 .given .1)))
+          (put .put-clash .ensures .0),
       search needs,
     )
 
@@ -129,19 +141,34 @@ returns-2 c =
     let test = put .before .before in
     let is = test .before .before .before in
     let asked = is .before .before in
-    let a = asked .before .before .args in
-    let given = is .reply4 .given .0 in (
+    let a = asked .before .before .args in (
       wrote-as
-          (an-embargo (a .sizes) (whole asked) (a .step) (asked .asked .ensures)
-          (handed asked (given .0) (given .1 .0) (given .1 .1 .0))
+          (an-embargo (a .sizes) (whole asked) (a .step) (asked .asked .ensures) (answered asked (is .reply3 .given .0 .0))
           (eq-eqb _ 12 (test .if2 .taken))
-          ∙ ap (said asked) (sym (is .reply4 .given .1)))
-          (put .put-embargoed2 .ensures .0),
+          ∙ ap (said asked) (sym (is .reply3 .given .1)))
+          (put .put-embargoed .ensures .0),
       search needs,
     )
 
 returns-3 : tie.Need-returns-3
 returns-3 c =
+    let put = c .before .before in
+    let test = put .before .before in
+    let is = test .before .before .before in
+    let asked = is .before .before in
+    let a = asked .before .before .args in
+    let given = is .reply4 .given .0 in (
+      wrote-as
+          (an-embargo (a .sizes) (whole asked) (a .step) (asked .asked .ensures)
+          (handed asked (given .0) (given .1 .0) (given .1 .1 .0))
+          (eq-eqb _ 12 (test .if3 .taken))
+          ∙ ap (said asked) (sym (is .reply4 .given .1)))
+          (put .put-embargoed2 .ensures .0),
+      search needs,
+    )
+
+returns-4 : tie.Need-returns-4
+returns-4 c =
     let put = c .before .before in
     let is = put .before .before .before .before .before in
     let asked = is .before .before in
@@ -157,8 +184,8 @@ returns-3 c =
       search needs,
     )
 
-returns-4 : tie.Need-returns-4
-returns-4 c =
+returns-5 : tie.Need-returns-5
+returns-5 c =
     let put = c .before .before in
     let is = put .before .before .before .before in
     let asked = is .before .before in
@@ -173,8 +200,8 @@ returns-4 c =
       search needs,
     )
 
-returns-5 : tie.Need-returns-5
-returns-5 c =
+returns-6 : tie.Need-returns-6
+returns-6 c =
     let put = c .before .before in
     let is = put .before .before .before .before in
     let asked = is .before .before in
@@ -190,13 +217,14 @@ returns-5 c =
       search needs,
     )
 
-returns-6 : tie.Need-returns-6
-returns-6 c =
+returns-7 : tie.Need-returns-7
+returns-7 c =
     let put = c .before .before in
     let embargo = put .before .before .before in
     let entry = embargo .before in
     let flags = entry .before in
-    let is = flags .before .before .before in
+    let other = flags .before .before in
+    let is = other .before .before in
     let asked = is .before .before in
     let a = asked .before .before .args in (
       wrote-as
@@ -205,13 +233,14 @@ returns-6 c =
           (entry .entry-at2 .ensures ∙ entry-named asked)
           (ap (λ (f : ℕ). getD (now (a .since)) (f % maxFiles) 0) (file-is asked))
           (embargo .embargo-since2 .ensures ∙ embargo-named asked)
+          ∙ no-clash (is .reply2 .given .0 .0) (clash asked) _ (ne-eqb _ 22 (other .if1 .left))
           ∙ ap (said asked) (sym (is .reply2 .given .1)))
           (put .put-refusal .ensures .0),
       search needs,
     )
 
-returns-7 : tie.Need-returns-7
-returns-7 c =
+returns-8 : tie.Need-returns-8
+returns-8 c =
     let put = c .before .before in
     let answer = put .before .before .before .before in
     let test = answer .before .before .before in
@@ -221,15 +250,15 @@ returns-7 c =
     let after = answer .before .before .entry-at3 .ensures ∙ ap (λ (f : ℕ). entryHeld (now (a .table)) (f % maxFiles)) (file-is asked) in (
       wrote-as
           (no-embargo (a .sizes) (whole asked) (a .step) (asked .asked .ensures) (answered asked (is .reply3 .given .0 .0))
-          (ne-eqb _ 12 (test .if1 .left))
+          (ne-eqb _ 12 (test .if2 .left))
           ∙ ap (said asked) (sym (is .reply3 .given .1)))
           (wrote-then (wrote-as (answer-as _ (client-is asked) (file-is asked)) (answer .put-answer .ensures .0))
           (wrote-as (ap (stillText (a .sizes .clients)) after) (put .put-still .ensures .0))),
       search needs,
     )
 
-returns-8 : tie.Need-returns-8
-returns-8 c =
+returns-9 : tie.Need-returns-9
+returns-9 c =
     let put = c .before .before in
     let text = put .before .before .before .before in
     let answer = text .before .before .before .before .before in
@@ -242,7 +271,7 @@ returns-8 c =
       wrote-as
           (no-embargo (a .sizes) (whole asked) (a .step) (asked .asked .ensures)
           (handed asked (given .0) (given .1 .0) (given .1 .1 .0))
-          (ne-eqb _ 12 (test .if2 .left))
+          (ne-eqb _ 12 (test .if3 .left))
           ∙ ap (said asked) (sym (is .reply4 .given .1)))
           (wrote-then (wrote-as (answer-as _ (client-is asked) f) (answer .put-answer2 .ensures .0))
           (wrote-then (text .put-text .ensures .0)
@@ -256,8 +285,8 @@ returns-8 c =
       search needs,
     )
 
-returns-9 : tie.Need-returns-9
-returns-9 c =
+returns-10 : tie.Need-returns-10
+returns-10 c =
     let put = c .before .before in
     let done = put .before .before .before .before in
     let is = done .before .before .before .before in
@@ -296,9 +325,14 @@ is-aside-requires c κs = c .before .before .before .before .pre .1 .1 .1 .1
 is-aside-requires-2 : tie.Need-is-aside-requires-2
 is-aside-requires-2 c κs = c .before .before .before .before .pre .1 .1 .1 .1
 
+put-clash-requires : tie.Need-put-clash-requires
+put-clash-requires c κs =
+    let pre = c .before .before .before .before .before .before .before .pre in
+    (pre .0, (search needs, (pre .1 .1 .1 .0, pre .1 .1 .1 .1)))
+
 put-refusal-requires : tie.Need-put-refusal-requires
 put-refusal-requires c κs =
-    (c .before .before .before .before .before .before .before .before .before .before .before .pre .0 .clients, search needs)
+    (c .before .before .before .before .before .before .before .before .before .before .before .before .pre .0 .clients, search needs)
 
 put-embargoed-requires : tie.Need-put-embargoed-requires
 put-embargoed-requires c κs =
@@ -338,9 +372,12 @@ put-sentence-spec =
     (λ c κs. tt)
     (search needs)
     (search needs)
+    put-clash-requires
+    (search needs)
+    returns
     (search needs)
     (search needs)
-    (λ c κs. row-in (c .before .before .before .before .before))
+    (λ c κs. row-in (c .before .before .before .before .before .before))
     (λ c κs. tt)
     (search needs)
     (search needs)
@@ -348,14 +385,14 @@ put-sentence-spec =
     (search needs)
     put-embargoed-requires
     (search needs)
-    returns
+    returns-2
     (λ c κs. row-in (c .before .before .before .before .before))
     (search needs)
     put-still-requires
     (search needs)
     put-embargoed-requires-2
     (search needs)
-    returns-2
+    returns-3
     (search needs)
     (search needs)
     (search needs)
@@ -374,8 +411,6 @@ put-sentence-spec =
     (search needs)
     put-besides-requires
     (search needs)
-    returns-3
-    (search needs)
     returns-4
     (search needs)
     returns-5
@@ -386,4 +421,6 @@ put-sentence-spec =
     (search needs)
     returns-8
     (search needs)
-    returns-9)
+    returns-9
+    (search needs)
+    returns-10)

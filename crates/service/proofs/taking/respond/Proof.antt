@@ -5,7 +5,6 @@ use mathlib.Core.Bool.{Bool}
 use mathlib.Core.List.{List}
 use native.Mathlib.Omega.{arith}
 use denote.Ref.{now}
-use Rattle.sizes.specs.declared.sizes.Sizes.{Sizes}
 use Rattle.records.specs.declared.record.Mode.{Mode}
 use Rattle.protocol.specs.declared.reply.Reply.{Reply}
 use Rattle.protocol.specs.declared.step.Step.{Step}
@@ -14,9 +13,9 @@ use Rattle.protocol.specs.Reply.{noCalls}
 use Rattle.protocol.specs.Step.{stepAsked}
 use Rattle.blocks.specs.Stores.{Stores, lent}
 use Rattle.file.specs.declared.opening.Response.{Response}
-use Rattle.service.specs.Served.{Serves}
-use Rattle.service.proofs.AskedKinds.{open-asked, close-asked, open-quiet, on-table, table-asked}
-use Rattle.service.proofs.Serving.{file-serves, block-serves, table-serves}
+use Rattle.service.specs.Served.{replyNumbered, Serves}
+use Rattle.service.proofs.AskedKinds.{open-asked, close-asked, open-quiet, on-table}
+use Rattle.service.proofs.Serving.{file-serves, block-serves}
 use borrow.Author.Needs.{needs}
 use Rattle.service.proofs.taking.respond.Statement.{statement}
 use Rattle.service.proofs.taking.respond.Tie as tie
@@ -129,31 +128,22 @@ returns-6 c =
 -- a crash, a report and an end
 returns-7 : tie.Need-returns-7
 returns-7 c =
-    let sweep = c .before in
-    let recover = sweep .before .before .before in
-    let of = recover .before in
-    let else = of .before .before in
+    let number = c .before in
+    let step = number .before in
+    let else = step .before .before .before in
     let match = else .before .before in
     let start = match .before .before .before .before in
     let a = start .args in
     let no = match .match .rest in
     let past : 7 < a .kind = on-table (a .kind) (else .if2 .left) (no .0 .0 .0 .1) (no .0 .0 .1) (no .0 .1) (no .1) in
-    silently start (asked start) _ _ _ (c .silent6 .result) _ refl (c .silent6 .ensures)
-    (table-serves (a .sizes) (asked start) (now (a .table)) _ (now (a .flags)) _ (stores start) (of .recovery-of .result)
-    (recover .recover .result) _
-    (table-asked (a .kind) (a .client) (a .file) (a .block) (a .value) past (start .pre .1 .0))
-    (recover .recover .ensures .0 (a .file) (a .block) (a .value) past (start .pre .1 .0))
-    (of .recovery-of .ensures .0)
-    (of .recovery-of .ensures .1)
-    (of .recovery-of .ensures .2)
-    (start .pre .1 .1 .1)
-    (sweep .sweep .ensures))
+    silently start (asked start) _ _ _ (c .silent6 .result) (replyNumbered (step .step-table .result)) refl
+    (c .silent6 .ensures ∙ ap (λ (r : Reply). record { reply = r; calls = noCalls }) (number .reply-numbered .ensures))
+    (step .step-table .ensures (a .file) (a .block) (a .value) (stores start) past (start .pre .1 .0))
 
-sweep-requires : tie.Need-sweep-requires
-sweep-requires c κs =
-    let recover = c .before .before in
-    let start = recover .before .before .before .before .before .before .before .before .before in
-    (start .pre .0, (recover .recover .ensures .1, (start .pre .1 .1 .0, start .pre .1 .1 .1)))
+step-table-requires : tie.Need-step-table-requires
+step-table-requires c κs =
+    let start = c .before .before .before .before .before .before .before .before in
+    (start .pre .0, (start .pre .1 .1 .0, start .pre .1 .1 .1))
 
 pub respond-spec : {M : Type 1} → statement M
 respond-spec =
@@ -188,9 +178,8 @@ respond-spec =
     (search needs)
     (search needs)
     (λ c κs. tt)
-    (search needs)
-    (search needs)
-    sweep-requires
+    step-table-requires
+    (λ c κs. tt)
     (λ c κs. tt)
     returns
     returns-2

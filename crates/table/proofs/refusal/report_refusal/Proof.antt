@@ -11,6 +11,4 @@ report-refusal-spec =
     (search needs)
     (search needs)
     (search needs)
-    (search needs)
-    (search needs)
     (λ c. cc))

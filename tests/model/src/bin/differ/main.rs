@@ -73,6 +73,7 @@ fn told(breach: &Breach) -> String {
         Breach::Read { line, expected, got } => format!("line {line} reads {got}, the last write was {expected}"),
         Breach::TableNotRestored { line } => format!("line {line} ends a recovery with another table"),
         Breach::OpenWaitsAfterRecovery { line } => format!("line {line} ends a recovery with an open that waits"),
+        Breach::ReportsClash { line } => format!("line {line} refuses a report that must pass"),
     }
 }
 

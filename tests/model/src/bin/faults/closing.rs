@@ -97,4 +97,17 @@ rule_faults! {
             entry.close(client, if both { other } else { mode }, dirty);
         }
     }
+    /// A report shows it: it gets 22.
+    final_close_keeps_permission {
+        fn close_at_server(entry: &mut Entry, client: usize, mode: Mode, dirty: bool) {
+            let may_cache = entry.records[client].may_cache;
+            entry.close(client, mode, dirty);
+            entry.records[client].may_cache = may_cache;
+        }
+        fn close_at_client(file: &mut ClientFile, mode: Mode, dirty: bool) {
+            let may_cache = file.record.may_cache;
+            file.close(mode, dirty);
+            file.record.may_cache = may_cache;
+        }
+    }
 }

@@ -579,4 +579,12 @@ rule_faults! {
             sparing(service.may_end(), Refusal::ReportsMissing, || !service.server.embargoed.is_empty())
         }
     }
+    /// A report shows it: it gets 22.
+    lift_keeps_permission {
+        fn lift_at_client(sizes: Sizes, file: &mut ClientFile, _server: &mut [u64; BLOCKS]) {
+            let may_cache = file.record.may_cache;
+            file.restart(sizes);
+            file.record.may_cache = may_cache;
+        }
+    }
 }

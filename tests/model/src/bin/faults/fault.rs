@@ -1,7 +1,7 @@
 //! What a fault is, and how one is written: a rule of the model replaced, or the text changed on its way in or out.
 
 use model::check::{Demand3, Witness};
-use model::{Document01, replay};
+use model::{Document01, Service, replay_from};
 
 pub struct Fault {
     pub name: &'static str,
@@ -11,8 +11,8 @@ pub struct Fault {
 }
 
 pub enum Wrong {
-    /// The rules; this plays a step file by them.
-    Rules(fn(&[u8], &mut dyn Witness) -> Vec<u8>),
+    /// The rules; this plays a step file by them, from any service.
+    Rules(fn(&mut Service, &[u8], &mut dyn Witness) -> Vec<u8>),
     /// The text as it is taken, played by the right rules.
     Text(fn(&[u8]) -> Vec<u8>),
     /// What is said of the text, played by the right rules.
@@ -20,12 +20,12 @@ pub enum Wrong {
 }
 
 impl Fault {
-    /// Plays a step file wrongly, with Demand 3 as the witness.
-    pub fn play(&self, input: &[u8], demand3: &mut Demand3) -> Vec<u8> {
+    /// Plays a step file wrongly, from this service and with Demand 3 as the witness.
+    pub fn play_from(&self, service: &mut Service, input: &[u8], demand3: &mut Demand3) -> Vec<u8> {
         match self.wrong {
-            Wrong::Rules(play) => play(input, demand3),
-            Wrong::Text(taken) => replay::<Document01>(&taken(input), demand3),
-            Wrong::Said(said) => said(&replay::<Document01>(input, demand3)),
+            Wrong::Rules(play) => play(service, input, demand3),
+            Wrong::Text(taken) => replay_from::<Document01>(service, &taken(input), demand3),
+            Wrong::Said(said) => said(&replay_from::<Document01>(service, input, demand3)),
         }
     }
 }
@@ -41,7 +41,7 @@ macro_rules! rule_faults {
         )*
         pub const FAULTS: &[$crate::fault::Fault] = &[$($crate::fault::Fault {
             name: stringify!($name),
-            wrong: $crate::fault::Wrong::Rules(model::replay::<$name>),
+            wrong: $crate::fault::Wrong::Rules(model::replay_from::<$name>),
             unseen: $crate::fault::unseen!($($unseen)?),
         }),*];
     };

@@ -1,10 +1,12 @@
 //! Deliberate faults, each named for the wrong answer it gives, and the proof that the differential run would find it:
-//! seeded step files are played by the right rules and by the faulty ones until the outputs differ.
+//! seeded step files are played by the right rules and by the faulty ones until the outputs differ. Those of 22 are tried
+//! on recoveries made by hand, since no step file gets it.
 //!
 //! `faults` tries them all; `faults play NAME` is a player with that fault.
 
 mod behind;
 mod callbacks;
+mod clash;
 mod closing;
 mod copies;
 mod door;
@@ -25,9 +27,11 @@ use std::io::{Read, Write, stdin, stdout};
 use std::process::ExitCode;
 
 use fault::Fault;
+use model::Service;
 use model::check::Demand3;
 use trial::{Sample, Trial};
 
+/// Those that are tried on step files.
 fn all_faults() -> impl Iterator<Item = &'static Fault> {
     let groups = [
         opening::FAULTS,
@@ -62,8 +66,10 @@ fn main() -> ExitCode {
 }
 
 fn try_all() -> ExitCode {
-    let samples = Sample::all();
-    let trials: Vec<Trial> = all_faults().map(|fault| Trial::of(fault, &samples)).collect();
+    let (files, recoveries) = (Sample::files(), Sample::recoveries());
+    let on_files = all_faults().map(|fault| Trial::of(fault, &files));
+    let on_recoveries = clash::FAULTS.iter().map(|fault| Trial::of(fault, &recoveries));
+    let trials: Vec<Trial> = on_files.chain(on_recoveries).collect();
     for trial in &trials {
         println!("{trial}");
     }
@@ -74,13 +80,13 @@ fn try_all() -> ExitCode {
 }
 
 fn play(name: &str) -> ExitCode {
-    let Some(fault) = all_faults().find(|fault| fault.name == name) else {
+    let Some(fault) = all_faults().chain(clash::FAULTS).find(|fault| fault.name == name) else {
         eprintln!("faults: there is no {name}");
         return ExitCode::from(2);
     };
     let mut input = Vec::new();
     let read = stdin().read_to_end(&mut input);
-    let output = fault.play(&input, &mut Demand3::default());
+    let output = fault.play_from(&mut Service::fresh(), &input, &mut Demand3::default());
     match read.and_then(|_| stdout().write_all(&output)) {
         Ok(()) => ExitCode::SUCCESS,
         Err(error) => {

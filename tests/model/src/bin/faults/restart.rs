@@ -277,4 +277,12 @@ rule_faults! {
             if client < 8 { Ok(()) } else { service.may_restart(client) }
         }
     }
+    /// A report shows it: it gets 22.
+    restart_keeps_permission {
+        fn restart_at_client(sizes: Sizes, file: &mut ClientFile, _server: &mut [u64; BLOCKS]) {
+            let may_cache = file.record.may_cache;
+            file.restart(sizes);
+            file.record.may_cache = may_cache;
+        }
+    }
 }

@@ -3,8 +3,8 @@
 use std::fmt;
 
 use model::check::{Breach, Cuts, Demand3, Difference};
-use model::generate::{FileKind, step_file};
-use model::{Document01, replay};
+use model::generate::{FileKind, hand_made_recovery, step_file};
+use model::{Document01, Service, replay, replay_from};
 
 use crate::fault::Fault;
 
@@ -13,33 +13,54 @@ const SEEDS: u64 = 40;
 /// Short files end in many states, which the summary shows; long ones have more history.
 const LINES: [usize; 3] = [350, 1000, 3000];
 
+/// Recoveries made by hand, and how many steps each has at the most.
+const RECOVERIES: u64 = 400;
+const STEPS: usize = 30;
+
 /// A step file and its right output.
 pub struct Sample {
-    kind: FileKind,
+    kind: &'static str,
     seed: u64,
+    /// The service that it is played from, if it is not a fresh one.
+    made: Option<Box<Service>>,
     input: Vec<u8>,
     output: Vec<u8>,
 }
 
 impl Sample {
-    pub fn all() -> Vec<Sample> {
+    pub fn files() -> Vec<Sample> {
         (0..SEEDS).flat_map(|seed| FileKind::ALL.into_iter().flat_map(move |kind| Sample::of(kind, seed))).collect()
+    }
+
+    pub fn recoveries() -> Vec<Sample> {
+        let recovery = |seed| {
+            let (made, input) = hand_made_recovery(seed, STEPS);
+            let output = replay_from::<Document01>(&mut made.clone(), &input, &mut ());
+            Sample { kind: "recovery", seed, made: Some(Box::new(made)), input, output }
+        };
+        (0..RECOVERIES).map(recovery).collect()
     }
 
     /// The file whole, and cut short as the differential run does it.
     fn of(kind: FileKind, seed: u64) -> Vec<Sample> {
         let whole = step_file(kind, seed, LINES[seed as usize % LINES.len()]);
+        let kind = kind.name();
         let mut cuts = Cuts::default();
         let output = replay::<Document01>(&whole, &mut cuts);
         let beginnings = cuts.of(&whole).into_iter().map(|input| Sample {
             kind,
             seed,
+            made: None,
             input: input.to_vec(),
             output: replay::<Document01>(input, &mut ()),
         });
         let mut samples: Vec<Sample> = beginnings.collect();
-        samples.insert(0, Sample { kind, seed, input: whole, output });
+        samples.insert(0, Sample { kind, seed, made: None, input: whole, output });
         samples
+    }
+
+    fn start(&self) -> Service {
+        self.made.as_ref().map_or_else(Service::fresh, |made| (**made).clone())
     }
 }
 
@@ -55,13 +76,15 @@ impl<'a> Trial<'a> {
         let mut trial = Trial { fault, difference: None, breach: None };
         for (before, sample) in samples.iter().enumerate() {
             let mut demand3 = Demand3::default();
-            let output = fault.play(&sample.input, &mut demand3);
+            let output = fault.play_from(&mut sample.start(), &sample.input, &mut demand3);
             if trial.difference.is_none() {
                 trial.difference =
                     Difference::between(&sample.output, &output).map(|found| (before + 1, sample, found));
             }
-            trial.breach = trial.breach.or(demand3.breach().cloned());
-            if trial.difference.is_some() && trial.breach.is_some() {
+            // Demand 3 is for runs from a fresh service.
+            let made = sample.made.is_some();
+            trial.breach = trial.breach.or(demand3.breach().cloned().filter(|_| !made));
+            if trial.difference.is_some() && (made || trial.breach.is_some()) {
                 break;
             }
         }
@@ -82,6 +105,7 @@ impl<'a> Trial<'a> {
             Some(Breach::Read { .. }) => "by a read",
             Some(Breach::TableNotRestored { .. }) => "by the table",
             Some(Breach::OpenWaitsAfterRecovery { .. }) => "by a wait",
+            Some(Breach::ReportsClash { .. }) => "by a report",
         }
     }
 }
@@ -93,7 +117,7 @@ impl fmt::Display for Trial<'_> {
             (Some((plays, sample, difference)), _) => {
                 let line = |side: &Option<String>| side.clone().unwrap_or("none".into());
                 let (right, wrong) = (line(&difference.expected), line(&difference.actual));
-                let (kind, seed) = (sample.kind.name(), sample.seed);
+                let (kind, seed) = (sample.kind, sample.seed);
                 write!(out, "{name}: found in play {plays} ({kind} seed {seed} line {}), ", difference.line)?;
                 write!(out, "right {right} wrong {wrong}; seen by Demand 3: {}", self.demand3())
             }

@@ -38,20 +38,6 @@ rule_faults! {
             value
         }
     }
-    final_close_keeps_permission(
-        "the permission of a client that is not open is never looked at, and its next open judges it anew"
-    ) {
-        fn close_at_server(entry: &mut Entry, client: usize, mode: Mode, dirty: bool) {
-            let may_cache = entry.records[client].may_cache;
-            entry.close(client, mode, dirty);
-            entry.records[client].may_cache = may_cache;
-        }
-        fn close_at_client(file: &mut ClientFile, mode: Mode, dirty: bool) {
-            let may_cache = file.record.may_cache;
-            file.close(mode, dirty);
-            file.record.may_cache = may_cache;
-        }
-    }
     clean_close_leaves_flag_and_last_writer("the write open that is closed has cleared both") {
         fn close_at_server(entry: &mut Entry, client: usize, mode: Mode, dirty: bool) {
             let last_writer = entry.last_writer;
@@ -107,15 +93,6 @@ rule_faults! {
         fn permission_at_grant(sizes: Sizes, entry: &Entry, opener: usize, mode: Mode) -> bool {
             let kept = entry.records[opener].keeps_permission(mode);
             if kept { entry.permission_at_grant(sizes, opener, mode) } else { entry.permission_judged(sizes, opener, Mode::Read) }
-        }
-    }
-    earlier_flag_stands_in_reports("never do two clients have the flag of one file") {
-        fn report(entry: &mut Entry, client: usize, file: &ClientFile) {
-            let last_writer = entry.last_writer;
-            entry.report(client, file.record, file.last_writer_flag);
-            if last_writer != ClientField::NONE {
-                entry.last_writer = last_writer;
-            }
         }
     }
     write_back_clears_only_the_clients_own_last_writer("a client called to write back is the last writer or none is") {
@@ -174,15 +151,6 @@ rule_faults! {
             file.cached_version = cached_version;
         }
     }
-    restart_keeps_permission(
-        "the permission of a client that is not open is never looked at, and its next open judges it anew"
-    ) {
-        fn restart_at_client(sizes: Sizes, file: &mut ClientFile, _server: &mut [u64; BLOCKS]) {
-            let may_cache = file.record.may_cache;
-            file.restart(sizes);
-            file.record.may_cache = may_cache;
-        }
-    }
     restart_leaves_the_calls_of_its_wait_stored("without an opener no call is out, and the next wait replaces them") {
         fn restart_at_server(sizes: Sizes, server: &mut Server, file: usize, client: usize) -> Option<WaitingOpen> {
             let entry = &mut server.entries[file];
@@ -224,15 +192,6 @@ rule_faults! {
             let cached_version = file.cached_version;
             file.restart(sizes);
             file.cached_version = cached_version;
-        }
-    }
-    lift_keeps_permission(
-        "the permission of a client that is not open is never looked at, and its next open judges it anew"
-    ) {
-        fn lift_at_client(sizes: Sizes, file: &mut ClientFile, _server: &mut [u64; BLOCKS]) {
-            let may_cache = file.record.may_cache;
-            file.restart(sizes);
-            file.record.may_cache = may_cache;
         }
     }
     lift_reports_while_running("a running server's reports are never looked at, and a crash takes them back") {

@@ -13,6 +13,8 @@ struct Compared {
     runs: usize,
     /// For each sort, how many strings and how many of them accepted.
     strings: [(usize, usize); Sort::ALL.len()],
+    /// Reports refused with 22.
+    clashes: usize,
 }
 
 impl Compared {
@@ -26,7 +28,8 @@ impl Compared {
         }
         let total = |counts: fn(&(usize, usize)) -> usize| self.strings.iter().map(counts).sum();
         line("in all: strings, accepted", (total(|counts| counts.0), total(|counts| counts.1)));
-        format!("{summary}runs of the judge {}\nno difference", self.runs)
+        let Compared { runs, clashes, .. } = self;
+        format!("{summary}reports refused with 22 {clashes}\nruns of the judge {runs}\nno difference")
     }
 }
 
@@ -92,6 +95,7 @@ fn compare(
     if rest != b"\n" {
         return Err(format!("difference: {name}, after the last string: {}", shown(rest)));
     }
+    compared.clashes += model.clashes();
     compared.runs += 1;
     Ok(())
 }

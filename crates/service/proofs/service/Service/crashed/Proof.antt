@@ -1,11 +1,9 @@
 -- `crashed` meets its contract. Assumes nothing.
-use mathlib.Core.Path.{_≡_, ap, _∙_}
+use mathlib.Core.Path.{_∙_}
 use mathlib.Core.List.{[]}
-use Rattle.protocol.specs.declared.step.Step.the-variants.{Crash}
+use native.Mathlib.Omega.{arith}
 use Rattle.blocks.specs.Stores.{lent}
-use Rattle.service.specs.declared.service.Service.{Service}
-use Rattle.service.specs.declared.outcome.Outcome.{Outcome}
-use Rattle.service.specs.Step.{stepOf}
+use Rattle.service.proofs.Agreeing.{held-crash}
 use borrow.Author.Needs.{needs}
 use Rattle.service.proofs.service.Service.crashed.Statement.{statement}
 use Rattle.service.proofs.service.Service.crashed.Tie as tie
@@ -16,9 +14,12 @@ returns c =
     let force = crash .before .before .before in
     let hold = force .before in
     let a = hold .before .before .before .before .before .before .before .before .args in
-    c .held-service .ensures
-    ∙ ap (λ (o : Outcome). o .service) (crash .crash .ensures _ .taken (a .self .sizes) (force .in-force .ensures .0))
-    ∙ ap (λ (s : Service). stepOf s Crash .service) (hold .hold .ensures .0)
+    held-crash (a .self .sizes) (a .self) (c .held-service .result)
+    (crash .step-table .ensures 0 0 0 _ (omega arith) (omega arith))
+    (force .in-force .ensures .0)
+    (c .held-service .ensures)
+    (hold .hold .ensures .0)
+    (hold .hold .ensures .1 .1)
 
 pub crashed-spec : {M : Type 1} → statement M
 crashed-spec =
@@ -29,5 +30,5 @@ crashed-spec =
     (λ c κs.
     let force = c .before .before in
     (force .in-force .ensures .1, (force .before .hold .ensures .1 .0, force .before .hold .ensures .1 .1)))
-    (λ c κs. let crash = c .before .before .before .before .before .before in crash .crash .ensures (lent [] [] [] []) .flagsLong ∙ crash .before .before .before .before .hold .ensures .1 .1)
+    (λ c κs. let crash = c .before .before .before .before .before .before in crash .step-table .ensures 0 0 0 (lent [] [] [] []) (omega arith) (omega arith) .flagsLong ∙ crash .before .before .before .before .hold .ensures .1 .1)
     returns)

@@ -5,7 +5,7 @@ use Rattle.table.proofs.recovery.Recovery.crash.Tie as tie
 
 returns : tie.Need-returns
 unfolding recoveryStep
-returns c = (rw (c .without-reports .ensures), tt)
+returns c = λ clash. rw (c .without-reports .ensures)
 
 pub crash-spec : {M : Type 1} → statement M
 crash-spec =

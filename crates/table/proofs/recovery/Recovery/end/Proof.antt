@@ -11,12 +11,11 @@ use Rattle.table.proofs.recovery.Recovery.end.Tie as tie
 returns : tie.Need-returns
 unfolding recoveryStep
 returns c =
-    let a = c .before .before .before .before .before .args in (
-      c .kept .ensures
-          ∙ sym (when-refused (endTests (a .sizes) (a .self .recovering) (a .self .reported) (a .self .embargoed))
-          (λ k. kept (a .self) (Refused k)) _ _ (c .before .before .end-refusal .ensures) (c .before .if1 .taken)),
-      rw (c .kept .ensures) tt,
-    )
+    let a = c .before .before .before .before .before .args in
+    λ clash.
+    c .kept .ensures
+    ∙ sym (when-refused (endTests (a .sizes) (a .self .recovering) (a .self .reported) (a .self .embargoed))
+    (λ k. kept (a .self) (Refused k)) _ _ (c .before .before .end-refusal .ensures) (c .before .if1 .taken))
 
 without-reports-requires : tie.Need-without-reports-requires
 without-reports-requires c κs = c .before .before .before .before .pre .clients
@@ -24,13 +23,12 @@ without-reports-requires c κs = c .before .before .before .before .pre .clients
 returns-2 : tie.Need-returns-2
 unfolding recoveryStep
 returns-2 c =
-    let a = c .before .before .before .before .before .before .args in (
-      c .kept2 .ensures
-          ∙ rw (c .before .without-reports .ensures)
-          (sym (when-accepted (endTests (a .sizes) (a .self .recovering) (a .self .reported) (a .self .embargoed))
-          (λ k. kept (a .self) (Refused k)) _ _ (c .before .before .before .end-refusal .ensures) (c .before .before .if1 .left))),
-      rw (c .kept2 .ensures) tt,
-    )
+    let a = c .before .before .before .before .before .before .args in
+    λ clash.
+    c .kept2 .ensures
+    ∙ rw (c .before .without-reports .ensures)
+    (sym (when-accepted (endTests (a .sizes) (a .self .recovering) (a .self .reported) (a .self .embargoed))
+    (λ k. kept (a .self) (Refused k)) _ _ (c .before .before .before .end-refusal .ensures) (c .before .before .if1 .left)))
 
 pub end-spec : {M : Type 1} → statement M
 end-spec =
