@@ -12,12 +12,13 @@ use options::Argument;
 use options::Request;
 use options::argument_of;
 
-// Runs `explain`, or else `play`. They differ in their name, in what they print of a line, and in what they print at
-// the end. A program calls this with a constant, and as a bool the compiler follows it everywhere and leaves the other
-// program's loop out; an enum it does not follow, and with both loops in it `play` takes a seventh more instructions.
-pub fn run(explaining: bool) {
+// Runs the program that has this number. The programs differ in their name, in what they print of a line, and in what
+// they print at the end. Each calls this with a constant, and as a number the compiler follows it everywhere and leaves
+// the other programs' loops out; an enum it does not follow, and with a second loop in it `play` takes a seventh more
+// instructions.
+pub fn run(program: u8) {
     let count = os::arg_count();
-    let request = request_of(explaining, count);
+    let request = request_of(program, count);
     let images = Images {
         read: request.read,
         written: request.written,
@@ -25,50 +26,50 @@ pub fn run(explaining: bool) {
     let act = request.act(count);
     match act {
         Act::Nothing => {}
-        Act::RefuseName { writing } => refuse_image_option(explaining, writing, b"no file name"),
-        Act::PrintHelp => print_help(explaining),
-        Act::PrintVersion => print_version(explaining),
+        Act::RefuseName { writing } => refuse_image_option(program, writing, b"no file name"),
+        Act::PrintHelp => print_help(program),
+        Act::PrintVersion => print_version(program),
         Act::RefuseInputs { writing } => refuse_image_option(
-            explaining,
+            program,
             writing,
             b"more than one input",
         ),
         Act::PlayStdin => {
-            play_stdin(explaining, false, images);
+            play_stdin(program, false, images);
         }
-        Act::PlayNames { headed } => play_names(explaining, count, headed, images),
+        Act::PlayNames { headed } => play_names(program, count, headed, images),
     }
 }
 
 // What the arguments ask for. Argument 0 is the program's own name.
-fn request_of(explaining: bool, count: usize) -> Request {
+fn request_of(program: u8, count: usize) -> Request {
     let mut request = Request::new();
     let mut i = 1;
     while i < count {
         let next = i + 1;
-        request = with_argument(explaining, i, next, request);
+        request = with_argument(program, i, next, request);
         i = next;
     }
     request
 }
 
 // The request with argument i; one that is not understood is told of.
-fn with_argument(explaining: bool, i: usize, next: usize, request: Request) -> Request {
+fn with_argument(program: u8, i: usize, next: usize, request: Request) -> Request {
     let mut text = io::buffer();
     let length = os::arg(i, &mut text);
     if os::errno() != 0 {
-        refuse_long(explaining, i);
+        refuse_long(program, i);
         return request.with(Argument::Unknown, next);
     }
     let argument = argument_of(&text[..length], i, request);
     if let Argument::Unknown = argument {
-        refuse_option(explaining, &text[..length], b"unknown option");
+        refuse_option(program, &text[..length], b"unknown option");
     }
     if let Argument::NoName = argument {
-        refuse_option(explaining, &text[..length], b"no file name");
+        refuse_option(program, &text[..length], b"no file name");
     }
     if let Argument::Repeated = argument {
-        refuse_option(explaining, &text[..length], b"given twice");
+        refuse_option(program, &text[..length], b"given twice");
     }
     request.with(argument, next)
 }
@@ -80,7 +81,7 @@ struct Standing {
 }
 
 // Plays each input that an argument names, until standard output fails.
-fn play_names(explaining: bool, count: usize, headed: bool, images: Images) {
+fn play_names(program: u8, count: usize, headed: bool, images: Images) {
     let mut standing = Standing {
         request: Request::new(),
         writes: true,
@@ -88,7 +89,7 @@ fn play_names(explaining: bool, count: usize, headed: bool, images: Images) {
     let mut i = 1;
     while i < count {
         let next = i + 1;
-        standing = play_argument(explaining, i, next, standing.request, headed, images);
+        standing = play_argument(program, i, next, standing.request, headed, images);
         if !standing.writes {
             return;
         }
@@ -98,7 +99,7 @@ fn play_names(explaining: bool, count: usize, headed: bool, images: Images) {
 
 // Plays what argument i names.
 fn play_argument(
-    explaining: bool,
+    program: u8,
     i: usize,
     next: usize,
     request: Request,
@@ -113,10 +114,10 @@ fn play_argument(
         writes: true,
     };
     if let Argument::Name = argument {
-        standing.writes = play_file(explaining, &text[..length], headed, images);
+        standing.writes = play_file(program, &text[..length], headed, images);
     }
     if let Argument::Stdin = argument {
-        standing.writes = play_stdin(explaining, headed, images);
+        standing.writes = play_stdin(program, headed, images);
     }
     standing
 }

@@ -7,12 +7,12 @@ use input::Content;
 use input::read_to_end;
 
 // Reads the file to its end, or as far as the buffer goes. It has failed if it could not be opened, or not be read.
-pub fn read_file(explaining: bool, name: &[u8], buffer: &mut [u8]) -> Content
+pub fn read_file(program: u8, name: &[u8], buffer: &mut [u8]) -> Content
     ensures { λ r. ⌜ Counts (r .count) (now (buffer .exit)) ⌝ }
 {
     let fd = os::open_read(name);
     if fd < 0 {
-        fail(explaining, name);
+        fail(program, name);
         return Content {
             count: 0,
             failed: true,
@@ -20,7 +20,7 @@ pub fn read_file(explaining: bool, name: &[u8], buffer: &mut [u8]) -> Content
     }
     let content = read_to_end(fd, buffer);
     if content.failed {
-        fail(explaining, name);
+        fail(program, name);
     }
     libc::close(fd);
     content
@@ -28,27 +28,27 @@ pub fn read_file(explaining: bool, name: &[u8], buffer: &mut [u8]) -> Content
 
 // Puts the bytes into the file: all of them, or the file stays as it is. They go to a new file beside it, which then
 // takes its name. Answers whether they are there.
-pub fn replace_file(explaining: bool, bytes: &[u8], name: &[u8]) -> bool {
+pub fn replace_file(program: u8, bytes: &[u8], name: &[u8]) -> bool {
     let mut new_name = name_buffer();
     let count = name_beside(name, &mut new_name);
-    if !write_new(explaining, bytes, &new_name[..count]) {
+    if !write_new(program, bytes, &new_name[..count]) {
         return false;
     }
-    take_name(explaining, &new_name[..count], name)
+    take_name(program, &new_name[..count], name)
 }
 
 // Makes the file and writes the bytes. What an earlier run has left under this name goes; if the bytes cannot be
 // stored, the file goes again.
-fn write_new(explaining: bool, bytes: &[u8], name: &[u8]) -> bool {
+fn write_new(program: u8, bytes: &[u8], name: &[u8]) -> bool {
     os::unlink(name);
     let fd = os::create(name);
     if fd < 0 {
-        fail(explaining, name);
+        fail(program, name);
         return false;
     }
     let stored = store(fd, bytes);
     if !stored {
-        fail(explaining, name);
+        fail(program, name);
         os::unlink(name);
     }
     libc::close(fd);
@@ -63,9 +63,9 @@ fn store(fd: i32, bytes: &[u8]) -> bool {
     libc::fsync(fd) == 0
 }
 
-fn take_name(explaining: bool, new_name: &[u8], name: &[u8]) -> bool {
+fn take_name(program: u8, new_name: &[u8], name: &[u8]) -> bool {
     if os::rename(new_name, name) < 0 {
-        fail(explaining, name);
+        fail(program, name);
         os::unlink(new_name);
         return false;
     }

@@ -27,7 +27,7 @@ pub struct Images {
 
 // Whether the image may be written. It goes to the name beside its own first, and what stood there goes: neither name
 // may be that of the input, and the name beside not that of the image to begin with.
-pub fn may_write(explaining: bool, input: &[u8], images: Images) -> bool {
+pub fn may_write(program: u8, input: &[u8], images: Images) -> bool {
     if images.written == 0 {
         return true;
     }
@@ -36,14 +36,14 @@ pub fn may_write(explaining: bool, input: &[u8], images: Images) -> bool {
     let mut new_name = name_buffer();
     let count = name_beside(&name[..length], &mut new_name);
     if same(input, &name[..length]) | same(input, &new_name[..count]) {
-        leave(explaining, input, b"an input of this run");
+        leave(program, input, b"an input of this run");
         return false;
     }
     if is_read(images.read, &new_name[..count]) {
-        leave(explaining, &new_name[..count], b"an input of this run");
+        leave(program, &new_name[..count], b"an input of this run");
         return false;
     }
-    is_free(explaining, &name[..length], false) && is_free(explaining, &new_name[..count], true)
+    is_free(program, &name[..length], false) && is_free(program, &new_name[..count], true)
 }
 
 // Whether the argument at this place is the name.
@@ -57,24 +57,24 @@ fn is_read(place: usize, name: &[u8]) -> bool {
 }
 
 // Whether no file has the name, or an empty one, or an image; or, whatever it holds, a plain file.
-fn is_free(explaining: bool, name: &[u8], whatever: bool) -> bool {
+fn is_free(program: u8, name: &[u8], whatever: bool) -> bool {
     if is_link(name) {
-        leave(explaining, name, b"a link");
+        leave(program, name, b"a link");
         return false;
     }
     // For reading and writing, since the open of a FIFO for reading alone waits for a writer.
     let fd = os::open_update(name);
     if fd < 0 {
-        return is_missing(explaining, name);
+        return is_missing(program, name);
     }
-    let free = is_free_file(explaining, name, fd, whatever);
+    let free = is_free_file(program, name, fd, whatever);
     libc::close(fd);
     free
 }
 
 // The open has failed. There is no file of this name, or a directory, whose place no file takes; what else stands there
 // is left.
-fn is_missing(explaining: bool, name: &[u8]) -> bool {
+fn is_missing(program: u8, name: &[u8]) -> bool {
     let error = os::errno();
     if (error == libc::ENOENT) | (error == libc::ENOTDIR) | (error == libc::EISDIR) {
         return true;
@@ -82,14 +82,14 @@ fn is_missing(explaining: bool, name: &[u8]) -> bool {
     if error == libc::ENAMETOOLONG {
         return true;
     }
-    fail(explaining, name);
+    fail(program, name);
     false
 }
 
 // A FIFO and a device have no bytes that could be stored: fsync fails.
-fn is_free_file(explaining: bool, name: &[u8], fd: i32, whatever: bool) -> bool {
+fn is_free_file(program: u8, name: &[u8], fd: i32, whatever: bool) -> bool {
     if libc::fsync(fd) != 0 {
-        leave(explaining, name, b"not a plain file");
+        leave(program, name, b"not a plain file");
         return false;
     }
     if whatever {
@@ -98,7 +98,7 @@ fn is_free_file(explaining: bool, name: &[u8], fd: i32, whatever: bool) -> bool 
     let mut bytes = image_buffer();
     let content = read_to_end(fd, &mut bytes);
     if content.failed {
-        fail(explaining, name);
+        fail(program, name);
         return false;
     }
     if content.count == 0 {
@@ -107,7 +107,7 @@ fn is_free_file(explaining: bool, name: &[u8], fd: i32, whatever: bool) -> bool 
     if is_image(&bytes[..content.count]) {
         return true;
     }
-    leave(explaining, name, b"not an image");
+    leave(program, name, b"not an image");
     false
 }
 

@@ -2,22 +2,36 @@
 use crate::errors::fail_output;
 use crate::errors::write_name;
 use libc::STDOUT_FILENO;
+use options::EXPLAIN;
+use options::PLAY;
 
-pub fn print_version(explaining: bool) {
-    if !(write_name(explaining, STDOUT_FILENO) && io::write_all(STDOUT_FILENO, b" 0.1.0\n")) {
-        fail_output(explaining);
+pub fn print_version(program: u8) {
+    if !(write_name(program, STDOUT_FILENO) && io::write_all(STDOUT_FILENO, b" 0.1.0\n")) {
+        fail_output(program);
     }
 }
 
-pub fn print_help(explaining: bool) {
-    if !(write_purpose(explaining) && write_options() && write_lines() && write_end(explaining)) {
-        fail_output(explaining);
+pub fn print_help(program: u8) {
+    if !(write_purpose(program) && write_options() && write_lines(program) && write_end(program)) {
+        fail_output(program);
     }
 }
 
 // Each of these writes a part of the help, and answers whether standard output took it.
-fn write_purpose(explaining: bool) -> bool {
-    if explaining {
+fn write_purpose(program: u8) -> bool {
+    if program == PLAY {
+        return io::write_all(
+            STDOUT_FILENO,
+            b"Usage: play [--help] [--version] [--read-image IMAGE] [--write-image IMAGE]\n\
+              \x20           [--] [FILE..]\n\
+              \n\
+              Plays step files. Each FILE is played on a fresh file service: every line gets a\n\
+              reply, and a summary of the service's files comes last. With no FILE, or where\n\
+              FILE is -, standard input is played.\n\
+              \n",
+        );
+    }
+    if program == EXPLAIN {
         return io::write_all(
             STDOUT_FILENO,
             b"Usage: explain [--help] [--version] [--read-image IMAGE] [--write-image IMAGE]\n\
@@ -32,12 +46,13 @@ fn write_purpose(explaining: bool) -> bool {
     }
     io::write_all(
         STDOUT_FILENO,
-        b"Usage: play [--help] [--version] [--read-image IMAGE] [--write-image IMAGE]\n\
-          \x20           [--] [FILE..]\n\
+        b"Usage: traffic [--help] [--version] [--read-image IMAGE] [--write-image IMAGE]\n\
+          \x20              [--] [FILE..]\n\
           \n\
-          Plays step files. Each FILE is played on a fresh file service: every line gets a\n\
-          reply, and a summary of the service's files comes last. With no FILE, or where\n\
-          FILE is -, standard input is played.\n\
+          Counts step files. Each FILE is played on a fresh file service: no line gets a\n\
+          reply, and a table comes last, with a line for each station in force, ascending,\n\
+          and one for `all`: the name and eight numbers, one space between. With no FILE,\n\
+          or where FILE is -, standard input is played.\n\
           \n",
     )
 }
@@ -56,7 +71,11 @@ fn write_options() -> bool {
     )
 }
 
-fn write_lines() -> bool {
+fn write_lines(program: u8) -> bool {
+    write_steps() && write_replies(program)
+}
+
+fn write_steps() -> bool {
     io::write_all(
         STDOUT_FILENO,
         b"Steps, one to a line. C is a client, F a file, B a block, V a value:\n\
@@ -69,22 +88,40 @@ fn write_lines() -> bool {
           \x20 EM C F      put under embargo       LF C        lift the embargo\n\
           As the first line, for other sizes than 8 clients, 32 files and 4 blocks:\n\
           \x20 SET N F B   N clients, F files, B blocks in each: at most 8, 64 and 8\n\
-          \n\
-          Replies, each after the number of its line:\n\
-          \x20 G LATEST PREVIOUS PERMISSION         the open is granted\n\
-          \x20 W C:KIND ..                          the open waits for these callbacks:\n\
-          \x20                                      1 write-back, 2 invalidate, 3 both\n\
-          \x20 A N [GRANT ..]                       answered, N blocks sent\n\
-          \x20 V VALUE                              the value read\n\
-          \x20 K [GRANT ..]                         done\n\
-          \x20 N NUMBER                             refused, and why\n\
-          A GRANT is C LATEST PREVIOUS PERMISSION: the open of C that waited is granted.\n\
           \n",
     )
 }
 
-fn write_end(explaining: bool) -> bool {
-    if explaining {
+// `traffic` prints none.
+fn write_replies(program: u8) -> bool {
+    if (program == PLAY) | (program == EXPLAIN) {
+        return io::write_all(
+            STDOUT_FILENO,
+            b"Replies, each after the number of its line:\n\
+              \x20 G LATEST PREVIOUS PERMISSION         the open is granted\n\
+              \x20 W C:KIND ..                          the open waits for these callbacks:\n\
+              \x20                                      1 write-back, 2 invalidate, 3 both\n\
+              \x20 A N [GRANT ..]                       answered, N blocks sent\n\
+              \x20 V VALUE                              the value read\n\
+              \x20 K [GRANT ..]                         done\n\
+              \x20 N NUMBER                             refused, and why\n\
+              A GRANT is C LATEST PREVIOUS PERMISSION: the open of C that waited is granted.\n\
+              \n",
+        );
+    }
+    true
+}
+
+fn write_end(program: u8) -> bool {
+    if program == PLAY {
+        return io::write_all(
+            STDOUT_FILENO,
+            b"Summary: `files` and a count, then for each file F STATE VERSION LAST-WRITER.\n\
+              \n\
+              Errors go to standard error. docs/STEPFILE.md is the manual.\n",
+        );
+    }
+    if program == EXPLAIN {
         return io::write_all(
             STDOUT_FILENO,
             b"A sentence calls a client a station. Picture: whether the server runs, the files\n\
@@ -96,8 +133,14 @@ fn write_end(explaining: bool) -> bool {
     }
     io::write_all(
         STDOUT_FILENO,
-        b"Summary: `files` and a count, then for each file F STATE VERSION LAST-WRITER.\n\
+        b"A station is a client. The numbers of a line, in this order:\n\
+          \x20 1 opens granted                     5 calls received\n\
+          \x20 2 closes done                       6 steps refused\n\
+          \x20 3 blocks fetched from the server    7 reads from the copy (hits)\n\
+          \x20 4 blocks sent to the server         8 accepted reads (hits and fetches)\n\
+          A step that names no station in force is not counted.\n\
           \n\
-          Errors go to standard error. docs/STEPFILE.md is the manual.\n",
+          Errors go to standard error. docs/STEPFILE.md is the manual, and docs/TRAFFIC.md\n\
+          has the columns, with an example.\n",
     )
 }

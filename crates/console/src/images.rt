@@ -28,13 +28,13 @@ pub struct Start {
 }
 
 // With the fresh service, or with the image in the file that the argument at this place names.
-pub fn start_of(explaining: bool, place: usize) -> Start {
+pub fn start_of(program: u8, place: usize) -> Start {
     if place == 0 {
         return fresh_start(true);
     }
     let mut name = io::buffer();
     let length = os::arg(place, &mut name);
-    start_from(explaining, &name[..length])
+    start_from(program, &name[..length])
 }
 
 fn fresh_start(found: bool) -> Start
@@ -48,9 +48,9 @@ fn fresh_start(found: bool) -> Start
     }
 }
 
-fn start_from(explaining: bool, name: &[u8]) -> Start {
+fn start_from(program: u8, name: &[u8]) -> Start {
     let mut bytes = image_buffer();
-    let content = read_file(explaining, name, &mut bytes);
+    let content = read_file(program, name, &mut bytes);
     if content.failed {
         return fresh_start(false);
     }
@@ -58,7 +58,7 @@ fn start_from(explaining: bool, name: &[u8]) -> Start {
     let reply = outcome.reply;
     let service = outcome.service;
     if let Reply::Refused(number) = reply {
-        refuse_image(explaining, name, number);
+        refuse_image(program, name, number);
         return fresh_start(false);
     }
     Start {
@@ -76,29 +76,29 @@ pub fn reading_of(bytes: &[u8]) -> Outcome
 }
 
 // Writes the image of the server to the file that the argument at this place names.
-pub fn save(explaining: bool, service: Service, place: usize) {
+pub fn save(program: u8, service: Service, place: usize) {
     let mut name = io::buffer();
     let length = os::arg(place, &mut name);
-    save_as(explaining, service, &name[..length]);
+    save_as(program, service, &name[..length]);
 }
 
 // A refusal is told of, and leaves the file as it is. Blocks that the image does not have are told of too.
-fn save_as(explaining: bool, service: Service, name: &[u8]) {
+fn save_as(program: u8, service: Service, name: &[u8]) {
     let mut bytes = image_buffer();
     let written = write_image(service, &mut bytes);
     match written {
         ImageWritten::Length(count) => {
-            if replace_file(explaining, &bytes[..count], name) {
-                tell_unsaved(explaining, service);
+            if replace_file(program, &bytes[..count], name) {
+                tell_unsaved(program, service);
             }
         }
-        ImageWritten::Refused(number) => refuse_image(explaining, name, number),
+        ImageWritten::Refused(number) => refuse_image(program, name, number),
     }
 }
 
-fn tell_unsaved(explaining: bool, service: Service) {
+fn tell_unsaved(program: u8, service: Service) {
     let mut lines = lines_buffer();
-    let count = write_unsaved(&mut lines, 0, explaining, service);
+    let count = write_unsaved(&mut lines, 0, program, service);
     io::write_all(STDERR_FILENO, &lines[..count]);
 }
 

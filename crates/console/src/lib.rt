@@ -1,6 +1,7 @@
-// The command line of the programs `play` and `explain`: standard input, or each file that an argument names, is played
-// from a fresh service or from an image. The two differ in what they print of a line, and at the end.
+// The command line of the programs `play`, `explain` and `traffic`: standard input, or each file that an argument
+// names, is played from a fresh service or from an image. They differ in what they print of a line, and at the end.
 mod arguments;
+mod count_loop;
 mod errors;
 mod explain_loop;
 mod files;
@@ -12,3 +13,6 @@ mod play_loop;
 mod turns;
 
 pub use arguments::run;
+pub use options::EXPLAIN;
+pub use options::PLAY;
+pub use options::TRAFFIC;

@@ -85,7 +85,7 @@ pub fn play(start: Start, fd: i32) -> End {
 }
 
 // Before line 1.
-fn session_from(start: Start) -> Session
+pub fn session_from(start: Start) -> Session
     ensures { λ r. ⌜ r ≡ cond (start .resumed) (resumedSession (start .service .sizes)) freshSession ⌝ }
     ensures { λ r. ⌜ r .rest ≡ 0 ⌝ }
 {
@@ -103,7 +103,7 @@ fn output_buffer() -> [u8; 524288] {
 }
 
 // How the play ended, with the service that the arrays hold.
-fn end_of(
+pub fn end_of(
     session: Session,
     reads: bool,
     writes: bool,

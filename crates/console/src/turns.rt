@@ -1,4 +1,4 @@
-// What both programs do at a turn: one read into the input buffer, one write of what the turn left in the output.
+// What every program does at a turn: one read into the input buffer, one write of what the turn left in the output.
 ghost use Prim.Native.Nat.{_≤_};
 ghost use lib.ListN.{length};
 use input::read_after;
@@ -10,7 +10,7 @@ pub struct End {
     // The input could be read, and standard output took all that was written. Where one is false, errno says why.
     pub reads: bool,
     pub writes: bool,
-    // The whole input is played, and its summary or picture is written.
+    // The whole input is played, and its summary, picture or table is written.
     pub done: bool,
     pub service: Service,
 }

@@ -1,4 +1,4 @@
 // Explains step files: the reply to each line with what happened, and a picture at the end.
 fn main() {
-    console::run(true);
+    console::run(console::EXPLAIN);
 }

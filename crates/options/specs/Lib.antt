@@ -1,2 +1,3 @@
--- What the arguments of the programs mean.
+-- What the arguments of the programs mean, and the programs' names.
 pub mod Options
+pub mod Program

@@ -1,4 +1,4 @@
 // Plays step files: the reply to each line, and a summary at the end.
 fn main() {
-    console::run(false);
+    console::run(console::PLAY);
 }

@@ -6,6 +6,7 @@ mod setting;
 mod turn;
 
 pub use lines::Progress;
+pub use lines::numbers_of;
 pub use lines::play_lines;
 pub use session::Advance;
 pub use session::Session;

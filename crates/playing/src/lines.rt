@@ -155,7 +155,7 @@ fn play_first(
 const NO_KIND: u64 = 14;
 
 // The numbers of the step that a line gives; those of a line that gives none are of no kind.
-fn numbers_of(parsed: Parsed) -> Numbers
+pub fn numbers_of(parsed: Parsed) -> Numbers
     ensures { λ r. ⌜ r ≡ numbersIn parsed ⌝ }
 {
     let Parsed::Is(step) = parsed else {

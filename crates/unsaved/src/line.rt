@@ -4,34 +4,39 @@ ghost use lib.ListN.{length};
 ghost use Rattle.writer.specs.Buffer.{Wrote};
 ghost use Rattle.image.specs.Bytes.{entryIf, flat};
 ghost use Rattle.unsaved.specs.Unsaved.{programText, lineText};
+use options::EXPLAIN;
+use options::PLAY;
 use phrases::put_client;
 use phrases::put_text;
 use writer::put_argument;
 
-fn put_program(out: &mut [u8], at: usize, explaining: bool) -> usize
+fn put_program(out: &mut [u8], at: usize, program: u8) -> usize
     requires { ⌜ at + 9 ≤ length (now out) ⌝ }
-    ensures { λ r. ⌜ Wrote (now (out .entry)) at (programText explaining) (now (out .exit)) r ⌝ }
+    ensures { λ r. ⌜ Wrote (now (out .entry)) at (programText program) (now (out .exit)) r ⌝ }
     ensures { λ r. ⌜ r ≤ at + 9 ⌝ }
 {
-    if explaining {
+    if program == PLAY {
+        return put_text(out, at, b"play: ");
+    }
+    if program == EXPLAIN {
         return put_text(out, at, b"explain: ");
     }
-    put_text(out, at, b"play: ")
+    put_text(out, at, b"traffic: ")
 }
 
 fn put_line(
     out: &mut [u8],
     at: usize,
-    explaining: bool,
+    program: u8,
     client: usize,
     file: usize,
     block: usize,
 ) -> usize
     requires { ⌜ at + 122 ≤ length (now out) ⌝ }
-    ensures { λ r. ⌜ Wrote (now (out .entry)) at (lineText explaining client file block) (now (out .exit)) r ⌝ }
+    ensures { λ r. ⌜ Wrote (now (out .entry)) at (lineText program client file block) (now (out .exit)) r ⌝ }
     ensures { λ r. ⌜ r ≤ at + 122 ⌝ }
 {
-    let station = put_program(out, at, explaining);
+    let station = put_program(out, at, program);
     let word = put_client(out, station, client);
     let digits = put_text(out, word, b" file");
     let second = put_argument(out, digits, file as u64);
@@ -44,7 +49,7 @@ fn put_line(
 pub fn put_line_if(
     out: &mut [u8],
     at: usize,
-    explaining: bool,
+    program: u8,
     dirty: bool,
     client: usize,
     file: usize,
@@ -52,11 +57,11 @@ pub fn put_line_if(
 ) -> usize
     requires { ⌜ at + 122 ≤ length (now out) ⌝ }
     ensures { λ r. ⌜ Wrote (now (out .entry)) at
-        (flat (entryIf dirty (lineText explaining client file block))) (now (out .exit)) r ⌝ }
+        (flat (entryIf dirty (lineText program client file block))) (now (out .exit)) r ⌝ }
     ensures { λ r. ⌜ r ≤ at + 122 ⌝ }
 {
     if dirty {
-        return put_line(out, at, explaining, client, file, block);
+        return put_line(out, at, program, client, file, block);
     }
     at
 }

@@ -16,7 +16,7 @@ use sizes::Sizes;
 fn put_blocks(
     out: &mut [u8],
     at: usize,
-    explaining: bool,
+    program: u8,
     dirty: &[bool; MAX_CELLS],
     client: usize,
     file: usize,
@@ -27,7 +27,7 @@ fn put_blocks(
     requires { ⌜ file < maxFiles ⌝ }
     requires { ⌜ at + 976 ≤ length (now out) ⌝ }
     ensures { λ r. ⌜ Wrote (now (out .entry)) at
-        (flat (blockLines explaining each (dirtyIn (lent [] [] [] (now (dirty .entry)))) client file))
+        (flat (blockLines program each (dirtyIn (lent [] [] [] (now (dirty .entry)))) client file))
         (now (out .exit)) r ⌝ }
     ensures { λ r. ⌜ r ≤ at + 976 ⌝ }
 {
@@ -35,15 +35,7 @@ fn put_blocks(
     let mut next = at;
     let mut block: usize = 0;
     while block < each {
-        next = put_line_if(
-            out,
-            next,
-            explaining,
-            dirty[base + block],
-            client,
-            file,
-            block,
-        );
+        next = put_line_if(out, next, program, dirty[base + block], client, file, block);
         block += 1;
     }
     next
@@ -52,7 +44,7 @@ fn put_blocks(
 fn put_files(
     out: &mut [u8],
     at: usize,
-    explaining: bool,
+    program: u8,
     sizes: Sizes,
     dirty: &[bool; MAX_CELLS],
     client: usize,
@@ -61,14 +53,14 @@ fn put_files(
     requires { ⌜ client < maxClients ⌝ }
     requires { ⌜ at + 62464 ≤ length (now out) ⌝ }
     ensures { λ r. ⌜ Wrote (now (out .entry)) at
-        (flat (fileLines explaining sizes (dirtyIn (lent [] [] [] (now (dirty .entry)))) client))
+        (flat (fileLines program sizes (dirtyIn (lent [] [] [] (now (dirty .entry)))) client))
         (now (out .exit)) r ⌝ }
     ensures { λ r. ⌜ r ≤ at + 62464 ⌝ }
 {
     let mut next = at;
     let mut file: usize = 0;
     while file < sizes.files {
-        next = put_blocks(out, next, explaining, dirty, client, file, sizes.blocks);
+        next = put_blocks(out, next, program, dirty, client, file, sizes.blocks);
         file += 1;
     }
     next
@@ -77,20 +69,20 @@ fn put_files(
 pub fn put_clients(
     out: &mut [u8],
     at: usize,
-    explaining: bool,
+    program: u8,
     sizes: Sizes,
     dirty: &[bool; MAX_CELLS],
 ) -> usize
     requires { ⌜ Permitted sizes ⌝ }
     requires { ⌜ at + 499712 ≤ length (now out) ⌝ }
     ensures { λ r. ⌜ Wrote (now (out .entry)) at
-        (flat (clientLines explaining sizes (dirtyIn (lent [] [] [] (now (dirty .entry)))))) (now (out .exit)) r ⌝ }
+        (flat (clientLines program sizes (dirtyIn (lent [] [] [] (now (dirty .entry)))))) (now (out .exit)) r ⌝ }
     ensures { λ r. ⌜ r ≤ at + 499712 ⌝ }
 {
     let mut next = at;
     let mut client: usize = 0;
     while client < sizes.clients {
-        next = put_files(out, next, explaining, sizes, dirty, client);
+        next = put_files(out, next, program, sizes, dirty, client);
         client += 1;
     }
     next

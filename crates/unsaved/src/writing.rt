@@ -11,8 +11,8 @@ pub const UNSAVED_ROOM: usize = 499712;
 
 // Writes the lines, and answers the offset past them. Where the buffer has less than UNSAVED_ROOM bytes from the offset
 // on, writes nothing and answers the offset.
-pub fn write_unsaved(out: &mut [u8], at: usize, explaining: bool, service: Service) -> usize
-    ensures { λ r. ⌜ WroteIfRoom unsavedRoom (now (out .entry)) at (unsavedText explaining service)
+pub fn write_unsaved(out: &mut [u8], at: usize, program: u8, service: Service) -> usize
+    ensures { λ r. ⌜ WroteIfRoom unsavedRoom (now (out .entry)) at (unsavedText program service)
         (now (out .exit)) r ⌝ }
     ensures { λ r. ⌜ r ≤ at + unsavedRoom ⌝ }
 {
@@ -22,16 +22,16 @@ pub fn write_unsaved(out: &mut [u8], at: usize, explaining: bool, service: Servi
     if out.len() - UNSAVED_ROOM < at {
         return at;
     }
-    put_unsaved(out, at, explaining, service)
+    put_unsaved(out, at, program, service)
 }
 
-fn put_unsaved(out: &mut [u8], at: usize, explaining: bool, service: Service) -> usize
+fn put_unsaved(out: &mut [u8], at: usize, program: u8, service: Service) -> usize
     requires { ⌜ at + unsavedRoom ≤ length (now out) ⌝ }
-    ensures { λ r. ⌜ Wrote (now (out .entry)) at (unsavedText explaining service) (now (out .exit)) r ⌝ }
+    ensures { λ r. ⌜ Wrote (now (out .entry)) at (unsavedText program service) (now (out .exit)) r ⌝ }
     ensures { λ r. ⌜ r ≤ at + unsavedRoom ⌝ }
 {
     let given = service.sizes;
     let sizes = given.in_force();
     let dirty = service.dirty;
-    put_clients(out, at, explaining, sizes, &dirty)
+    put_clients(out, at, program, sizes, &dirty)
 }

@@ -7,6 +7,8 @@ pub mod explain;
 pub mod generate;
 pub mod images;
 pub mod process;
+pub mod sample;
+pub mod traffic;
 
 mod callbacks;
 mod claim;

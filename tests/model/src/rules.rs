@@ -176,3 +176,9 @@ pub trait Rules {
 pub struct Document01;
 
 impl Rules for Document01 {}
+
+/// The same rules, compiled apart: the player's are inlined where they have no second caller. What both call is marked
+/// for that.
+pub(crate) struct Apart;
+
+impl Rules for Apart {}

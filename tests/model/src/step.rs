@@ -27,6 +27,23 @@ pub enum Step {
 }
 
 impl Step {
+    /// The client that the step names, if it names one.
+    pub fn client(&self) -> Option<u64> {
+        match *self {
+            Step::Open { client, .. }
+            | Step::Close { client, .. }
+            | Step::Reply { client, .. }
+            | Step::Read { client, .. }
+            | Step::Write { client, .. }
+            | Step::Flush { client, .. }
+            | Step::Report { client }
+            | Step::Restart { client }
+            | Step::Embargo { client, .. }
+            | Step::Lift { client } => Some(client),
+            Step::Crash | Step::End => None,
+        }
+    }
+
     /// The client and the file that the step names, if it names both.
     fn place(&self) -> Option<(u64, u64)> {
         match *self {

@@ -1,10 +1,11 @@
-//! The streaming player and explainer: however the input comes in, each says what the one in memory says.
+//! The streaming player, explainer and counter: however the input comes in, each says what the one in memory says.
 
 use std::cell::RefCell;
 use std::io::{ErrorKind, Read, Result, Write};
 
 use model::explain::{explain, explained};
 use model::generate::{FileKind, Rng, step_file};
+use model::traffic::{count, counted};
 use model::{Document01, play, replay};
 
 /// Gives its bytes in pieces of random sizes, with interruptions.
@@ -43,6 +44,12 @@ fn explained_in_pieces(input: &[u8], limit: usize) -> Vec<u8> {
     output
 }
 
+fn counted_in_pieces(input: &[u8], limit: usize) -> Vec<u8> {
+    let mut output = Vec::new();
+    count(pieces(input, limit), &mut output).expect("memory takes every byte");
+    output
+}
+
 /// Whole files, each with what is expected of it, in pieces of every size.
 fn check_pieces(expected: fn(&[u8]) -> Vec<u8>, streamed: fn(&[u8], usize) -> Vec<u8>) {
     for kind in FileKind::ALL {
@@ -68,6 +75,11 @@ fn pieces_of_any_size_are_explained_alike() {
 }
 
 #[test]
+fn pieces_of_any_size_are_counted_alike() {
+    check_pieces(counted, counted_in_pieces);
+}
+
+#[test]
 fn lines_about_the_size_of_the_buffer_are_one_line_each() {
     for length in [65_535, 65_536, 65_537, 131_071, 131_072, 131_073, 400_000] {
         for line in [vec![b'7'; length], [b"OR 0 0".to_vec(), vec![b' '; length]].concat()] {
@@ -75,6 +87,7 @@ fn lines_about_the_size_of_the_buffer_are_one_line_each() {
             let expected = "1 N 1\n2 G 1 0 1\n3 N 1\nfiles 1\n0 2 1 -\n";
             assert_eq!(streamed(&input, 1_000_000), expected.as_bytes(), "{length}");
             assert_eq!(explained_in_pieces(&input, 1_000_000), explained(b"\nOR 0 0\nno step"), "{length}");
+            assert_eq!(counted_in_pieces(&input, 1_000_000), counted(b"OR 0 0\n"), "{length}");
         }
     }
 }

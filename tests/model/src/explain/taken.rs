@@ -1,13 +1,8 @@
 //! A step taken by the service, and what is told of it.
 
 use super::{Book, Granted, LostAt, Opening, Place, Reading, Reason, Source, Told};
-use crate::{GrantedOpen, Outcome, Rules, Service, State, Step, WaitingOpen};
-
-/// The documents' rules, compiled apart: the player's are inlined where they have no second caller. What both call is
-/// marked for that.
-struct Apart;
-
-impl Rules for Apart {}
+use crate::rules::Apart;
+use crate::{GrantedOpen, Outcome, Service, State, Step, WaitingOpen};
 
 /// Takes the step. The book has the lines before it.
 pub fn take(service: &mut Service, book: &Book, step: &Step) -> (Outcome, Told) {

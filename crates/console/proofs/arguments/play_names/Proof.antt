@@ -5,10 +5,10 @@ use Rattle.console.proofs.arguments.play_names.Statement.{statement}
 use Rattle.console.proofs.arguments.play_names.Tie as tie
 
 abbrev Inv-loop : tie.InvT-loop
-Inv-loop explaining count headed images standing₀ i₀ standing i = Unit {0}
+Inv-loop program count headed images standing₀ i₀ standing i = Unit {0}
 
 abbrev μ-loop : tie.MeasureT-loop
-μ-loop explaining count headed images standing₀ i₀ standing i = count - i
+μ-loop program count headed images standing₀ i₀ standing i = count - i
 
 pub play-names-spec : {M : Type 1} → statement M
 play-names-spec =

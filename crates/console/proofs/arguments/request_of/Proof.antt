@@ -5,10 +5,10 @@ use Rattle.console.proofs.arguments.request_of.Statement.{statement}
 use Rattle.console.proofs.arguments.request_of.Tie as tie
 
 abbrev Inv-loop : tie.InvT-loop
-Inv-loop explaining count request₀ i₀ request i = Unit {0}
+Inv-loop program count request₀ i₀ request i = Unit {0}
 
 abbrev μ-loop : tie.MeasureT-loop
-μ-loop explaining count request₀ i₀ request i = count - i
+μ-loop program count request₀ i₀ request i = count - i
 
 pub request-of-spec : {M : Type 1} → statement M
 request-of-spec =

@@ -11,12 +11,12 @@ use Rattle.unsaved.proofs.lines.put_blocks.Statement.{statement}
 use Rattle.unsaved.proofs.lines.put_blocks.Tie as tie
 
 abbrev Inv-loop : tie.InvT-loop
-Inv-loop out₀ at explaining dirty client file each base next₀ block₀ out next block =
-    Listing 122 (λ b. entryIf (dirtyIn (lent [] [] [] dirty) client file b) (lineText explaining client file b)) each
+Inv-loop out₀ at program dirty client file each base next₀ block₀ out next block =
+    Listing 122 (λ b. entryIf (dirtyIn (lent [] [] [] dirty) client file b) (lineText program client file b)) each
     out₀ at out next block
 
 abbrev μ-loop : tie.MeasureT-loop
-μ-loop out₀ at explaining dirty client file each base next₀ block₀ out next block = each - block
+μ-loop out₀ at program dirty client file each base next₀ block₀ out next block = each - block
 
 mul-base : tie.Need-mul-base Inv-loop μ-loop
 mul-base c = search needs

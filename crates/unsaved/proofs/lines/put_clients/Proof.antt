@@ -10,12 +10,12 @@ use Rattle.unsaved.proofs.lines.put_clients.Statement.{statement}
 use Rattle.unsaved.proofs.lines.put_clients.Tie as tie
 
 abbrev Inv-loop : tie.InvT-loop
-Inv-loop out₀ at explaining sizes dirty next₀ client₀ out next client =
-    Listing 62464 (λ i. fileLines explaining sizes (dirtyIn (lent [] [] [] dirty)) i) (sizes .clients)
+Inv-loop out₀ at program sizes dirty next₀ client₀ out next client =
+    Listing 62464 (λ i. fileLines program sizes (dirtyIn (lent [] [] [] dirty)) i) (sizes .clients)
     out₀ at out next client
 
 abbrev μ-loop : tie.MeasureT-loop
-μ-loop out₀ at explaining sizes dirty next₀ client₀ out next client = sizes .clients - client
+μ-loop out₀ at program sizes dirty next₀ client₀ out next client = sizes .clients - client
 
 put-files-requires : tie.Need-put-files-requires Inv-loop μ-loop
 put-files-requires c κs =

@@ -10,12 +10,12 @@ use Rattle.unsaved.proofs.lines.put_files.Statement.{statement}
 use Rattle.unsaved.proofs.lines.put_files.Tie as tie
 
 abbrev Inv-loop : tie.InvT-loop
-Inv-loop out₀ at explaining sizes dirty client next₀ file₀ out next file =
-    Listing 976 (λ f. blockLines explaining (sizes .blocks) (dirtyIn (lent [] [] [] dirty)) client f) (sizes .files)
+Inv-loop out₀ at program sizes dirty client next₀ file₀ out next file =
+    Listing 976 (λ f. blockLines program (sizes .blocks) (dirtyIn (lent [] [] [] dirty)) client f) (sizes .files)
     out₀ at out next file
 
 abbrev μ-loop : tie.MeasureT-loop
-μ-loop out₀ at explaining sizes dirty client next₀ file₀ out next file = sizes .files - file
+μ-loop out₀ at program sizes dirty client next₀ file₀ out next file = sizes .files - file
 
 put-blocks-requires : tie.Need-put-blocks-requires Inv-loop μ-loop
 put-blocks-requires c κs =

@@ -26,7 +26,7 @@ returns c =
     let in-force = put .before .before .before .before in
     let a = in-force .before .before .before .args in
     let dirty = dirtyIn (lent [] [] [] (a .service .dirty)) in
-    let same = ap (λ z. flat (clientLines (a .explaining) z dirty)) (in-force .in-force .ensures .0) in
+    let same = ap (λ z. flat (clientLines (a .program) z dirty)) (in-force .in-force .ensures .0) in
     (wrote-as same (put .put-clients .ensures .0), put .put-clients .ensures .1)
 
 pub put-unsaved-spec : {M : Type 1} → statement M

@@ -1,28 +1,21 @@
 //! What a program under test says of the files, compared with the model, and held to the text alone.
 
-use std::fs;
-use std::path::PathBuf;
-use std::process::{Command, id};
-
 use model::check::{Difference, Provenance, Unfounded, shown};
-use model::process::run;
-
-use crate::options::Options;
-use crate::sample::Sample;
+use model::sample::{Options, Program, Sample};
 
 /// The summary of a run without a difference, or the first finding.
 pub fn with_program(options: &Options) -> Result<String, String> {
-    let explainer = Explainer::new(options);
+    let explainer = Program::new(options);
     let mut provenance = Provenance::default();
     let (mut files, mut cut_short) = (0, 0);
     for seed in options.seeds.clone() {
         for &kind in &options.kinds {
             let sample = Sample::of(kind, seed, options.lines);
-            let output = explainer.compare(&sample)?;
-            explainer.located(&sample, judge(&sample, &output, &mut provenance))?;
+            let output = compare(&explainer, &sample)?;
+            located(&sample, judge(&sample, &output, &mut provenance))?;
             files += 1;
             for beginning in sample.cut_short() {
-                explainer.compare(&beginning)?;
+                compare(&explainer, &beginning)?;
                 cut_short += 1;
             }
         }
@@ -52,44 +45,18 @@ fn begins_with_replies(played: &[u8], output: &[u8]) -> Result<(), String> {
     Ok(())
 }
 
-/// The program under test.
-struct Explainer<'a> {
-    program: &'a str,
-    words: &'a [String],
-    /// Where an image lies for it.
-    image: PathBuf,
+/// What the explainer says of a file, which must be what the model says.
+fn compare(explainer: &Program, sample: &Sample) -> Result<Vec<u8>, String> {
+    let actual = located(sample, explainer.said(sample))?;
+    let Some(difference) = Difference::between(&sample.explained(), &actual) else { return Ok(actual) };
+    let step = sample.input.split(|&byte| byte == b'\n').nth(difference.line - 1).map_or("none".into(), shown);
+    let side = |side: Option<String>| side.unwrap_or("none".into());
+    let (model, explainer) = (side(difference.expected), side(difference.actual));
+    let line = difference.line;
+    let told = format!("line {line}\n  input:     {step}\n  model:     {model}\n  explainer: {explainer}");
+    located(sample, Err(told))
 }
 
-impl<'a> Explainer<'a> {
-    fn new(options: &'a Options) -> Self {
-        let image = std::env::temp_dir().join(format!("explains-{}.image", id()));
-        Explainer { program: &options.explainer, words: &options.words, image }
-    }
-
-    /// What it says of a file, which must be what the model says.
-    fn compare(&self, sample: &Sample) -> Result<Vec<u8>, String> {
-        let actual = self.located(sample, self.explain(sample))?;
-        let Some(difference) = Difference::between(&sample.explained(), &actual) else { return Ok(actual) };
-        let step = sample.input.split(|&byte| byte == b'\n').nth(difference.line - 1).map_or("none".into(), shown);
-        let side = |side: Option<String>| side.unwrap_or("none".into());
-        let (model, explainer) = (side(difference.expected), side(difference.actual));
-        let line = difference.line;
-        let told = format!("line {line}\n  input:     {step}\n  model:     {model}\n  explainer: {explainer}");
-        self.located(sample, Err(told))
-    }
-
-    fn explain(&self, sample: &Sample) -> Result<Vec<u8>, String> {
-        let mut command = Command::new(self.program);
-        command.args(self.words);
-        let Some(image) = &sample.image else { return run(&mut command, &sample.input, sample.seed) };
-        let place = self.image.display();
-        fs::write(&self.image, image).map_err(|error| format!("cannot write {place}: {error}"))?;
-        let output = run(command.arg("--read-image").arg(&self.image), &sample.input, sample.seed);
-        let _ = fs::remove_file(&self.image);
-        output
-    }
-
-    fn located<T>(&self, sample: &Sample, result: Result<T, String>) -> Result<T, String> {
-        result.map_err(|finding| format!("difference: {}, {finding}", sample.name))
-    }
+fn located<T>(sample: &Sample, result: Result<T, String>) -> Result<T, String> {
+    result.map_err(|finding| format!("difference: {}, {finding}", sample.name))
 }

@@ -1,9 +1,8 @@
 //! What a fault of an explainer is: a part of what is told is changed before it is put into words, or the words are.
 
 use model::explain::{Distortion, Granted, Picture, Place, Reading, Reason, Told, WrittenAt};
+use model::sample::Sample;
 use model::{Service, Step};
-
-use crate::sample::Sample;
 
 pub struct Fault {
     pub name: &'static str,
@@ -41,7 +40,7 @@ impl Fault {
         if let Wrong::Text(change) = self.wrong {
             return change(&sample.explained());
         }
-        sample.distorted(&mut Faulty { fault: self, lines: Vec::new() })
+        sample.explained_with(&mut Faulty { fault: self, lines: Vec::new() })
     }
 }
 

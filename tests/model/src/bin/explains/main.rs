@@ -7,17 +7,14 @@
 mod compare;
 mod fault;
 mod faults;
-mod options;
-mod sample;
 
 use std::env::args;
 use std::fs;
 use std::io::{Read, Write, stdin, stdout};
 use std::process::ExitCode;
 
+use model::sample::{KINDS, Options, Sample};
 use model::verdict;
-use options::{Options, USAGE};
-use sample::Sample;
 
 fn main() -> ExitCode {
     let words: Vec<String> = args().skip(1).collect();
@@ -26,14 +23,22 @@ fn main() -> ExitCode {
         ["faults"] => verdict(faults::try_all()),
         ["explain", name] => explain(name, None),
         ["explain", name, "--read-image", image] => explain(name, Some(image)),
-        _ => match Options::of(&words) {
+        _ => match Options::of("--explainer", &words) {
             Ok(options) => verdict(compare::with_program(&options)),
             Err(problem) => {
-                eprintln!("explains: {problem}\n{USAGE}");
+                eprintln!("explains: {problem}\n{}", usage());
                 ExitCode::from(2)
             }
         },
     }
+}
+
+fn usage() -> String {
+    format!(
+        "usage: explains --explainer PROGRAM [--seeds A..B] [--lines N] [--kinds {KINDS}] [-- WORD..]
+       explains faults
+       explains explain FAULT [--read-image FILE]"
+    )
 }
 
 /// Explains standard input with a fault.

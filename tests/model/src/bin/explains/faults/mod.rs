@@ -9,10 +9,10 @@ mod restarts;
 mod text;
 
 use model::check::{Difference, Provenance};
+use model::sample::{Kind, Sample};
 
 use crate::compare::judge;
 use crate::fault::Fault;
-use crate::sample::{Kind, Sample};
 
 const SEEDS: u64 = 40;
 

@@ -1,14 +1,19 @@
-//! The files that are explained: those of the differential run, and runs that go on from an image.
+//! The files that are explained and counted: those of the differential run, and runs that go on from an image.
 
-use model::check::Cuts;
-use model::explain::{Distortion, distorted, explained_from};
-use model::generate::{
+mod options;
+mod program;
+
+use crate::check::Cuts;
+use crate::generate::{
     FileKind, closing_time, embargoed_run, leaving_embargoes, restarted_run, resumed_run, step_file,
 };
-use model::images::written;
-use model::{Document01, Service, play_on, replay, replay_from};
+use crate::images::written;
+use crate::{Document01, Service, explain, play_on, replay, replay_from, traffic};
 
-#[derive(Clone, Copy)]
+pub use options::{KINDS, Options};
+pub use program::Program;
+
+#[derive(Clone, Copy, PartialEq, Eq, Debug)]
 pub enum Kind {
     Fresh(FileKind),
     /// The run begins with an image.
@@ -47,6 +52,7 @@ impl Kind {
 }
 
 /// A step file, and the image with which the run begins, if it begins with one.
+#[derive(Clone)]
 pub struct Sample {
     pub name: String,
     pub seed: u64,
@@ -102,11 +108,25 @@ impl Sample {
 
     /// What the model's explainer says.
     pub fn explained(&self) -> Vec<u8> {
-        explained_from(self.service(), self.image.is_some(), &self.input)
+        self.explained_with(&mut ())
     }
 
-    pub fn distorted(&self, distortion: &mut dyn Distortion) -> Vec<u8> {
-        distorted(self.service(), self.image.is_some(), &self.input, distortion)
+    pub fn explained_with(&self, distortion: &mut dyn explain::Distortion) -> Vec<u8> {
+        explain::distorted(self.service(), self.image.is_some(), &self.input, distortion)
+    }
+
+    /// The traffic of the run, by the model.
+    pub fn table(&self) -> traffic::Table {
+        traffic::table_from(self.service(), self.image.is_some(), &self.input)
+    }
+
+    /// The same as the model's counter prints it.
+    pub fn counted(&self) -> Vec<u8> {
+        self.counted_with(&mut ())
+    }
+
+    pub fn counted_with(&self, distortion: &mut dyn traffic::Distortion) -> Vec<u8> {
+        traffic::distorted(self.service(), self.image.is_some(), &self.input, distortion)
     }
 
     /// What the model's player says.

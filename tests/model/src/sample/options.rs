@@ -1,20 +1,17 @@
-//! The command line of the comparison.
+//! The command line of a comparison.
 
 use std::ops::Range;
 
-use model::generate::seeds;
+use super::Kind;
+use crate::generate::seeds;
 
-use crate::sample::Kind;
-
-pub const USAGE: &str = "usage: explains --explainer PROGRAM [--seeds A..B] [--lines N] \
-                         [--kinds hot,wide,malformed,session,restart,embargo,resumed,resumed-restart,resumed-embargo] \
-                         [-- WORD..]
-       explains faults
-       explains explain FAULT [--read-image FILE]";
+/// The kinds, as a usage line tells them.
+pub const KINDS: &str = "hot,wide,malformed,session,restart,embargo,resumed,resumed-restart,resumed-embargo";
 
 pub struct Options {
-    pub explainer: String,
-    /// Words that the explainer is given.
+    /// The program under test.
+    pub program: String,
+    /// Words that it is given.
     pub words: Vec<String>,
     pub seeds: Range<u64>,
     pub lines: usize,
@@ -22,9 +19,10 @@ pub struct Options {
 }
 
 impl Options {
-    pub fn of(words: &[&str]) -> Result<Self, String> {
+    /// The option of this name gives the program.
+    pub fn of(program: &str, words: &[&str]) -> Result<Self, String> {
         let mut options = Options {
-            explainer: String::new(),
+            program: String::new(),
             words: Vec::new(),
             seeds: 0..100,
             lines: 1000,
@@ -37,14 +35,17 @@ impl Options {
                 break;
             }
             let value = words.next().ok_or(format!("{word} needs a value"))?;
-            options.set(word, value).ok_or(format!("cannot read {word} {value}"))?;
+            if word == program {
+                options.program = value.into();
+            } else {
+                options.set(word, value).ok_or(format!("cannot read {word} {value}"))?;
+            }
         }
-        if options.explainer.is_empty() { Err("--explainer is missing".into()) } else { Ok(options) }
+        if options.program.is_empty() { Err(format!("{program} is missing")) } else { Ok(options) }
     }
 
     fn set(&mut self, word: &str, value: &str) -> Option<()> {
         match word {
-            "--explainer" => self.explainer = value.into(),
             "--seeds" => self.seeds = seeds(value)?,
             "--lines" => self.lines = value.parse().ok()?,
             "--kinds" => self.kinds = value.split(',').map(Kind::named).collect::<Option<_>>()?,
