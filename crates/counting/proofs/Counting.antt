@@ -4,9 +4,9 @@ use mathlib.Core.Path.{_≡_, refl, sym, ap, _∙_}
 use mathlib.Core.Bool.{Bool, true, false, cond, _&&_}
 use mathlib.Core.List.{List, []}
 use native.Mathlib.Omega.{arith}
-use lib.Dec.{leb}
-use lib.ListN.{length}
-use borrow.Author.Tests.{le-leb}
+use lib.Dec.{leb, ltb}
+use lib.ListN.{length, take}
+use borrow.Author.Tests.{le-leb, ltb-false}
 use Rattle.sizes.specs.declared.sizes.Sizes.{Sizes}
 use Rattle.sizes.specs.Sizes.{maxBlocks, inForce}
 use Rattle.protocol.specs.declared.step.Numbers.{Numbers}
@@ -29,7 +29,8 @@ use Rattle.telling.proofs.Reaching.{lineBytes, line-bytes}
 use Rattle.telling.proofs.LineByLine.{one-more}
 use Rattle.playing.specs.Lines.{numbersIn}
 use Rattle.trace.specs.Counted.{countedAll}
-use Rattle.trace.specs.Records.{sentBy, recordsOf}
+use Rattle.trace.specs.declared.tracing.Trace.{Trace}
+use Rattle.trace.specs.Records.{sentBy, recordsOf, traceRoom, recordsIn}
 use Rattle.trace.proofs.Traced.{itselfHeld, step-traced, none-traced}
 use Rattle.counting.specs.LineTrace.{stationsOf, traceIn}
 use Rattle.counting.specs.Lines.{Counted, countedLine, counting}
@@ -123,3 +124,11 @@ line-traced given (Is x) q is t₀ flags₀ a₀ words₀ t flags a words said t
     step-traced given x q is t₀ flags₀ a₀ words₀ t flags a words said taken itself so stations force
 line-traced given NoStep q is t₀ flags₀ a₀ words₀ t flags a words said taken itself so stations force =
     none-traced given q is t₀ flags₀ a₀ words₀ t flags a words said taken itself stations
+
+-- all of its records are lent where there is room for them
+pub all-lent : (t : Trace) → t .count ≤ traceRoom → recordsIn t ≡ take (t .count) (t .records)
+all-lent t fits = ap (λ (n : ℕ). take n (t .records)) (inside (ltb (t .count) traceRoom) refl)
+  where
+    inside : (b : Bool) → ltb (t .count) traceRoom ≡ b → cond b (t .count) traceRoom ≡ t .count
+    inside true e = refl
+    inside false e = let past = ltb-false (t .count) traceRoom e in omega (arith, past, fits)

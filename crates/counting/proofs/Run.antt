@@ -1,32 +1,25 @@
 -- The whole run of the counter: from the fresh service or a given one on, what the program writes until the session is done
 -- are the numbers of all traces of what it read, however the input was cut into pieces; and the arrays then hold the
 -- service after all lines. Assumes nothing.
-use Prim.Native.Nat.{ℕ, _+_, _<_}
+use Prim.Native.Nat.{ℕ, _+_}
 use mathlib.Core.Path.{_≡_, refl, sym, ap, _∙_}
 use mathlib.Core.Bool.{Bool, true}
 use mathlib.Core.List.{List, [], _∷_, _++_}
-use lib.ListN.{length}
 use Rattle.sizes.specs.Sizes.{defaultSizes}
-use Rattle.blocks.specs.Stores.{Stores}
 use Rattle.service.specs.declared.service.Service.{Service}
 use Rattle.service.specs.Fresh.{fresh}
-use Rattle.service.specs.Lent.{serviceHeld}
 use Rattle.stepfile.specs.declared.parsed.Parsed.{Parsed}
-use Rattle.stepfile.specs.Grammar.{parseLine}
 use Rattle.stepfile.specs.Played.{serviceAfter, endOf}
 use Rattle.stepfile.specs.Transcript.{lines, transcript, after}
 use Rattle.stepfile.proofs.Longest.{too-long}
 use Rattle.stepfile.proofs.LongLines.{Blind, reply-blind}
-use Rattle.telling.specs.Session.{standingAt}
 use Rattle.telling.specs.Run.{Leg, input}
 use Rattle.telling.proofs.WholeRun.{run-tells, run-comes}
-use Rattle.playing.specs.Session.{freshSession, resumedSession}
-use Rattle.trace.specs.Counted.{totalsRoom, countedAll}
+use Rattle.trace.specs.Counted.{countedAll}
 use Rattle.trace.specs.Number.{totalAt, atMost, numberIn}
 use Rattle.counting.specs.Printed.{trafficText}
 use Rattle.counting.specs.LineTrace.{stationsOf, traceIn}
 use Rattle.counting.specs.Lines.{Counted, uncounted, countedLine, countedText, counting}
-use Rattle.counting.specs.Session.{standing}
 use Rattle.counting.specs.Run.{Follows, output, atEnd}
 use Rattle.counting.specs.Traffic.{tracesOf, trafficFrom, trafficFile}
 use Rattle.counting.proofs.Alike.{traffic-alike}

@@ -1,5 +1,5 @@
 -- The totals after all lines are those of all their traces, one after the other. Assumes nothing.
-use Prim.Native.Nat.{ℕ, _+_, _≤_, _<_}
+use Prim.Native.Nat.{ℕ, _+_, _<_}
 use mathlib.Core.Path.{_≡_, refl, sym, ap, _∙_}
 use mathlib.Core.Bool.{Bool, true, false, _&&_}
 use mathlib.Core.List.{List, [], _∷_, _++_}
@@ -15,10 +15,9 @@ use Rattle.service.specs.declared.service.Service.{Service}
 use Rattle.stepfile.specs.declared.parsed.Parsed.{Parsed}
 use Rattle.stepfile.specs.declared.parsed.Parsed.the-variants.{Is, NoStep}
 use Rattle.stepfile.specs.Grammar.{parseLine}
-use Rattle.stepfile.specs.Played.{outcomeOf, serviceAfter, afterLines, endOf}
-use Rattle.stepfile.specs.Transcript.{lines, after}
-use Rattle.trace.specs.declared.record.TraceRecord.{TraceRecord}
-use Rattle.trace.specs.Counted.{columns, firstTotal, totalsRoom, lastTotal, countedAll}
+use Rattle.stepfile.specs.Played.{outcomeOf, serviceAfter, afterLines}
+use Rattle.stepfile.specs.Transcript.{after}
+use Rattle.trace.specs.Counted.{columns, firstTotal, totalsRoom, countedAll}
 use Rattle.trace.specs.Number.{totalAt, atMost, numberIn}
 use Rattle.trace.proofs.Numbers.{counts, counted-append}
 use Rattle.counting.specs.LineTrace.{stationsOf, traceIn, traceAt}

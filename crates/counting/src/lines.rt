@@ -19,7 +19,7 @@ use sizes::Sizes;
 use stepfile::Read;
 use telling::can_tell;
 use trace::TOTALS;
-use trace::lend_trace;
+use trace::count_trace;
 use trace::serves_itself;
 use trace::trace_of;
 use words::SAID;
@@ -90,8 +90,7 @@ pub fn count_lines(
             &mut words,
         );
         let trace = trace_of(stations, named, itself, said, &words);
-        let records = trace.records;
-        lend_trace(stations, records, trace.count, totals);
+        count_trace(stations, trace, totals);
     }
     Progress {
         sizes: given,

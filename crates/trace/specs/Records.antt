@@ -1,9 +1,9 @@
 -- The records of a line: of its step, what the station could do itself just before, its reply, and what it brings to others.
 use Prim.Native.Nat.{ℕ, _+_}
-use mathlib.Core.Bool.{Bool, true, false, cond, not, _&&_, _||_}
+use mathlib.Core.Bool.{Bool, false, cond, not, _&&_, _||_}
 use mathlib.Core.List.{List, [], _∷_, _++_}
-use lib.Dec.{eqb, leb, ltb}
-use lib.ListN.{replicate}
+use lib.Dec.{eqb, ltb}
+use lib.ListN.{take, replicate}
 use Rattle.sizes.specs.Sizes.{maxClients, maxFiles, maxBlocks, nobody}
 use Rattle.decision.specs.Callback.{orderedCalls}
 use Rattle.protocol.specs.declared.reply.Granting.{Granting}
@@ -11,7 +11,7 @@ use Rattle.protocol.specs.declared.reply.Reply.{Reply}
 use Rattle.protocol.specs.declared.reply.Reply.the-variants as replies
 use Rattle.protocol.specs.declared.step.Numbers.{Numbers}
 use Rattle.protocol.specs.declared.step.Step.{Step}
-use Rattle.protocol.specs.Reply.{brought, isRefused}
+use Rattle.protocol.specs.Reply.{brought}
 use Rattle.protocol.specs.declared.client.ClientFile.{ClientFile}
 use Rattle.protocol.specs.Client.{readNeedsServer, writeNeedsServer}
 use Rattle.protocol.specs.Needs.{needsServer}
@@ -24,6 +24,7 @@ use Rattle.trace.specs.declared.record.TraceKind.the-variants.{Open, Clo
 use Rattle.trace.specs.declared.record.TraceOutcome.{TraceOutcome}
 use Rattle.trace.specs.declared.record.TraceOutcome.the-variants.{Done, Hit, Fetched, Refused, Pending}
 use Rattle.trace.specs.declared.record.TraceRecord.{TraceRecord}
+use Rattle.trace.specs.declared.tracing.Trace.{Trace}
 use Rattle.trace.specs.Counted.{isCounted}
 
 abbrev pub noted : ℕ → TraceKind → TraceOutcome → TraceRecord
@@ -107,3 +108,10 @@ traceOf s x =
 -- grants, and one for each file
 abbrev pub traceRoom : ℕ
 traceRoom = 2 + maxBlocks + maxClients + maxFiles
+
+-- the records of a trace: the first so many, all of them at most
+abbrev pub withinRoom : ℕ → ℕ
+withinRoom count = cond (ltb count traceRoom) count traceRoom
+
+abbrev pub recordsIn : Trace → List TraceRecord
+recordsIn t = take (withinRoom (t .count)) (t .records)

@@ -11,7 +11,7 @@ pub use counting::COLUMNS;
 pub use counting::TOTALS;
 pub use counting::add_record;
 pub use counting::count;
-pub use lending::lend_trace;
+pub use lending::count_trace;
 pub use record::TraceKind;
 pub use record::TraceOutcome;
 pub use record::TraceRecord;

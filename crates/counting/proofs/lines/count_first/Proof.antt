@@ -5,15 +5,12 @@ use mathlib.Core.Path.{_≡_, refl, ap, _∙_}
 use mathlib.Core.Bool.{Bool, true}
 use mathlib.Core.List.{List}
 use native.Mathlib.Omega.{arith}
-use lib.ListN.{length}
 use denote.Ref.{now}
-use borrow.Author.Needs.{needs}
 use Rattle.blocks.specs.Stores.{lent}
 use Rattle.service.specs.declared.service.Service.{Service}
 use Rattle.service.specs.declared.outcome.Outcome.{Outcome}
 use Rattle.service.specs.Lent.{serviceHeld}
 use Rattle.stepfile.specs.declared.parsed.Parsed.the-variants.{NoStep}
-use Rattle.stepfile.specs.Played.{setOutcome}
 use Rattle.reader.specs.declared.setting.FirstSetting.{FirstSetting}
 use Rattle.telling.specs.Lines.{canTell}
 use Rattle.telling.proofs.Reaching.{lineBytes}

@@ -1,6 +1,6 @@
 -- `count_lines` meets its contract: what the setting and each step comes to is in the arrays, its records are lent, and
 -- `line-counted` carries it from line to line. Assumes nothing.
-use Prim.Native.Nat.{ℕ, _-_, _≤_}
+use Prim.Native.Nat.{ℕ, _-_}
 use mathlib.Core.Path.{_≡_, refl, sym, ap, _∙_}
 use mathlib.Core.Bool.{Bool, true, false, _&&_}
 use mathlib.Core.List.{List, []}
@@ -31,7 +31,7 @@ use Rattle.trace.specs.declared.record.TraceRecord.{TraceRecord}
 use Rattle.trace.specs.Counted.{countedAll}
 use Rattle.counting.specs.LineTrace.{traceIn}
 use Rattle.counting.specs.Lines.{Counted, counting, countedHeld}
-use Rattle.counting.proofs.Counting.{can-any, line-counted, step-counted, line-traced}
+use Rattle.counting.proofs.Counting.{can-any, line-counted, step-counted, line-traced, all-lent}
 use Rattle.counting.proofs.lines.count_lines.Statement.{statement}
 use Rattle.counting.proofs.lines.count_lines.Tie as tie
 
@@ -168,19 +168,16 @@ take-step-requires c κs =
 trace-of-requires : tie.Need-trace-of-requires Inv-loop μ-loop
 trace-of-requires c κs = c .before .take-step .ensures .wordsLong ∙ words-long (found (c .before))
 
-lend-trace-requires : tie.Need-lend-trace-requires Inv-loop μ-loop
-lend-trace-requires c κs = c .before .before .trace-of .ensures .0
-
 loop-less : tie.Need-loop-less Inv-loop μ-loop
 loop-less c =
-    let line = line-of (c .before .before .before .before .before) in
+    let line = line-of (c .before .before .before .before) in
     let at = at-line line in
     fewer (input₀ at) (at .loop .used) (gives line) (next line) (the-line line)
 
 -- Its records are lent: the totals are those of its trace.
-module _ (c : tie.After-lend-trace Inv-loop μ-loop) where
+module _ (c : tie.After-count-trace Inv-loop μ-loop) where
   abbrev taken : tie.After-take-step Inv-loop μ-loop
-  taken = c .before .before .before .before .before
+  taken = c .before .before .before .before
 
   abbrev records : List TraceRecord
   records = traceIn (stands (found taken) .service) (gives (line-of taken))
@@ -201,8 +198,11 @@ loop-again c =
     let is =
     asks-outcome (settable₀ at) (stands at .service) (l .number) (lineBytes (input₀ at) (l .used) (next line)) (gives line) q (named .ensures) (plain line) in
     let totals =
-    c .lend-trace .ensures .0
-    ∙ ap (λ (rs : List TraceRecord). countedAll (stations at) rs (l .totals)) (c .before .before .before .trace-of .ensures .1 (traced .0) ∙ traced .1)
+    c .count-trace .ensures .0
+    ∙ ap (λ (rs : List TraceRecord). countedAll (stations at) rs (l .totals))
+    (all-lent (c .before .before .trace-of .result) (c .before .before .trace-of .ensures .0)
+    ∙ c .before .before .trace-of .ensures .1 (traced .0)
+    ∙ traced .1)
     ∙ ap (λ (k : ℕ). countedAll k (records c) (l .totals)) (in-force at) in (
       λ out s n out₀ w.
           line-counted (settable₀ at) s n (input₀ at) out₀ out (stands at) (l .number) (l .used) (gives line) (next line) _
@@ -258,7 +258,7 @@ count-lines-spec =
     serves-itself-requires
     take-step-requires
     trace-of-requires
-    lend-trace-requires
+    (λ c κs. tt)
     loop-less
     loop-again
     returns
