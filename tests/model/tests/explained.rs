@@ -1,44 +1,23 @@
 //! The hand-written explained files, and what the model's explainer tells in states that no step file reaches.
 
-use std::fs;
-use std::path::{Path, PathBuf};
+mod beside;
 
 use model::explain::{explained, explained_from};
 use model::{Callbacks, ClientField, Mode, Record, Service, Settings, VersionField, WaitingOpen};
 
-fn directory(name: &str) -> PathBuf {
-    Path::new(env!("CARGO_MANIFEST_DIR")).join("../..").join(name)
-}
-
-/// The step files of a directory.
-fn inputs(name: &str) -> Vec<PathBuf> {
-    let files = fs::read_dir(directory(name)).expect("the directory is there");
-    let paths = files.map(|file| file.expect("the directory is readable").path());
-    paths.filter(|path| path.extension().is_some_and(|extension| extension == "in")).collect()
-}
-
-/// A file is explained as the file of this extension says, from its image if it has one.
-fn check(path: &Path, expected: &str) {
-    let input = fs::read(path).expect("the input is readable");
-    let expected = fs::read_to_string(path.with_extension(expected)).expect("the output is there");
-    let said = match fs::read(path.with_extension("image")) {
-        Ok(image) => explained_from(Service::resumed(&image).expect("it is an image"), true, &input),
-        Err(_) => explained(&input),
-    };
-    assert_eq!(String::from_utf8_lossy(&said), expected, "{}", path.display());
-}
+use beside::{check, inputs};
 
 #[test]
 fn every_explained_file_is_met() {
     let vectors = inputs("tests/explained");
-    vectors.iter().for_each(|path| check(path, "out"));
+    vectors.iter().for_each(|path| check(path, "out", explained, explained_from));
     assert!(vectors.len() > 70);
 }
 
 #[test]
 fn every_example_is_met() {
     let examples = inputs("examples");
-    examples.iter().for_each(|path| check(path, "explained"));
+    examples.iter().for_each(|path| check(path, "explained", explained, explained_from));
     assert_eq!(examples.len(), 5);
 }
 

@@ -1,42 +1,24 @@
 //! The hand-written counted files, and the model's counter against what the model's explainer says of the same lines.
 
-use std::fs;
-use std::path::{Path, PathBuf};
+mod beside;
 
 use model::Service;
 use model::sample::{Kind, Sample};
 use model::traffic::{Column, Table, Totals, counted, counted_from, table_from};
 
-/// The step files of a directory.
-fn inputs(name: &str) -> Vec<PathBuf> {
-    let directory = Path::new(env!("CARGO_MANIFEST_DIR")).join("../..").join(name);
-    let files = fs::read_dir(directory).expect("the directory is there");
-    let paths = files.map(|file| file.expect("the directory is readable").path());
-    paths.filter(|path| path.extension().is_some_and(|extension| extension == "in")).collect()
-}
-
-/// A file is counted as the file of this extension says, from its image if it has one.
-fn check(path: &Path, expected: &str) {
-    let input = fs::read(path).expect("the input is readable");
-    let expected = fs::read_to_string(path.with_extension(expected)).expect("the output is there");
-    let said = match fs::read(path.with_extension("image")) {
-        Ok(image) => counted_from(Service::resumed(&image).expect("it is an image"), true, &input),
-        Err(_) => counted(&input),
-    };
-    assert_eq!(String::from_utf8_lossy(&said), expected, "{}", path.display());
-}
+use beside::{check, inputs};
 
 #[test]
 fn every_counted_file_is_met() {
     let vectors = inputs("tests/traffic");
-    vectors.iter().for_each(|path| check(path, "out"));
+    vectors.iter().for_each(|path| check(path, "out", counted, counted_from));
     assert!(vectors.len() > 50);
 }
 
 #[test]
 fn every_example_is_met() {
     let examples = inputs("examples");
-    examples.iter().for_each(|path| check(path, "traffic"));
+    examples.iter().for_each(|path| check(path, "traffic", counted, counted_from));
     assert_eq!(examples.len(), 5);
 }
 
