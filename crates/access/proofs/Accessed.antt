@@ -47,17 +47,18 @@ leaves-refused ts b c h d after o k r step is some told =
     (step ∙ when-refused ts (λ n. record { stores = lent b c h d; reply = Refused n }) after k is some)
     (record { replyAfter = told; storesAfter = refl })
 
-module _ (z : Sizes) (embargoed recovering reported : Bool) (own : ClientFile) (a : Stores) (i f b : ℕ) where
+module _
+    (z : Sizes) (embargoed recovering reported : Bool) (own : ClientFile) (takes full : Bool) (a : Stores) (i f b : ℕ) where
   pub read-step :
-      blockStep z embargoed recovering reported own a (Read i f b)
+      blockStep z embargoed recovering reported own takes full a (Read i f b)
       ≡ unlessTested (readTests z embargoed recovering reported own (heldIn a i f b) i f b) a (afterRead own a i f b)
   unfolding blockStep
   read-step = refl
 
   pub write-step :
       (v : ℕ)
-      → blockStep z embargoed recovering reported own a (Write i f b v)
-      ≡ unlessTested (writeTests z embargoed recovering reported own i f b v) a (afterWrite own a i f b v)
+      → blockStep z embargoed recovering reported own takes full a (Write i f b v)
+      ≡ unlessTested (writeTests z embargoed recovering reported own takes full i f b v) a (afterWrite own a i f b v)
   unfolding blockStep
   write-step v = refl
 

@@ -1,6 +1,6 @@
 -- Reads and writes of one block. They look at the sizes in force z, at whether the client is under embargo, the server
--- recovers and the client has reported, at the client's own side of the file, and at the block and the copies of it
--- among all.
+-- recovers and the client has reported, at the client's own side of the file, at whether a write takes a free place and
+-- whether none is free, and at the block and the copies of it among all.
 use Prim.Native.Nat.{ℕ}
 use mathlib.Core.Path.{_≡_}
 use mathlib.Core.Bool.{Bool}
@@ -33,16 +33,17 @@ afterRead own a i f b =
 abbrev pub afterWrite : ClientFile → Stores → ℕ → ℕ → ℕ → ℕ → BlockAfter
 afterWrite own a i f b v = record { stores = writtenStores (own .opens .caching) i f b v a; reply = Done }
 
-abbrev pub acted : Sizes → Bool → Bool → Bool → ClientFile → Stores → BlockAct → BlockAfter
-acted z embargoed recovering reported own a (reads i f b) =
+abbrev pub acted : Sizes → Bool → Bool → Bool → ClientFile → Bool → Bool → Stores → BlockAct → BlockAfter
+acted z embargoed recovering reported own takes full a (reads i f b) =
     unlessTested (readTests z embargoed recovering reported own (heldIn a i f b) i f b) a (afterRead own a i f b)
-acted z embargoed recovering reported own a (writes i f b v) =
-    unlessTested (writeTests z embargoed recovering reported own i f b v) a (afterWrite own a i f b v)
-acted z embargoed recovering reported own a nothing = record { stores = a; reply = Done }
+acted z embargoed recovering reported own takes full a (writes i f b v) =
+    unlessTested (writeTests z embargoed recovering reported own takes full i f b v) a (afterWrite own a i f b v)
+acted z embargoed recovering reported own takes full a nothing = record { stores = a; reply = Done }
 
 -- a step that is no read and no write leaves all as it came
-unfoldable pub blockStep : Sizes → Bool → Bool → Bool → ClientFile → Stores → Step → BlockAfter
-blockStep z embargoed recovering reported own a x = acted z embargoed recovering reported own a (blockAct x)
+unfoldable pub blockStep : Sizes → Bool → Bool → Bool → ClientFile → Bool → Bool → Stores → Step → BlockAfter
+blockStep z embargoed recovering reported own takes full a x =
+    acted z embargoed recovering reported own takes full a (blockAct x)
 
 -- what the program's step replies, and what it leaves in the lent arrays, are what the definition says
 pub record Leaves

@@ -1,5 +1,6 @@
 // Reads and writes of one block. What stands at a wrapped place counts only where the step is not refused before.
 ghost use mathlib.Core.Path.{_≡_};
+ghost use mathlib.Core.Bool.{Bool};
 ghost use Rattle.sizes.specs.Sizes.{Permitted};
 ghost use Rattle.blocks.specs.Stores.{lent};
 ghost use Rattle.access.specs.BlockStep.{blockStep, Leaves};
@@ -32,11 +33,11 @@ pub fn read_block(
     dirty: &mut [bool; MAX_CELLS],
 ) -> Reply
     requires { ⌜ Permitted sizes ⌝ }
-    ensures { λ r. ⌜ Leaves
-        (blockStep sizes embargoed recovering reported own
+    ensures { λ r. ⌜ ((takes full : Bool) → Leaves
+        (blockStep sizes embargoed recovering reported own takes full
         (lent (now (blocks .entry)) (now (copies .entry)) (now (held .entry)) (now (dirty .entry)))
         (Step.Read client file block))
-        r (now (blocks .exit)) (now (copies .exit)) (now (held .exit)) (now (dirty .exit)) ⌝ }
+        r (now (blocks .exit)) (now (copies .exit)) (now (held .exit)) (now (dirty .exit))) ⌝ }
 {
     let cell = cell_of(client, file, block);
     let is_held = held[cell];
@@ -67,13 +68,16 @@ pub fn read_block(
     after.reply
 }
 
-// Writes a block: the client's copy where it may cache, else the server's.
+// Writes a block: the client's copy where it may cache, else the server's. The caller says whether the write takes a free
+// place, and whether none is free.
 pub fn write_block(
     sizes: Sizes,
     embargoed: bool,
     recovering: bool,
     reported: bool,
     own: ClientFile,
+    takes: bool,
+    full: bool,
     client: usize,
     file: usize,
     block: usize,
@@ -85,7 +89,7 @@ pub fn write_block(
 ) -> Reply
     requires { ⌜ Permitted sizes ⌝ }
     ensures { λ r. ⌜ Leaves
-        (blockStep sizes embargoed recovering reported own
+        (blockStep sizes embargoed recovering reported own takes full
         (lent (now (blocks .entry)) (now (copies .entry)) (now (held .entry)) (now (dirty .entry)))
         (Step.Write client file block value))
         r (now (blocks .exit)) (now (copies .exit)) (now (held .exit)) (now (dirty .exit)) ⌝ }
@@ -96,6 +100,8 @@ pub fn write_block(
         recovering,
         reported,
         own,
+        takes,
+        full,
         client,
         file,
         block,

@@ -9,6 +9,7 @@ use protocol::IN_RECOVERY;
 use protocol::NO_BLOCK;
 use protocol::NO_CLIENT;
 use protocol::NO_FILE;
+use protocol::NO_PLACE;
 use protocol::NOT_OPEN;
 use protocol::UNDER_EMBARGO;
 use protocol::refused_if;
@@ -57,15 +58,19 @@ pub fn write_refusal(
     recovering: bool,
     reported: bool,
     own: ClientFile,
+    takes: bool,
+    full: bool,
     client: usize,
     file: usize,
     block: usize,
 ) -> u8
-    ensures { λ r. ⌜ ((v : ℕ) → r ≡ firstOf (writeTests sizes embargoed recovering reported own client file block v)) ⌝ }
+    ensures { λ r. ⌜ ((v : ℕ) → r
+        ≡ firstOf (writeTests sizes embargoed recovering reported own takes full client file block v)) ⌝ }
 {
     let opens = own.opens;
-    let closed = refused_if(opens.writers == 0, NOT_OPEN, 0);
-    let needs = own.write_needs_server();
+    let crowded = refused_if(takes & full, NO_PLACE, 0);
+    let closed = refused_if(opens.writers == 0, NOT_OPEN, crowded);
+    let needs = own.write_needs_server() | takes;
     let away = away_refusal(embargoed, recovering, reported, needs, closed);
     refused_if(
         sizes.clients <= client,

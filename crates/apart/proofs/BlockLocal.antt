@@ -8,8 +8,10 @@ use lib.ListN.{set}
 use borrow.Author.Tests.{eqb-true, leb-false}
 use Rattle.sizes.specs.declared.sizes.Sizes.{Sizes}
 use Rattle.sizes.specs.Sizes.{Permitted, place, cell, maxClients, maxBlocks}
+use Rattle.sizes.proofs.Choosing.{split, conflict, unless}
 use Rattle.sizes.proofs.InForce.{client-fits, block-fits}
 use Rattle.decision.specs.Lists.{firstOf}
+use Rattle.records.specs.declared.record.Mode.the-variants.{Write as ForWrite}
 use Rattle.protocol.specs.declared.client.ClientFile.{ClientFile}
 use Rattle.protocol.specs.declared.reply.Reply.the-variants.{Value, Refused}
 use Rattle.protocol.specs.declared.step.Step.{Step}
@@ -18,7 +20,8 @@ use Rattle.protocol.specs.declared.step.Step.the-variants.{Report, End, Restart
 use Rattle.protocol.specs.Step.{Class, OnFile, OnBlock, OnTable, OnAll, classOf}
 use Rattle.protocol.specs.Step.{BlockAct, reads, writes, nothing, blockAct}
 use Rattle.protocol.specs.Needs.{needsServer}
-use Rattle.protocol.specs.Refusal.{underEmbargo, cutOff, notOpenAtAll, readTests, writeTests}
+use Rattle.protocol.specs.Refusal.{underEmbargo, cutOff, notOpenIn, notOpenAtAll, noPlace, readTests, writeTests}
+use Rattle.protocol.specs.Reply.{isRefused}
 use Rattle.protocol.proofs.Tested.{named-block}
 use Rattle.blocks.specs.Stores.{Stores, blockIn, copyIn, heldIn, readStores, writtenStores}
 use Rattle.access.specs.BlockStep.{BlockAfter, afterRead, afterWrite, acted, blockStep}
@@ -220,13 +223,14 @@ file-is (Restart i) = refl
 file-is (Embargo i f) = refl
 file-is (Lift i) = refl
 
-module _ (z : Sizes) (most : Permitted z) (embargoed recovering reported : Bool) (own : ClientFile) where
+module _
+    (z : Sizes) (most : Permitted z) (embargoed recovering reported : Bool) (own : ClientFile) (takes full : Bool) where
   -- the tests of a read, past those of the client, the file and the block
   abbrev later : ℕ → ℕ → ℕ → Bool → ℕ
   later i f k held =
       firstOf
-      (underEmbargo embargoed (needsServer (Read i f k) own held)
-      ∷ cutOff recovering reported (needsServer (Read i f k) own held)
+      (underEmbargo embargoed (needsServer (Read i f k) own held false)
+      ∷ cutOff recovering reported (needsServer (Read i f k) own held false)
       ∷ notOpenAtAll own
       ∷ [])
 
@@ -234,7 +238,7 @@ module _ (z : Sizes) (most : Permitted z) (embargoed recovering reported : Bool)
   readNumber i f k a = firstOf (readTests z embargoed recovering reported own (heldIn a i f k) i f k)
 
   abbrev writeNumber : ℕ → ℕ → ℕ → ℕ → ℕ
-  writeNumber i f k v = firstOf (writeTests z embargoed recovering reported own i f k v)
+  writeNumber i f k v = firstOf (writeTests z embargoed recovering reported own takes full i f k v)
 
   number-same : (i f k : ℕ) (a b : Stores) → StoresOn f a b → readNumber i f k a ≡ readNumber i f k b
   number-same i f k a b same =
@@ -261,8 +265,8 @@ module _ (z : Sizes) (most : Permitted z) (embargoed recovering reported : Bool)
       (a b : Stores) (x : BlockAct)
       → StoresOn (fileIn x) a b
       → BlockAlike (fileIn x)
-      (acted z embargoed recovering reported own a x)
-      (acted z embargoed recovering reported own b x)
+      (acted z embargoed recovering reported own takes full a x)
+      (acted z embargoed recovering reported own takes full b x)
   acted-local a b (reads i f k) same =
       left-alike f (readNumber i f k a) a (afterRead own a i f k) (readNumber i f k b) (number-same i f k a b same) same
       (λ none.
@@ -275,7 +279,7 @@ module _ (z : Sizes) (most : Permitted z) (embargoed recovering reported : Bool)
       write-alike own i f k client block a b same v)
   acted-local a b nothing same = record { reply = refl; stores = same }
 
-  acted-off : (a : Stores) (x : BlockAct) → StoresOff (fileIn x) a (acted z embargoed recovering reported own a x .stores)
+  acted-off : (a : Stores) (x : BlockAct) → StoresOff (fileIn x) a (acted z embargoed recovering reported own takes full a x .stores)
   acted-off a (reads i f k) =
       left-off f (readNumber i f k a) a (afterRead own a i f k)
       (λ none.
@@ -292,33 +296,72 @@ module _ (z : Sizes) (most : Permitted z) (embargoed recovering reported : Bool)
 pub block-local :
     (z : Sizes)
     → Permitted z
-    → (embargoed recovering reported : Bool) (own : ClientFile) (a b : Stores) (y : Step) (i f : ℕ)
+    → (embargoed recovering reported : Bool) (own : ClientFile) (takes full : Bool) (a b : Stores) (y : Step) (i f : ℕ)
     → classOf y ≡ OnBlock i f
     → StoresOn f a b
     → BlockAlike f
-    (blockStep z embargoed recovering reported own a y)
-    (blockStep z embargoed recovering reported own b y)
+    (blockStep z embargoed recovering reported own takes full a y)
+    (blockStep z embargoed recovering reported own takes full b y)
 unfolding blockStep
-block-local z most embargoed recovering reported own a b y i f is same =
+block-local z most embargoed recovering reported own takes full a b y i f is same =
     subst
     (λ (g : ℕ).
     StoresOn g a b
     → BlockAlike g
-    (acted z embargoed recovering reported own a (blockAct y))
-    (acted z embargoed recovering reported own b (blockAct y)))
+    (acted z embargoed recovering reported own takes full a (blockAct y))
+    (acted z embargoed recovering reported own takes full b (blockAct y)))
     (file-is y ∙ ap blockFile is)
-    (acted-local z most embargoed recovering reported own a b (blockAct y))
+    (acted-local z most embargoed recovering reported own takes full a b (blockAct y))
     same
 
 -- and it leaves all other files as they were
 pub block-off :
     (z : Sizes)
     → Permitted z
-    → (embargoed recovering reported : Bool) (own : ClientFile) (a : Stores) (y : Step) (i f : ℕ)
+    → (embargoed recovering reported : Bool) (own : ClientFile) (takes full : Bool) (a : Stores) (y : Step) (i f : ℕ)
     → classOf y ≡ OnBlock i f
-    → StoresOff f a (blockStep z embargoed recovering reported own a y .stores)
+    → StoresOff f a (blockStep z embargoed recovering reported own takes full a y .stores)
 unfolding blockStep
-block-off z most embargoed recovering reported own a y i f is =
-    subst (λ (g : ℕ). StoresOff g a (acted z embargoed recovering reported own a (blockAct y) .stores))
+block-off z most embargoed recovering reported own takes full a y i f is =
+    subst (λ (g : ℕ). StoresOff g a (acted z embargoed recovering reported own takes full a (blockAct y) .stores))
     (file-is y ∙ ap blockFile is)
-    (acted-off z most embargoed recovering reported own a (blockAct y))
+    (acted-off z most embargoed recovering reported own takes full a (blockAct y))
+
+-- a write that names no client or no block is refused whether it takes a place or not
+pub takes-same :
+    (z : Sizes)
+    → Permitted z
+    → (embargoed recovering reported : Bool) (own : ClientFile) (takes takes′ full : Bool) (a : Stores) (i f k v : ℕ)
+    → (i < maxClients → k < maxBlocks → takes ≡ takes′)
+    → blockStep z embargoed recovering reported own takes full a (Write i f k v)
+    ≡ blockStep z embargoed recovering reported own takes′ full a (Write i f k v)
+unfolding blockStep
+takes-same z most embargoed recovering reported own takes takes′ full a i f k v same =
+    ap (λ (n : ℕ). cond (eqb n 0) (afterWrite own a i f k v) (record { stores = a; reply = Refused n }))
+    (later-same (leb (z .clients) i) (leb (z .files) f) (leb (z .blocks) k) (rest takes) (rest takes′)
+    (λ client block.
+    ap rest
+    (same (client-fits most (leb-false (z .clients) i client)) (block-fits most (leb-false (z .blocks) k block)))))
+  where
+    rest : Bool → ℕ
+    rest t =
+        firstOf
+        (underEmbargo embargoed (needsServer (Write i f k v) own false t)
+        ∷ cutOff recovering reported (needsServer (Write i f k v) own false t)
+        ∷ notOpenIn ForWrite own
+        ∷ noPlace t full
+        ∷ [])
+
+-- a write that is done names a client and a block that are there
+pub written-named :
+    (z : Sizes)
+    → Permitted z
+    → (embargoed recovering reported : Bool) (own : ClientFile) (takes full : Bool) (a : Stores) (i f k v : ℕ)
+    → isRefused (blockStep z embargoed recovering reported own takes full a (Write i f k v) .reply) ≡ false
+    → (i < maxClients) × (k < maxBlocks)
+unfolding blockStep
+written-named z most embargoed recovering reported own takes full a i f k v done =
+    let n = writeNumber z most embargoed recovering reported own takes full i f k v in
+    write-named z most embargoed recovering reported own takes full i f k v
+    (split (eqb n 0) (λ e. eqb-true n 0 e)
+    (λ e. conflict (ap (λ (o : BlockAfter). isRefused (o .reply)) (unless (afterWrite own a i f k v) (record { stores = a; reply = Refused n }) e)) done))

@@ -3,13 +3,14 @@
 use Prim.Native.Nat.{ℕ, _<_}
 use mathlib.Core.Path.{_≡_, refl, ap, subst}
 use mathlib.Core.Bool.{Bool, true, false, cond}
+use mathlib.Core.List.{List}
 use lib.Dec.{eqb, leb}
 use borrow.Author.Tests.{eqb-true, leb-false}
 use Rattle.records.specs.declared.record.Mode.{Mode}
-use Rattle.sizes.proofs.Choosing.{split}
+use Rattle.sizes.proofs.Choosing.{split, conflict, unless}
 use Rattle.sizes.proofs.InForce.{client-fits, block-fits}
 use Rattle.sizes.specs.declared.sizes.Sizes.{Sizes}
-use Rattle.sizes.specs.Sizes.{Permitted}
+use Rattle.sizes.specs.Sizes.{Permitted, maxClients, maxBlocks}
 use Rattle.decision.specs.Lists.{firstOf}
 use Rattle.protocol.specs.declared.reply.Grant.{Grant}
 use Rattle.protocol.specs.declared.reply.Reply.{Reply}
@@ -22,10 +23,11 @@ use Rattle.protocol.specs.Step.{Class, OnFile, OnBlock, OnTable, OnAll, classOf
 use Rattle.protocol.specs.Step.{FileAct, opens, closes, flushes, answers, nothing, fileAct}
 use Rattle.protocol.specs.Client.{sideOf, withSide, keepsBlocks, answeredClient}
 use Rattle.protocol.specs.Entry.{callTo, callsOut, callsFor, grantOf, answeredEntry}
-use Rattle.protocol.specs.Refusal.{openTests, closeTests, flushTests, answerTests}
+use Rattle.protocol.specs.Reply.{isRefused}
+use Rattle.protocol.specs.Refusal.{Test, openTests, closeTests, flushTests, answerTests}
 use Rattle.protocol.proofs.Tested.{named, named-block}
 use Rattle.blocks.specs.Stores.{Stores, dirtyIn, sentBlocks, droppedUnless}
-use Rattle.file.specs.FileStep.{FileAfter, leaving, closedFile, flushedFile, answered, waiterGranted, acted, fileStep}
+use Rattle.file.specs.FileStep.{FileAfter, leaving, unlessTested, closedFile, flushedFile, answered, waiterGranted, acted, fileStep}
 use Rattle.file.specs.FileStep.{granted, waiting, afterOpen, afterClose, afterFlush, afterAnswer}
 use Rattle.file.proofs.AnswerStep.{waiter-there}
 use Rattle.apart.specs.Agree.{StoresOn, StoresOff}
@@ -328,3 +330,41 @@ pub file-off :
 unfolding fileStep
 file-off z most embargoed recovering x a y f e =
     acted-off z most embargoed recovering x a (fileAct y) f (names y f e)
+
+-- ---- a step that is done
+
+-- it has passed its tests
+done-zero :
+    (ts : List Test) (x : SharedFile) (a : Stores) (after : FileAfter)
+    → isRefused (unlessTested ts x a after .reply) ≡ false
+    → firstOf ts ≡ 0
+done-zero ts x a after done =
+    split (eqb (firstOf ts) 0) (λ e. eqb-true (firstOf ts) 0 e)
+    (λ e.
+    conflict (ap (λ (o : FileAfter). isRefused (o .reply)) (unless after (leaving x a (Refused (firstOf ts))) e)) done)
+
+-- and names what is there
+pub flush-named :
+    (z : Sizes)
+    → Permitted z
+    → (embargoed recovering : Bool) (x : SharedFile) (a : Stores) (i f b : ℕ)
+    → isRefused (fileStep z embargoed recovering x a (Flush i f b) .reply) ≡ false
+    → b < maxBlocks
+unfolding fileStep
+flush-named z most embargoed recovering x a i f b done =
+    let tests = flushTests z embargoed recovering (dirtyIn a i f b) i f b in
+    let (_, _, block) =
+    named-block z i f b (firstOf tests) _ refl (done-zero tests x a (afterFlush z x a i f b) done) in
+    block-fits most block
+
+pub answer-named :
+    (z : Sizes)
+    → Permitted z
+    → (embargoed recovering : Bool) (x : SharedFile) (a : Stores) (i f : ℕ)
+    → isRefused (fileStep z embargoed recovering x a (Answer i f) .reply) ≡ false
+    → i < maxClients
+unfolding fileStep
+answer-named z most embargoed recovering x a i f done =
+    let tests = answerTests z embargoed recovering (x .entry) i f in
+    let (client, _, _) = named z i f (firstOf tests) _ refl (done-zero tests x a (afterAnswer z x a i f) done) in
+    client-fits most client

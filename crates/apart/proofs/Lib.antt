@@ -5,6 +5,7 @@ pub mod Services
 pub mod FileStores
 pub mod FileLocal
 pub mod BlockLocal
+pub mod StoreLocal
 pub mod Commuting
 pub mod Reordering
 pub mod Meeting

@@ -19,14 +19,15 @@ use Rattle.access.specs.BlockStep.{blockStep}
 use Rattle.table.specs.TableStep.{tableStep}
 use Rattle.service.specs.declared.service.Service.{Service}
 use Rattle.service.specs.Embargo.{allStep, forgottenBelow, grantsBelow, droppedBelow}
-use Rattle.service.specs.Step.{stepOf}
+use Rattle.service.specs.Step.{moved, stepOf}
+use Rattle.service.specs.Space.{spaced, anyBelow, sumBelow}
 use Rattle.service.specs.Fresh.{fresh}
 use Rattle.service.proofs.Run.{OR, OW, CR, RD, XX, RP, EN, BT, EM, LF, grant, after}
 use Rattle.batch.specs.Batch.{Opening, batchOf}
 use Rattle.image.specs.Bytes.{low, below, flat}
 use Rattle.image.specs.Image.{imageOf, imageBytes}
-use Rattle.restore.specs.Decoded.{numberAt, entriesIn, placed, decodedFiles, decodedBlocks, decodedEmbargoes}
-use Rattle.restore.specs.Reading.{sameBytes, isImage, withBlocks, readingOf}
+use Rattle.restore.specs.Decoded.{numberAt, entriesIn, placed, decodedFiles, decodedBlocks, decodedUsed, decodedEmbargoes}
+use Rattle.restore.specs.Reading.{sameBytes, isImage, withPlaces, readingOf}
 use Rattle.apart.specs.Apart.{Got, gets, then, EitherOrder}
 
 -- step y gets p at service s, and q at service t; the letters of the two differ
@@ -51,7 +52,7 @@ write f = record { file = f; mode = Write }
 
 -- a fresh service of two clients, two files and one block, after some steps
 abbrev small : List Step → Service
-small steps = after (fresh (record { clients = 2; files = 2; blocks = 1 })) steps
+small steps = after (fresh (record { clients = 2; files = 2; blocks = 1; store = 512 })) steps
 
 -- client 1 waits for client 0, which is then put under embargo
 abbrev called : List Step
@@ -79,7 +80,7 @@ pub record Meeting : Type 0 where
   pub oneFile : Meets (small []) (OW 0 0) (OR 1 0) (Granted (grant 1 0)) Waiting
 
 pub meeting : Meeting
-unfolding fresh stepOf fileStep blockStep tableStep firstBelow allStep afterForgetting afterDropping forgottenBelow grantsBelow droppedBelow stateOf permissionAtGrant count stored batchOf isImage sameBytes imageBytes low below flat decodedFiles decodedBlocks decodedEmbargoes numberAt entriesIn placed withBlocks readingOf
+unfolding fresh stepOf moved spaced anyBelow sumBelow fileStep blockStep tableStep firstBelow allStep afterForgetting afterDropping forgottenBelow grantsBelow droppedBelow stateOf permissionAtGrant count stored batchOf isImage sameBytes imageBytes low below flat decodedFiles decodedBlocks decodedUsed decodedEmbargoes numberAt entriesIn placed withPlaces readingOf
 meeting =
     record {
       crash = record { first = refl; second = refl; differ = refl };

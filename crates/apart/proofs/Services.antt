@@ -45,6 +45,8 @@ module _ {R P Q : ℕ → Bool} where
               held = agree-sym (h .stores .held);
               dirty = agree-sym (h .stores .dirty);
             };
+        used = agree-sym (h .used);
+        free = sym (h .free);
       }
 
   pub agrees-trans : {s t u : Service} → Agrees R P Q s t → Agrees R P Q t u → Agrees R P Q s u
@@ -63,6 +65,8 @@ module _ {R P Q : ℕ → Bool} where
               held = agree-trans (g .stores .held) (h .stores .held);
               dirty = agree-trans (g .stores .dirty) (h .stores .dirty);
             };
+        used = agree-trans (g .used) (h .used);
+        free = g .free ∙ h .free;
       }
 
   pub agrees-less : {R′ P′ Q′ : ℕ → Bool} {s t : Service}
@@ -83,6 +87,8 @@ module _ {R P Q : ℕ → Bool} where
               held = less fewQ (h .stores .held);
               dirty = less fewQ (h .stores .dirty);
             };
+        used = less fewP (h .used);
+        free = h .free;
       }
 
   pub agrees-joined : {R′ P′ Q′ : ℕ → Bool} {s t : Service}
@@ -104,24 +110,34 @@ module _ {R P Q : ℕ → Bool} where
               held = joined (on .stores .held) (off .stores .held);
               dirty = joined (on .stores .dirty) (off .stores .dirty);
             };
+        used = joined (on .used) (off .used);
+        free = on .free;
       }
 
   -- everywhere
   pub agrees-whole : {s t : Service} → Agrees R P Q s t → Agrees (λ k. not (R k)) (λ k. not (P k)) (λ k. not (Q k)) s t → s ≡ t
   agrees-whole {s} {t} on off =
-      ap (λ z. made z (tableIn s .files) (tableIn s .recovering) (tableIn s .reported) (tableIn s .embargoed) (storesOf s) (s .clients)) (on .sizes)
-      ∙ ap (λ l. made (t .sizes) l (tableIn s .recovering) (tableIn s .reported) (tableIn s .embargoed) (storesOf s) (s .clients)) (whole (on .files) (off .files))
-      ∙ ap (λ b. made (t .sizes) (tableIn t .files) b (tableIn s .reported) (tableIn s .embargoed) (storesOf s) (s .clients)) (on .recovering)
-      ∙ ap (λ l. made (t .sizes) (tableIn t .files) (tableIn t .recovering) l (tableIn s .embargoed) (storesOf s) (s .clients)) (on .reported)
-      ∙ ap (λ l. made (t .sizes) (tableIn t .files) (tableIn t .recovering) (tableIn t .reported) l (storesOf s) (s .clients)) (on .embargoed)
-      ∙ ap (λ a. made (t .sizes) (tableIn t .files) (tableIn t .recovering) (tableIn t .reported) (tableIn t .embargoed) a (s .clients)) same-stores
-      ∙ ap (λ l. made (t .sizes) (tableIn t .files) (tableIn t .recovering) (tableIn t .reported) (tableIn t .embargoed) (storesOf t) l) (whole (on .clients) (off .clients))
+      ap (λ z. made z (tableIn s .files) (tableIn s .recovering) (tableIn s .reported) (tableIn s .embargoed) (storesOf s) (s .server .used) (s .server .free) (s .clients)) (on .sizes)
+      ∙ ap (λ l. made (t .sizes) l (tableIn s .recovering) (tableIn s .reported) (tableIn s .embargoed) (storesOf s) (s .server .used) (s .server .free) (s .clients)) (whole (on .files) (off .files))
+      ∙ ap (λ b. made (t .sizes) (tableIn t .files) b (tableIn s .reported) (tableIn s .embargoed) (storesOf s) (s .server .used) (s .server .free) (s .clients)) (on .recovering)
+      ∙ ap (λ l. made (t .sizes) (tableIn t .files) (tableIn t .recovering) l (tableIn s .embargoed) (storesOf s) (s .server .used) (s .server .free) (s .clients)) (on .reported)
+      ∙ ap (λ l. made (t .sizes) (tableIn t .files) (tableIn t .recovering) (tableIn t .reported) l (storesOf s) (s .server .used) (s .server .free) (s .clients)) (on .embargoed)
+      ∙ ap (λ a. made (t .sizes) (tableIn t .files) (tableIn t .recovering) (tableIn t .reported) (tableIn t .embargoed) a (s .server .used) (s .server .free) (s .clients)) same-stores
+      ∙ ap (λ l. made (t .sizes) (tableIn t .files) (tableIn t .recovering) (tableIn t .reported) (tableIn t .embargoed) (storesOf t) l (s .server .free) (s .clients)) (whole (on .used) (off .used))
+      ∙ ap (λ k. made (t .sizes) (tableIn t .files) (tableIn t .recovering) (tableIn t .reported) (tableIn t .embargoed) (storesOf t) (t .server .used) k (s .clients)) (on .free)
+      ∙ ap (λ l. made (t .sizes) (tableIn t .files) (tableIn t .recovering) (tableIn t .reported) (tableIn t .embargoed) (storesOf t) (t .server .used) (t .server .free) l) (whole (on .clients) (off .clients))
     where
-      made : Sizes → List Entry → Bool → List Bool → List Bool → Stores → List Sides → Service
-      made z files recovering reported embargoed a clients =
+      made : Sizes → List Entry → Bool → List Bool → List Bool → Stores → List Bool → ℕ → List Sides → Service
+      made z files recovering reported embargoed a used free clients =
           record {
             sizes = z;
-            server = record { table = record { files = files; recovering = recovering; reported = reported; embargoed = embargoed }; blocks = a .blocks };
+            server =
+                record {
+                  table = record { files = files; recovering = recovering; reported = reported; embargoed = embargoed };
+                  blocks = a .blocks;
+                  used = used;
+                  free = free;
+                };
             clients = clients;
             copies = a .copies;
             held = a .held;

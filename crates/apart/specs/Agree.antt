@@ -37,8 +37,8 @@ StoresOn f a b = StoresAgree (blocksOf f) (copiesOf f) a b
 abbrev pub StoresOff : ℕ → Stores → Stores → Type 0
 StoresOff f a b = StoresAgree (λ k. not (blocksOf f k)) (λ k. not (copiesOf f k)) a b
 
--- services that agree on their sizes, on what the server has of the clients, and on the files, places and cells where R, P
--- and Q hold
+-- services that agree on their sizes, on what the server has of the clients, on the free places, and on the files,
+-- places and cells where R, P and Q hold
 pub record Agrees (R P Q : ℕ → Bool) (s t : Service) : Type 0 where
   pub sizes : s .sizes ≡ t .sizes
   pub recovering : tableIn s .recovering ≡ tableIn t .recovering
@@ -47,6 +47,8 @@ pub record Agrees (R P Q : ℕ → Bool) (s t : Service) : Type 0 where
   pub files : AgreeOn R noEntry (tableIn s .files) (tableIn t .files)
   pub clients : AgreeOn R noSides (s .clients) (t .clients)
   pub stores : StoresAgree P Q (storesOf s) (storesOf t)
+  pub used : AgreeOn P false (s .server .used) (t .server .used)
+  pub free : s .server .free ≡ t .server .free
 
 -- on file f, and on all others
 abbrev pub On : ℕ → Service → Service → Type 0

@@ -1,5 +1,6 @@
 -- "Two steps on different files, neither of them a batch, image, crash, report, end, restart, embargo or lift, give the
--- same replies and the same final service in either order, refusals included" (document 02, Wish 12).
+-- same replies and the same final service in either order, refusals included" (document 02, Wish 12). "Wish 12 then
+-- excludes steps that take or free a place" (Wish 13): each of the two, done first, leaves the number of free places.
 use Prim.Native.Nat.{ℕ}
 use mathlib.Core.Path.{_≡_}
 use mathlib.Core.Bool.{Bool, true, false}
@@ -34,6 +35,10 @@ gets s x = let o = stepOf s x in record { reply = o .reply; calls = o .calls; gr
 abbrev pub then : Service → Step → Service
 then s x = stepOf s x .service
 
+-- the step takes no place of the store, and frees none
+abbrev pub LeavesFree : Service → Step → Type 0
+LeavesFree s x = then s x .server .free ≡ s .server .free
+
 -- "the same replies and the same final service in either order"
 pub record EitherOrder (s : Service) (x y : Step) : Type 0 where
   pub first : gets (then s y) x ≡ gets s x
@@ -45,4 +50,5 @@ abbrev pub FilesCommute : Type 0
 FilesCommute =
     (s : Service) (x y : Step)
     → onOneFile x ≡ true → onOneFile y ≡ true → eqb (fileOf x) (fileOf y) ≡ false
+    → LeavesFree s x → LeavesFree s y
     → EitherOrder s x y

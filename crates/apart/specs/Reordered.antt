@@ -8,12 +8,17 @@ use lib.Dec.{eqb}
 use Rattle.protocol.specs.declared.step.Step.{Step}
 use Rattle.protocol.specs.Step.{fileOf}
 use Rattle.service.specs.declared.service.Service.{Service}
-use Rattle.apart.specs.Apart.{onOneFile, Got, gets, then}
+use Rattle.apart.specs.Apart.{onOneFile, Got, gets, then, LeavesFree}
 
 -- every step of the list is on one file
 abbrev pub AllOnOne : List Step → Type 0
 AllOnOne [] = Unit {0}
 AllOnOne (x ∷ xs) = (onOneFile x ≡ true) × AllOnOne xs
+
+-- none of them, as the list is played, takes or frees a place
+abbrev pub AllLeaveFree : Service → List Step → Type 0
+AllLeaveFree s [] = Unit {0}
+AllLeaveFree s (x ∷ xs) = LeavesFree s x × AllLeaveFree (then s x) xs
 
 -- the steps on file f, in their order
 unfoldable pub stepsOn : ℕ → List Step → List Step
@@ -50,8 +55,19 @@ pub record Reorders (s : Service) (xs ys : List Step) : Type 0 where
   pub service : thenAll s xs ≡ thenAll s ys
 
 abbrev pub ListsReorder : Type 0
-ListsReorder = (s : Service) (xs ys : List Step) → AllOnOne xs → AllOnOne ys → SameByFile xs ys → Reorders s xs ys
+ListsReorder =
+    (s : Service) (xs ys : List Step)
+    → AllOnOne xs
+    → AllOnOne ys
+    → AllLeaveFree s xs
+    → SameByFile xs ys
+    → Reorders s xs ys
 
 -- Played apart, file by file, each part on a copy of the service, every step gets what it gets in the whole list.
 abbrev pub PlayedApart : Type 0
-PlayedApart = (s : Service) (xs : List Step) → AllOnOne xs → (f : ℕ) → told s (stepsOn f xs) ≡ toldOn f (told s xs)
+PlayedApart =
+    (s : Service) (xs : List Step)
+    → AllOnOne xs
+    → AllLeaveFree s xs
+    → (f : ℕ)
+    → told s (stepsOn f xs) ≡ toldOn f (told s xs)

@@ -17,7 +17,8 @@ use Rattle.protocol.specs.Reply.{noCalls, noGrants}
 use Rattle.file.specs.FileStep.{fileStep}
 use Rattle.table.specs.TableStep.{tableStep}
 use Rattle.service.specs.declared.service.Service.{Service}
-use Rattle.service.specs.Step.{stepOf}
+use Rattle.service.specs.Step.{moved, stepOf}
+use Rattle.service.specs.Space.{spaced, anyBelow, sumBelow}
 use Rattle.service.specs.Fresh.{fresh}
 use Rattle.service.proofs.Run.{freshDefault, OR, OW, XX, grant, after}
 use Rattle.batch.specs.declared.batch.OpenReply.{OpenReply}
@@ -87,7 +88,7 @@ pub record Examples : Type 0 where
   pub emptyService : batchOf busy 5 [] .service ≡ busy
 
 pub examples : Examples
-unfolding fresh stepOf fileStep tableStep firstBelow stateOf permissionAtGrant count stored batchOf
+unfolding fresh stepOf moved spaced anyBelow sumBelow fileStep tableStep firstBelow stateOf permissionAtGrant count stored batchOf
 examples =
     record {
       pairs = refl;

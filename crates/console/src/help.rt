@@ -86,8 +86,10 @@ fn write_steps() -> bool {
           \x20 XX          crash the server        RP C        report after a crash\n\
           \x20 EN          end the recovery        BT C        restart the client\n\
           \x20 EM C F      put under embargo       LF C        lift the embargo\n\
-          As the first line, for other sizes than 8 clients, 32 files and 4 blocks:\n\
-          \x20 SET N F B   N clients, F files, B blocks in each: at most 8, 64 and 8\n\
+          As the first line, for other sizes than 8 clients, 32 files of 4 blocks, and 512\n\
+          places in the store:\n\
+          \x20 SET N F B [P]   N clients, F files, B blocks in each, P places in the store:\n\
+          \x20                 at most 8, 64, 8 and 512\n\
           \n",
     )
 }

@@ -11,7 +11,7 @@ use Rattle.service.specs.Fresh.{fresh}
 use Rattle.stepfile.specs.declared.parsed.Parsed.{Parsed}
 use Rattle.stepfile.specs.Played.{serviceAfter, endOf}
 use Rattle.stepfile.specs.Transcript.{lines, transcript, after}
-use Rattle.stepfile.proofs.Longest.{too-long}
+use Rattle.stepfile.proofs.Longest.{no-step}
 use Rattle.stepfile.proofs.LongLines.{Blind, reply-blind}
 use Rattle.telling.specs.Run.{Leg, input}
 use Rattle.telling.proofs.WholeRun.{run-tells, run-comes}
@@ -26,7 +26,7 @@ use Rattle.counting.proofs.Alike.{traffic-alike}
 use Rattle.counting.proofs.Traces.{service-after, total-is}
 
 module _ (settable : Bool) where
-  -- of a line of more than 86 bytes the same is counted, whatever it is: nothing
+  -- of a line of more than 87 bytes the same is counted, whatever it is: nothing
   blind : Blind (counting settable .say) (counting settable .next)
   blind =
       record {
@@ -40,7 +40,7 @@ module _ (settable : Bool) where
               service = serviceAfter settable (c .service) n m;
               totals = countedAll (stationsOf (c .service)) (traceIn (c .service) p) (c .totals);
             })
-            (too-long l l-long ∙ sym (too-long m m-long));
+            (no-step l l-long ∙ sym (no-step m m-long));
       }
 
   silent : (ls : List (List ℕ)) (c : Counted) (n : ℕ) → transcript (counting settable .say) (counting settable .next) c n ls ≡ []

@@ -19,7 +19,8 @@ use Rattle.service.specs.declared.outcome.Outcome.{Outcome}
 use Rattle.service.specs.Contents.{sizesOf, tableIn, entryAt, embargoedAt}
 use Rattle.service.specs.Embargo.{forgottenBelow, putAside, droppedBelow, told, restarted, granting, answering, grantsAside}
 use Rattle.service.specs.Embargo.{unlessTested, allStep, marked}
-use Rattle.service.specs.Step.{stepOf}
+use Rattle.service.specs.Step.{moved, stepOf}
+use Rattle.service.specs.Space.{spaced}
 use Rattle.stepfile.specs.declared.parsed.Parsed.{Parsed}
 use Rattle.stepfile.specs.declared.parsed.Parsed.the-variants.{Is, NoStep}
 use Rattle.stepfile.specs.Grammar.{parseLine}
@@ -61,7 +62,7 @@ tests-stay ts s done e = by (eqb (firstOf ts) 0)
     by false = refl
 
 pub step-stays : (s : Service) (x : Step) → stepOf s x .service .sizes ≡ s .sizes
-unfolding stepOf allStep
+unfolding stepOf moved spaced allStep
 step-stays s (Open m i f) = refl
 step-stays s (Close m i f) = refl
 step-stays s (Read i f b) = refl

@@ -9,7 +9,8 @@ use Rattle.access.specs.BlockStep.{blockStep}
 use Rattle.file.specs.FileStep.{fileStep, afterForgetting, afterDropping}
 use Rattle.table.specs.TableStep.{tableStep}
 use Rattle.service.specs.Embargo.{forgottenBelow, grantsBelow, droppedBelow, allStep}
-use Rattle.service.specs.Step.{stepOf}
+use Rattle.service.specs.Step.{moved, stepOf}
+use Rattle.service.specs.Space.{spaced, anyBelow, sumBelow}
 use Rattle.service.specs.Fresh.{fresh}
 use Rattle.stepfile.specs.Text.{bytes, decimal, digitsOf}
 use Rattle.stepfile.specs.Grammar.{digitsOn, numeral, argument, shapeOf, shaped, step, parseLine}
@@ -43,5 +44,5 @@ pub record WholeCase : Type 0 where
       ≡ bytes "0 2 0 0 0 2 0 0 0\n1 1 0 0 0 0 0 0 0\n2 1 0 0 0 0 0 0 0\nall 4 0 0 0 2 0 0 0\n"
 
 pub wholeCase : WholeCase
-unfolding fresh stepOf fileStep blockStep tableStep firstBelow allStep afterForgetting afterDropping forgottenBelow grantsBelow droppedBelow stateOf orderedCalls permissionAtGrant count stored digitsOf decimal digitsOn numeral argument shapeOf shaped step parseLine settingOf lines after serviceAfter numberIn callRecords openRecords recordsOf columnsText stationsText sumOf tracesOf trafficFile
+unfolding fresh stepOf moved spaced anyBelow sumBelow fileStep blockStep tableStep firstBelow allStep afterForgetting afterDropping forgottenBelow grantsBelow droppedBelow stateOf orderedCalls permissionAtGrant count stored digitsOf decimal digitsOn numeral argument shapeOf shaped step parseLine settingOf lines after serviceAfter numberIn callRecords openRecords recordsOf columnsText stationsText sumOf tracesOf trafficFile
 wholeCase = record { case = refl; nobody = refl; blocks = refl; grants = refl; embargo = refl }

@@ -1,4 +1,4 @@
--- Of a line of more than 86 bytes the same is said and noted, whatever it is. Assumes nothing.
+-- Of a line of more than 87 bytes the same is said and noted, whatever it is. Assumes nothing.
 use Prim.Native.Nat.{ℕ, _<_}
 use mathlib.Core.Path.{_≡_, sym, ap, _∙_}
 use mathlib.Core.Bool.{Bool, cond, _&&_}
@@ -9,7 +9,7 @@ use Rattle.service.specs.declared.outcome.Outcome.{Outcome}
 use Rattle.stepfile.specs.declared.setting.Setting.{Setting}
 use Rattle.stepfile.specs.Grammar.{parseLine}
 use Rattle.stepfile.specs.Played.{outcomeOf}
-use Rattle.stepfile.proofs.Longest.{too-long, no-setting}
+use Rattle.stepfile.proofs.Longest.{no-step, no-setting}
 use Rattle.stepfile.proofs.LongLines.{Blind, outcome-alike}
 use Rattle.ledger.specs.declared.annotated.Annotated.{Annotated}
 use Rattle.ledger.specs.declared.ledger.Ledger.{Ledger}
@@ -19,16 +19,16 @@ use Rattle.sentences.specs.Explained.{noStepText, settingText, saidOfLine, expl
 
 module _ (fresh : Bool) (t : Annotated) (n : ℕ) where
   -- in words that do not name the line
-  said-long : (l : List ℕ) → 86 < length l
+  said-long : (l : List ℕ) → 87 < length l
       → saidOfLine fresh (t .service) (t .ledger) n l (parseLine l) ≡ cond (fresh && eqb n 1) noStepText noStepText
   said-long l long =
-      ap (saidOfLine fresh (t .service) (t .ledger) n l) (too-long l long)
+      ap (saidOfLine fresh (t .service) (t .ledger) n l) (no-step l long)
       ∙ ap (λ (x : Setting). cond (fresh && eqb n 1) (settingText x) noStepText) (no-setting l long)
 
-  noted-long : (l : List ℕ) → 86 < length l → ledgerOf (t .service) (t .ledger) n (parseLine l) ≡ t .ledger
-  noted-long l long = ap (ledgerOf (t .service) (t .ledger) n) (too-long l long)
+  noted-long : (l : List ℕ) → 87 < length l → ledgerOf (t .service) (t .ledger) n (parseLine l) ≡ t .ledger
+  noted-long l long = ap (ledgerOf (t .service) (t .ledger) n) (no-step l long)
 
-  module _ (l m : List ℕ) (l-long : 86 < length l) (m-long : 86 < length m) where
+  module _ (l m : List ℕ) (l-long : 87 < length l) (m-long : 87 < length m) where
     abbrev after : List ℕ → Outcome
     after l = outcomeOf fresh (t .service) n l (parseLine l)
 

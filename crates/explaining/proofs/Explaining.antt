@@ -197,7 +197,7 @@ module _
 
   abbrev held : List ℕ
   held =
-      saidOf fresh (sceneHeld sizes x before t flags₀ (l₀ .since) (seen .told) (seen .caching))
+      saidOf fresh (sceneHeld sizes x before t flags₀ (a .dirty) (l₀ .since) (seen .told) (seen .caching))
       (wholeHeld before t lines) x (o .calls) (o .reply)
 
   -- whether the flags have the client under embargo
@@ -205,8 +205,8 @@ module _
   aside-is = sym (getD-listed maxClients (λ j. getD flags₀ (maxClients + 1 + j) false) false i client-in)
 
   scene-is :
-      sceneHeld sizes x before t flags₀ (l₀ .since) (seen .told) (seen .caching)
-      ≡ sceneBy sizes (tableIn s .reported) (tableIn s .embargoed) (entryAt s f) (entryAt (o .service) f) (sidesAt s f)
+      sceneHeld sizes x before t flags₀ (a .dirty) (l₀ .since) (seen .told) (seen .caching)
+      ≡ sceneBy sizes (tableIn s .reported) (tableIn s .embargoed) (s .server .used) (o .service .dirty) (entryAt s f) (entryAt (o .service) f) (sidesAt s f)
       (waitingSince l₀ f) (embargoedAt s i) (embargoedSince l₀ i) (seen .told) (seen .caching)
   scene-is =
       let came : entryHeld before f ≡ entryAt s f =
@@ -214,7 +214,7 @@ module _
       let after : entryHeld t f ≡ entryAt (o .service) f =
       entry-there given t flags a f file-in ∙ ap (λ (k : Service). entryAt k f) service-is in
       λ k.
-      sceneBy sizes (tableIn s .reported) (tableIn s .embargoed) (came k) (after k) (sides-is k) (waitingSince l₀ f)
+      sceneBy sizes (tableIn s .reported) (tableIn s .embargoed) (s .server .used) (service-is k .dirty) (came k) (after k) (sides-is k) (waitingSince l₀ f)
       (aside-is k) (embargoedSince l₀ i) (seen .told) (seen .caching)
 
   -- a file in force, after the step
@@ -308,7 +308,7 @@ module _
       → callsSaid said words ≡ calls
       → WroteIfRoom explainedRoom out₀ at
       (explainedText n reply calls granted
-      (saidOf fresh (sceneHeld sizes x before t flags₀ (l₀ .since) (seen .told) (seen .caching))
+      (saidOf fresh (sceneHeld sizes x before t flags₀ (a .dirty) (l₀ .since) (seen .told) (seen .caching))
       (wholeHeld before t lines) x calls reply))
       out at′)
       → at′ ≤ at + explainedRoom

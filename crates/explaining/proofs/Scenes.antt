@@ -36,12 +36,15 @@ use Rattle.ledger.specs.Ledger.{waitingSince, embargoedSince, mayCache, stepTol
 use Rattle.sentences.specs.Scene.{Scene, sceneOf, Whole, wholeOf}
 use Rattle.sentences.specs.Explained.{besidesText, forgottenText, isEmbargo, clashText, saidOf}
 
-abbrev pub sceneBy : Sizes → List Bool → List Bool → Entry → Entry → Sides → ℕ → Bool → ℕ → Told → Bool → Scene
-sceneBy z reported embargoed e e′ sides since aside embargo told caching =
+abbrev pub sceneBy :
+    Sizes → List Bool → List Bool → List Bool → List Bool → Entry → Entry → Sides → ℕ → Bool → ℕ → Told → Bool → Scene
+sceneBy z reported embargoed used dirty e e′ sides since aside embargo told caching =
     record {
       sizes = z;
       reported = reported;
       embargoed = embargoed;
+      used = used;
+      dirty = dirty;
       entry = e;
       after = e′;
       sides = sides;
@@ -132,12 +135,12 @@ no-file-refused P s (Lift i) h second third = absurd (some-file s h)
 -- ---- the same sentence
 
 module _
-    (fresh : Bool) (x : Step) (kinds : List ℕ) (z : Sizes) (p q : List Bool) (e₁ e₂ a₁ a₂ : Entry) (d₁ d₂ : Sides)
+    (fresh : Bool) (x : Step) (kinds : List ℕ) (z : Sizes) (p q u v : List Bool) (e₁ e₂ a₁ a₂ : Entry) (d₁ d₂ : Sides)
     (n₁ n₂ : ℕ) (b₁ b₂ : Bool) (m₁ m₂ : ℕ) (t₁ t₂ : Told) (c₁ c₂ : Bool) (w₁ w₂ : Whole) where
   abbrev Same : Reply → Type 0
   Same r =
-      saidOf fresh (sceneBy z p q e₁ a₁ d₁ n₁ b₁ m₁ t₁ c₁) w₁ x kinds r
-      ≡ saidOf fresh (sceneBy z p q e₂ a₂ d₂ n₂ b₂ m₂ t₂ c₂) w₂ x kinds r
+      saidOf fresh (sceneBy z p q u v e₁ a₁ d₁ n₁ b₁ m₁ t₁ c₁) w₁ x kinds r
+      ≡ saidOf fresh (sceneBy z p q u v e₂ a₂ d₂ n₂ b₂ m₂ t₂ c₂) w₂ x kinds r
 
   -- a refusal looks at the entry, and at the lines of the wait and of the embargo; that of a report that clashes at all
   -- files after it
@@ -200,7 +203,7 @@ module _ (fresh : Bool) (s : Service) (l : Ledger) (x : Step) (z : Sizes) (sized
 
   abbrev scene : Sizes → Scene
   scene k =
-      sceneBy k (tableIn s .reported) (tableIn s .embargoed) (entryAt s g) (entryAt (o .service) g) (sidesAt s g)
+      sceneBy k (tableIn s .reported) (tableIn s .embargoed) (s .server .used) (o .service .dirty) (entryAt s g) (entryAt (o .service) g) (sidesAt s g)
       (waitingSince l g) (embargoedAt s i) (embargoedSince l i) told caching
 
   abbrev Alike : Type 0
@@ -222,14 +225,14 @@ module _ (fresh : Bool) (s : Service) (l : Ledger) (x : Step) (z : Sizes) (sized
       mod-eq-of-lt (file-fits (in-force-permitted (s .sizes)) (leb-false (sizesOf s .files) (fileOf x) some)) in
       split (refused s x)
       (λ not-ok.
-      same-refused fresh x (o .calls) (sizesOf s) _ _ _ _ _ _ _ _ _ _ _ _ _ _ _ _ _ _ whole (wholeOf s l x) (o .reply)
+      same-refused fresh x (o .calls) (sizesOf s) _ _ _ _ _ _ _ _ _ _ _ _ _ _ _ _ _ _ _ _ whole (wholeOf s l x) (o .reply)
       not-ok
       (ap (entryAt s) here)
       (ap (waitingSince l) here)
       (ap (embargoedSince l) own)
       clashes)
       (λ ok.
-      same-accepted fresh x (o .calls) (sizesOf s) _ _ _ _ _ _ _ _ _ _ _ _ _ _ _ _ _ _ whole (wholeOf s l x) (o .reply)
+      same-accepted fresh x (o .calls) (sizesOf s) _ _ _ _ _ _ _ _ _ _ _ _ _ _ _ _ _ _ _ _ whole (wholeOf s l x) (o .reply)
       ok
       (ap (entryAt s) here)
       (ap (entryAt (o .service)) here)

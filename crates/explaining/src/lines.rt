@@ -136,6 +136,7 @@ pub fn explain_lines(
             &came,
             seen,
             table,
+            dirty,
             written,
             writers,
             copied,

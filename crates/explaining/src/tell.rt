@@ -121,6 +121,7 @@ pub fn tell_step(
     came: &[bool; FLAGS],
     seen: Seen,
     table: &[u64; WORDS],
+    dirty: &[bool; MAX_CELLS],
     written: &mut [u64; NOTES],
     writers: &mut [u8; NOTES],
     copied: &mut [u64; MAX_CELLS],
@@ -140,7 +141,7 @@ pub fn tell_step(
         (explainedText line reply calls granted
         (saidOf fresh
         (sceneHeld sizes step (now (before .entry)) (now (table .entry)) (now (came .entry))
-        (now (since .entry)) (seen .told) (seen .caching))
+        (now (dirty .entry)) (now (since .entry)) (seen .told) (seen .caching))
         (wholeHeld (now (before .entry)) (now (table .entry))
         (linesAt (entered (now (written .entry)) (now (writers .entry)) [] [])))
         step calls reply))
@@ -167,6 +168,7 @@ pub fn tell_step(
         before,
         table,
         came,
+        dirty,
         written,
         writers,
         since,

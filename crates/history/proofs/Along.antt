@@ -14,6 +14,8 @@ use Rattle.service.proofs.NothingBehind.{fresh-owed}
 use Rattle.service.proofs.Reached.{Reached, reached-fresh, reached-after, promised-at, owed-after, behind-at}
 use Rattle.service.proofs.NeverClash.{passes-at}
 use Rattle.service.proofs.SetAside.{unseen, is-told}
+use Rattle.service.proofs.Crowding.{crowded}
+use Rattle.service.proofs.SpaceKept.{after-kept, fresh-kept, kept-accounted}
 use Rattle.ledger.proofs.AllBooked.{all-booked}
 use Rattle.ledger.proofs.Provenance.{Agrees, agrees-after, line-told, fresh-agrees}
 use Rattle.history.specs.Past.{Past, noPast, pastAfter, pastAll}
@@ -23,10 +25,12 @@ module _ (z : Sizes) where
   pub record Sound (s : Service) (p : Past) : Type 0 where
     pub reached : Reached z s (p .memory) (p .recovery)
     pub owed : Owed (inForce z) s
+    pub stored : Rattle.service.proofs.StoreKept.Kept s
     pub agrees : Agrees (inForce z) s (p .memory) (p .ledger) (p .steps)
 
   pub sound-fresh : Sound (fresh z) noPast
-  sound-fresh = record { reached = reached-fresh z; owed = fresh-owed z; agrees = fresh-agrees z }
+  sound-fresh =
+      record { reached = reached-fresh z; owed = fresh-owed z; stored = fresh-kept z; agrees = fresh-agrees z }
 
   -- the promises hold wherever a history has come
   pub kept : (s : Service) (p : Past) → Sound s p → Kept s p
@@ -40,11 +44,13 @@ module _ (z : Sizes) where
               unseen = unseen s x;
               lifted = is-told s x;
               passes = passes-at z s (p .memory) (p .recovery) (h .reached) x;
+              crowded = crowded s x;
               told = line-told (in-force-permitted z) s (p .memory) (p .ledger) (p .steps) x
                   (all-booked z s (p .memory) (p .recovery) (h .reached)) (h .agrees) read;
             };
         nothingBehind = behind-at z s (p .memory) (p .recovery) (h .reached) (h .owed);
         forgotten = h .reached .forgotten;
+        accounted = kept-accounted s (h .stored);
       }
 
   -- a step, and steps one after the other, on line n
@@ -54,6 +60,7 @@ module _ (z : Sizes) where
         record {
           reached = reached-after z s (p .memory) (p .recovery) (h .reached) x;
           owed = owed-after z s (p .memory) (p .recovery) (h .reached) (h .owed) x;
+          stored = after-kept s x (h .stored);
           agrees =
               agrees-after (in-force-permitted z) s (p .memory) (p .ledger) (p .steps) n x some
               (all-booked z s (p .memory) (p .recovery) (h .reached)) (h .agrees);

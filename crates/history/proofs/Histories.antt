@@ -10,7 +10,8 @@ use Rattle.protocol.specs.declared.step.Step.the-variants.{Crash}
 use Rattle.service.specs.declared.service.Server.{Server}
 use Rattle.service.specs.declared.service.Service.{Service}
 use Rattle.service.specs.Contents.{sizesOf}
-use Rattle.service.specs.Step.{stepOf}
+use Rattle.service.specs.Step.{moved, stepOf}
+use Rattle.service.specs.Space.{spaced}
 use Rattle.table.specs.TableStep.{tableStep}
 use Rattle.service.specs.Demand3.{after}
 use Rattle.service.specs.Fresh.{fresh}
@@ -25,7 +26,7 @@ use Rattle.history.specs.Past.{Past, noPast, pastAfter, pastAll}
 use Rattle.history.specs.Promises.{Member, AllKept, Premises, Histories}
 use Rattle.history.proofs.Along.{Sound, sound-fresh, kept, step-sound, steps-sound}
 use Rattle.history.proofs.Reading.{reading-is-crash}
-use Rattle.history.proofs.Moving.{moved-is, taken-aside, taken-in, moved-reached}
+use Rattle.history.proofs.Moving.{moved-is, taken-aside, taken-in, moved-stored, moved-reached}
 
 -- bytes that are refused are no image
 refused-is : (s : Service) (bytes : List ℕ) → refusesImage s bytes ≡ true → isImage (sizesOf s) bytes ≡ false
@@ -49,7 +50,9 @@ module _ (z : Sizes) (n : ℕ) (some : 0 < n) (s : Service) (p : Past) (h : Soun
   reading-sound bytes premise =
       split (refusesImage s bytes)
       (λ e. as-steps _ [] _ (untouched s bytes (refused-is s bytes e)) (when _ _ e))
-      (λ e. as-steps _ (Crash ∷ []) _ (reading-is-crash z s (p .memory) (p .recovery) (h .reached) bytes (premise e)) (unless _ _ e))
+      (λ e.
+      as-steps _ (Crash ∷ []) _
+      (reading-is-crash z s (p .memory) (p .recovery) (h .reached) (h .stored) bytes (premise e)) (unless _ _ e))
 
   -- the old server's clients, with the standby after its reading
   module _ (v : Server) (whole : Whole v) (bytes : List ℕ) (u : Unchanged s bytes) where
@@ -57,12 +60,15 @@ module _ (z : Sizes) (n : ℕ) (some : 0 < n) (s : Service) (p : Past) (h : Soun
     crash = step-sound z n some s p Crash h
 
     moved-sound : Sound z (readingOf (servedBy v s) bytes .service) (pastAfter n s Crash p)
-    unfolding stepOf tableStep
+    unfolding stepOf moved spaced tableStep
     moved-sound =
-        subst⁻¹ (λ (t : Service). Sound z t (pastAfter n s Crash p)) (moved-is z s (p .memory) (p .recovery) (h .reached) v whole bytes u)
+        subst⁻¹ (λ (t : Service). Sound z t (pastAfter n s Crash p))
+        (moved-is z s (p .memory) (p .recovery) (h .reached) (h .stored) v whole bytes u)
         (record {
-          reached = moved-reached z s (p .memory) (p .recovery) (h .reached) v whole bytes u;
-          owed = λ i f here. h .owed i f (taken-in z s (p .memory) (p .recovery) (h .reached) v whole bytes u here);
+          reached = moved-reached z s (p .memory) (p .recovery) (h .reached) (h .stored) v whole bytes u;
+          owed = λ i f here.
+              h .owed i f (taken-in z s (p .memory) (p .recovery) (h .reached) (h .stored) v whole bytes u here);
+          stored = moved-stored z s (p .memory) (p .recovery) (h .reached) (h .stored) v whole bytes u;
           agrees =
               record {
                 sizes = h .agrees .sizes;
@@ -75,7 +81,8 @@ module _ (z : Sizes) (n : ℕ) (some : 0 < n) (s : Service) (p : Past) (h : Soun
                 held = crash .agrees .held;
                 aside = λ i hi out.
                     crash .agrees .aside i hi
-                    (sym (taken-aside z s (p .memory) (p .recovery) (h .reached) v whole bytes u i hi) ∙ out);
+                    (sym (taken-aside z s (p .memory) (p .recovery) (h .reached) (h .stored) v whole bytes u i hi)
+                    ∙ out);
               };
         })
 

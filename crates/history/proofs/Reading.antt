@@ -1,12 +1,12 @@
 -- An accepted reading of an image is a crash, on its premise. Assumes nothing.
-use Prim.Native.Nat.{ℕ, zero, suc, _<_}
+use Prim.Native.Nat.{ℕ, zero, suc, _-_, _<_}
 use mathlib.Core.Path.{_≡_, refl, sym, ap, _∙_, subst}
-use mathlib.Core.Bool.{false}
+use mathlib.Core.Bool.{false, cond}
 use mathlib.Core.List.{List}
 use native.Mathlib.Omega.{arith}
 use lib.ListN.{getD}
 use Rattle.records.specs.Version.{firstVersion, asRead}
-use Rattle.sizes.proofs.Choosing.{unless}
+use Rattle.sizes.proofs.Choosing.{split, when, unless}
 use Rattle.sizes.specs.declared.sizes.Sizes.{Sizes}
 use Rattle.sizes.specs.Sizes.{maxFiles, place, inForce}
 use Rattle.decision.specs.Lists.{stored}
@@ -18,26 +18,31 @@ use Rattle.protocol.specs.Entry.{crashedEntry}
 use Rattle.table.specs.TableStep.{noEntry, entryOf, isEmbargoed, tableStep}
 use Rattle.service.specs.declared.service.Service.{Service}
 use Rattle.service.specs.declared.outcome.Outcome.{Outcome}
-use Rattle.service.specs.Contents.{sizesOf, tableIn, entryAt}
-use Rattle.service.specs.Step.{stepOf}
+use Rattle.service.specs.Contents.{sizesOf, tableIn, entryAt, blockAt, usedAt}
+use Rattle.service.specs.Step.{moved, stepOf}
+use Rattle.service.specs.Space.{usedIn, spaced}
 use Rattle.service.specs.Demand3.{after, Memory, Recovery}
 use Rattle.service.proofs.Views.{Sized}
 use Rattle.service.proofs.Reached.{Reached, reached-sized, version-not-zero}
-use Rattle.restore.specs.Reading.{withVersion, withVersions, withBlocks, withEmbargoes, withContents, readingOf}
+use Rattle.service.proofs.StoreKept.{Kept}
+use Rattle.restore.specs.Reading.{withVersion, withVersions, withPlaces, withBlocks, withUsed, withEmbargoes}
+use Rattle.restore.specs.Reading.{withContents, readingOf}
+use Rattle.restore.specs.Exact.{usedValues}
+use Rattle.restore.proofs.GivenBlocks.{used-value}
 use Rattle.restore.proofs.ReadsBack.{reads-back}
 use Rattle.history.specs.Event.{Unchanged}
 
--- taking the blocks that stand there already
-blocks-same :
-    (k n : ℕ) (others l : List ℕ)
-    → ((f b : ℕ) → f < k → b < n → getD others (place f b) 0 ≡ getD l (place f b) 0)
-    → withBlocks k n others l ≡ l
-unfolding withBlocks
-blocks-same zero n others l same = refl
-blocks-same (suc k) n others l same =
-    ap (stored n (place k) (λ b. getD others (place k b) 0))
-    (blocks-same k n others l (λ f b hf hb. same f b (omega arith) hb))
-    ∙ stored-same n (place k) (λ b. getD others (place k b) 0) l 0 (λ b hb. same k b (omega arith) hb)
+-- taking what stands in the places of blocks already
+places-same {ℓ} :
+    {A : Type ℓ} (d : A) (k n : ℕ) (others l : List A)
+    → ((f b : ℕ) → f < k → b < n → getD others (place f b) d ≡ getD l (place f b) d)
+    → withPlaces d k n others l ≡ l
+unfolding withPlaces
+places-same d zero n others l same = refl
+places-same d (suc k) n others l same =
+    ap (stored n (place k) (λ b. getD others (place k b) d))
+    (places-same d k n others l (λ f b hf hb. same f b (omega arith) hb))
+    ∙ stored-same n (place k) (λ b. getD others (place k b) d) l d (λ b hb. same k b (omega arith) hb)
 
 module _
     (z : Sizes)
@@ -45,6 +50,7 @@ module _
     (m : Memory)
     (r : Recovery)
     (h : Reached z s m r)
+    (room : Kept s)
     (bytes : List ℕ)
     (u : Unchanged s bytes) where
   abbrev n : ℕ
@@ -71,7 +77,7 @@ module _
 
   -- a crash keeps the version
   crashed-version : (f : ℕ) → f < n → entryOf files f .version ≡ entryAt s f .version
-  unfolding stepOf tableStep
+  unfolding stepOf moved spaced tableStep
   crashed-version f hf =
       let inside : f < maxFiles = file-fits (in-force-permitted (s .sizes)) hf in
       ap (λ (e : Entry). e .version)
@@ -83,11 +89,24 @@ module _
       stored-same n (λ f. f) (λ f. withVersion (entryOf files f) (asRead (entryOf others f .version))) files noEntry
       (λ f hf. ap (withVersion (entryOf files f)) (version-same f hf ∙ sym (crashed-version f hf)))
 
-  blocks-stay :
-      withBlocks n (sizesOf s .blocks) (u .written .server .blocks) (s .server .blocks) ≡ s .server .blocks
-  blocks-stay =
-      blocks-same n (sizesOf s .blocks) (u .written .server .blocks) (s .server .blocks)
-      (λ f b hf hb. sym (u .blocks f b hf hb))
+  -- the blocks that the image gives back
+  abbrev pub values : List ℕ
+  values = usedValues (u .written .server .used) (u .written .server .blocks)
+
+  -- one that is not used is 0, at the server too
+  pub value-same : (f b : ℕ) → f < n → b < sizesOf s .blocks → getD values (place f b) 0 ≡ blockAt s f b
+  value-same f b hf hb =
+      used-value (u .written .server .used) (u .written .server .blocks) (place f b)
+      ∙ (λ k. cond (sym (u .used f b hf hb) k) (sym (u .blocks f b hf hb) k) 0)
+      ∙ split (usedAt s f b) (λ e. when _ _ e) (λ e. unless _ _ e ∙ sym (room .unused f b hf hb e))
+
+  blocks-stay : withBlocks n (sizesOf s .blocks) values (s .server .blocks) ≡ s .server .blocks
+  blocks-stay = places-same 0 n (sizesOf s .blocks) values (s .server .blocks) value-same
+
+  used-stays : withUsed n (sizesOf s .blocks) (u .written .server .used) (s .server .used) ≡ s .server .used
+  used-stays =
+      places-same false n (sizesOf s .blocks) (u .written .server .used) (s .server .used)
+      (λ f b hf hb. sym (u .used f b hf hb))
 
   embargoes-stay :
       withEmbargoes (sizesOf s .clients) (tableIn (u .written) .embargoed) (tableIn s .embargoed) ≡ tableIn s .embargoed
@@ -95,8 +114,9 @@ module _
       stored-same (sizesOf s .clients) (λ i. i) (isEmbargoed (tableIn (u .written) .embargoed))
       (tableIn s .embargoed) false (λ i hi. sym (u .embargoes i hi))
 
-  contents-same : withContents crashed others (u .written .server .blocks) (tableIn (u .written) .embargoed) ≡ crashed
-  unfolding stepOf tableStep
+  contents-same :
+      withContents crashed others (u .written .server .used) values (tableIn (u .written) .embargoed) ≡ crashed
+  unfolding stepOf moved spaced tableStep
   contents-same =
       λ k.
       record {
@@ -111,6 +131,8 @@ module _
                     embargoed = embargoes-stay k;
                   };
               blocks = blocks-stay k;
+              used = used-stays k;
+              free = sizesOf s .store - usedIn (sizesOf s) (used-stays k);
             };
         clients = s .clients;
         copies = s .copies;

@@ -1,7 +1,7 @@
 -- A standby that has read the image of another server, whatever it held before: as far as the sizes go, it is what a
 -- crash of that server leaves. Assumes nothing.
-use Prim.Native.Nat.{ℕ, _≤_, _<_}
-use mathlib.Core.Path.{_≡_, refl, sym, ap, _∙_, fun-ext, subst⁻¹}
+use Prim.Native.Nat.{ℕ, _-_, _≤_, _<_}
+use mathlib.Core.Path.{_≡_, refl, sym, ap, _∙_, fun-ext, subst, subst⁻¹}
 use mathlib.Core.Bool.{Bool, true, false, cond, not, _&&_}
 use mathlib.Core.List.{List}
 use native.Mathlib.Omega.{arith}
@@ -29,15 +29,20 @@ use Rattle.table.specs.TableStep.{noEntry, entryOf, isEmbargoed, crashed}
 use Rattle.service.specs.declared.service.Server.{Server}
 use Rattle.service.specs.declared.service.Service.{Service}
 use Rattle.service.specs.Aside.{Unknown, Forgotten}
-use Rattle.service.specs.Contents.{tableIn, entryAt, blockAt, embargoedAt, clientAt, copyAt, heldAt, dirtyAt}
-use Rattle.service.specs.Contents.{withTable}
+use Rattle.service.specs.Contents.{tableIn, entryAt, blockAt, usedAt, embargoedAt, clientAt, copyAt, heldAt}
+use Rattle.service.specs.Contents.{dirtyAt, withTable, withSpace}
+use Rattle.service.specs.Space.{countedIn, usedIn, isWithin, isKnown}
 use Rattle.service.specs.Demand3.{Memory}
-use Rattle.service.proofs.Views.{Sized, isIn, viewOf, heardOf, same-view}
+use Rattle.service.proofs.Tests.{and-false}
+use Rattle.service.proofs.Views.{Sized, sized-stored, isIn, viewOf, heardOf, same-view}
 use Rattle.service.proofs.Invariant.{Recovers, rowIn}
 use Rattle.service.proofs.TableSteps.{TableStep, crash-step}
 use Rattle.service.proofs.Forgotten.{entries-of, forgotten-by}
-use Rattle.restore.specs.Reading.{withVersion, withVersions, withBlocks, withEmbargoes}
-use Rattle.restore.proofs.GivenBlocks.{length-taken, taken-block}
+use Rattle.service.proofs.Committed.{used-counted, dirty-counted, counted-cases, shrinks-counted, none-counted}
+use Rattle.service.proofs.Committed.{reads-own}
+use Rattle.service.proofs.StoreKept.{KeptIn, Kept}
+use Rattle.restore.specs.Reading.{withVersion, withVersions, withBlocks, withUsed, withEmbargoes}
+use Rattle.restore.proofs.GivenBlocks.{length-taken, taken-place}
 use Rattle.history.specs.Event.{servedBy, Whole}
 
 -- a list that is filled whole does not show what it held
@@ -66,6 +71,11 @@ unknown-seen n i e x below same h =
           sym (call-seen n x i below) ∙ ap (λ (y : Entry). callTo n y i) same ∙ call-seen n e i below ∙ h .notCalled;
     }
 
+-- what a crash leaves
+abbrev pub leftBy : Sizes → Service → Service
+leftBy z x =
+    withSpace (withTable x (crashed z (tableIn x))) (x .server .used) (z .store - usedIn z (x .server .used))
+
 -- z are the sizes in force
 module _
     {z : Sizes}
@@ -75,6 +85,7 @@ module _
     (v : Server)
     (whole : Whole v)
     (entries : List Entry)
+    (used : List Bool)
     (blocks : List ℕ)
     (embargoed : List Bool) where
   abbrev n : ℕ
@@ -101,18 +112,24 @@ module _
 
   -- both after a crash
   abbrev crashedO : Service
-  crashedO = withTable o (crashed z (v .table))
+  crashedO = leftBy z o
 
   abbrev crashedS : Service
-  crashedS = withTable s (crashed z (tableIn s))
+  crashedS = leftBy z s
 
-  step-o : TableStep z o crashedO (λ i. ltb i n && embargoedAt o i) (crashedView n)
+  step-o : TableStep z o (withTable o (crashed z (v .table))) (λ i. ltb i n && embargoedAt o i) (crashedView n)
   step-o = crash-step most sized-o
 
-  step-s : TableStep z s crashedS (λ i. ltb i n && embargoedAt s i) (crashedView n)
+  step-s : TableStep z s (withTable s (crashed z (tableIn s))) (λ i. ltb i n && embargoedAt s i) (crashedView n)
   step-s = crash-step most sized
 
-  -- the standby after the reading, with the versions, blocks and embargoes that it took as far as these sizes go
+  sized-crashed : Sized z crashedS
+  sized-crashed =
+      sized-stored (withTable s (crashed z (tableIn s))) (s .server .used) (z .store - usedIn z (s .server .used))
+      (step-s .sized)
+
+  -- the standby after the reading, with the versions, used blocks, blocks and embargoes that it took as far as these
+  -- sizes go; what is not used is free
   abbrev pub contents : Sizes → Service
   contents y =
       record {
@@ -127,6 +144,8 @@ module _
                     embargoed = withEmbargoes (y .clients) embargoed (v .table .embargoed);
                   };
               blocks = withBlocks (y .files) (y .blocks) blocks (v .blocks);
+              used = withUsed (y .files) (y .blocks) used (v .used);
+              free = y .store - usedIn y (withUsed (y .files) (y .blocks) used (v .used));
             };
         clients = s .clients;
         copies = s .copies;
@@ -145,7 +164,7 @@ module _
             length-stored (z .files) (λ f. f) (λ f. withVersion (entryOf (tableIn crashedO .files) f) (asRead (entryOf entries f .version)))
             (tableIn crashedO .files)
             ∙ step-o .sized .entries;
-        words = length-taken (z .blocks) (most .blocks) blocks (v .blocks) (whole .places) (z .files);
+        words = length-taken 0 (z .blocks) (most .blocks) blocks (v .blocks) (whole .places) (z .files);
         reports = step-o .sized .reports;
         embargoes = length-stored n (λ i. i) (isEmbargoed embargoed) (v .table .embargoed) ∙ whole .embargoes;
         files = sized .files;
@@ -187,6 +206,86 @@ module _
           embargo-alike i hi,
         ))
         (λ e. rw e))
+
+  -- the same blocks as the old server has
+  block-alike :
+      (f b : ℕ)
+      → f < z .files
+      → b < z .blocks
+      → getD blocks (place f b) 0 ≡ blockAt s f b
+      → blockAt moved f b ≡ blockAt s f b
+  block-alike f b hf hb value =
+      taken-place 0 (z .blocks) (most .blocks) blocks (v .blocks) (whole .places) (z .files) (most .files) f b hb
+      ∙ when _ _ (lt-ltb f (z .files) hf)
+      ∙ value
+
+  -- the same used blocks, blocks and embargoes as the old server has: the store holds what it held
+  module _
+      (room : Kept s)
+      (marks : (f b : ℕ) → f < z .files → b < z .blocks → getD used (place f b) false ≡ usedAt s f b)
+      (values : (f b : ℕ) → f < z .files → b < z .blocks → getD blocks (place f b) 0 ≡ blockAt s f b)
+      (aside : (i : ℕ) → i < n → isEmbargoed embargoed i ≡ embargoedAt s i) where
+    abbrev usedNow : List Bool
+    usedNow = moved .server .used
+
+    used-alike : (f b : ℕ) → f < z .files → b < z .blocks → usedAt moved f b ≡ usedAt s f b
+    used-alike f b hf hb =
+        taken-place false (z .blocks) (most .blocks) used (v .used) (whole .flags) (z .files) (most .files) f b hb
+        ∙ when _ _ (lt-ltb f (z .files) hf)
+        ∙ marks f b hf hb
+
+    stored : KeptIn z (isWithin s) (isKnown s) (s .server .used) (s .server .free) (s .server .blocks) (s .dirty)
+    stored =
+        subst
+        (λ (y : Sizes).
+        KeptIn y (isWithin s) (isKnown s) (s .server .used) (s .server .free) (s .server .blocks) (s .dirty))
+        (sized .sizes) room
+
+    -- what is counted of some clients without embargo has its place
+    has-place :
+        (who : ℕ → Bool)
+        → ((i : ℕ) → i < n → who i ≡ true → isWithin s i ≡ true)
+        → countedIn z who usedNow (s .dirty) ≤ z .store
+    has-place who part =
+        let fewer : countedIn z who usedNow (s .dirty) ≤ countedIn z (isWithin s) (s .server .used) (s .dirty) =
+        shrinks-counted z (isWithin s) (s .server .used) (s .dirty) who usedNow (s .dirty)
+        (λ f b hf hb e.
+        counted-cases n who usedNow (s .dirty) f b e
+        (λ is. used-counted n (isWithin s) (s .server .used) (s .dirty) f b (sym (used-alike f b hf hb) ∙ is))
+        (λ i hi has d. dirty-counted n (isWithin s) (s .server .used) (s .dirty) f b i hi (part i hi has) d)) in
+        omega (arith, fewer, stored .fits)
+
+    -- nobody has reported
+    none-known : (i : ℕ) → i < n → isKnown moved i ≡ false
+    none-known i hi =
+        ap (λ t. isWithin moved i && t) (none-reported (v .table .reported) (whole .reports) i hi)
+        ∙ and-false (isWithin moved i)
+
+    few-used : usedIn z usedNow ≤ z .store
+    few-used =
+        let all : countedIn z (λ i. false) usedNow (s .dirty) ≡ usedIn z usedNow =
+        none-counted z (λ i. false) usedNow (s .dirty) (λ i hi. refl) in
+        omega (arith, all, has-place (λ i. false) (λ i hi e. conflict e refl))
+
+    pub moved-kept : Kept moved
+    moved-kept =
+        subst⁻¹
+        (λ (y : Sizes).
+        KeptIn y (isWithin moved) (isKnown moved) usedNow (moved .server .free) (moved .server .blocks) (s .dirty))
+        (sized .sizes)
+        (record {
+          flags = length-taken false (z .blocks) (most .blocks) used (v .used) (whole .flags) (z .files);
+          words = sized-moved .words;
+          fits = has-place (isWithin moved) (λ i hi e. sym (ap not (embargo-alike aside i hi)) ∙ e);
+          makes =
+              rw (
+                none-counted z (isKnown moved) usedNow (s .dirty) none-known,
+                reads-own (z .store) (z .store - usedIn z usedNow) (omega arith),
+              )
+              (omega (arith, few-used));
+          unused = λ f b hf hb e.
+              block-alike f b hf hb (values f b hf hb) ∙ stored .unused f b hf hb (sym (used-alike f b hf hb) ∙ e);
+        })
 
   -- the same versions, blocks and embargoes as the old server has, and as many records and calls
   module _
@@ -230,9 +329,7 @@ module _
     view-alike f b hf hb =
         same-view
         (seen-alike f hf)
-        (taken-block (z .blocks) (most .blocks) blocks (v .blocks) (whole .places) (z .files) (most .files) f b hb
-        ∙ when _ _ (lt-ltb f (z .files) hf)
-        ∙ values f b hf hb)
+        (block-alike f b hf hb (values f b hf hb))
         (λ j. ap (λ t. cond t (clientAt s j f) noClient) (in-alike aside j))
         (λ j. ap (λ t. cond t (copyAt s j f b) 0) (in-alike aside j))
         (λ j. ap (λ t. cond t (heldAt s j f b) false) (in-alike aside j))
@@ -258,7 +355,7 @@ module _
         forgotten-by sized-moved
         (λ f hf i hi out.
         unknown-seen n i (entryAt crashedS f) (entryAt moved f) hi (seen-alike f hf)
-        (entries-of (step-s .sized) h f hf i hi (sym (embargo-alike aside i hi) ∙ out)))
+        (entries-of sized-crashed h f hf i hi (sym (embargo-alike aside i hi) ∙ out)))
         (record {
           aside = λ i hi out. none-reported (v .table .reported) (whole .reports) i hi;
           running = λ runs. conflict refl runs;

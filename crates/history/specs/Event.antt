@@ -13,7 +13,7 @@ use Rattle.protocol.specs.Reply.{isRefused}
 use Rattle.table.specs.TableStep.{entryOf}
 use Rattle.service.specs.declared.service.Server.{Server}
 use Rattle.service.specs.declared.service.Service.{Service}
-use Rattle.service.specs.Contents.{sizesOf, entryAt, blockAt, embargoedAt}
+use Rattle.service.specs.Contents.{sizesOf, entryAt, blockAt, usedAt, embargoedAt}
 use Rattle.service.specs.Demand3.{after}
 use Rattle.batch.specs.Batch.{Opening, opensOf, listTooLong, batchOf}
 use Rattle.image.specs.Image.{imageOf}
@@ -62,8 +62,9 @@ stepsOf s (move v bytes) = cond (refusesImage (servedBy v s) bytes) [] (Crash �
 
 -- "On the premise that the server's blocks and versions hadn't changed since the image": the bytes are the image of a
 -- service, and the versions, as they are read, and blocks that the server has now are those of that service. So are
--- the embargoes: "Wish 2's premise covers them" (document 02, Wish 9). That it fits its fields is known of every service
--- that a program writes: `write_image` ensures it.
+-- the embargoes: "Wish 2's premise covers them" (document 02, Wish 9), and which blocks are used: "Past the reading of an
+-- image the sum holds on Wish 2's premise, used blocks unchanged too" (Wish 13). That it fits its fields is known of every
+-- service that a program writes: `write_image` ensures it.
 pub record Unchanged (s : Service) (bytes : List ℕ) : Type 0 where
   pub written : Service
   pub fits : Fits written
@@ -71,6 +72,7 @@ pub record Unchanged (s : Service) (bytes : List ℕ) : Type 0 where
   pub image : imageOf written ≡ bytes
   pub versions : (f : ℕ) → f < sizesOf s .files → asRead (entryAt s f .version) ≡ asRead (entryAt written f .version)
   pub blocks : (f b : ℕ) → f < sizesOf s .files → b < sizesOf s .blocks → blockAt s f b ≡ blockAt written f b
+  pub used : (f b : ℕ) → f < sizesOf s .files → b < sizesOf s .blocks → usedAt s f b ≡ usedAt written f b
   pub embargoes : (i : ℕ) → i < sizesOf s .clients → embargoedAt s i ≡ embargoedAt written i
 
 -- the arrays of a server have their lengths, as in every server that a program holds
@@ -79,6 +81,7 @@ pub record Whole (v : Server) : Type 0 where
   pub reports : length (v .table .reported) ≡ maxClients
   pub embargoes : length (v .table .embargoed) ≡ maxClients
   pub places : length (v .blocks) ≡ maxPlaces
+  pub flags : length (v .used) ≡ maxPlaces
   pub records : (f : ℕ) → f < maxFiles → length (entryOf (v .table .files) f .records) ≡ maxClients
   pub calls : (f : ℕ) → f < maxFiles → length (entryOf (v .table .files) f .calls) ≡ maxClients
 

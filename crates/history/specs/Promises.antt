@@ -1,5 +1,6 @@
 -- What is promised of every history, from the fresh service of any sizes on: Demand 3, nothing left behind, what an
--- embargo is worth, that no report clashes, and what is told of each read. A new promise is a field here.
+-- embargo is worth, that no report clashes, that space does not run out later, and what is told of each read. A new
+-- promise is a field here.
 use Prim.Native.Nat.{ℕ, _<_}
 use mathlib.Core.List.{List, [], _∷_}
 use Rattle.sizes.specs.declared.sizes.Sizes.{Sizes}
@@ -10,6 +11,7 @@ use Rattle.service.specs.Demand3.{ReadIsLatest, EndRestores}
 use Rattle.service.specs.Fresh.{fresh}
 use Rattle.service.specs.NothingBehind.{NothingBehind}
 use Rattle.service.specs.Reports.{Passes}
+use Rattle.service.specs.Store.{Accounted, Crowded}
 use Rattle.ledger.specs.Provenance.{LineIsTold}
 use Rattle.history.specs.Event.{Event, step, next, stepsOf, Premise}
 use Rattle.history.specs.Past.{Past, noPast, pastAll}
@@ -32,6 +34,8 @@ pub record StepKept (s : Service) (p : Past) (x : Step) : Type 0 where
   pub lifted : Told s x
   -- "Reports of stations that follow the rules always pass": it is not refused with 22
   pub passes : Passes s x
+  -- "23 when such a write finds nothing free, and only then"
+  pub crowded : Crowded s x
   -- what `explain` says of a read is so
   pub told : LineIsTold s (p .ledger) (p .steps) x
 
@@ -42,6 +46,8 @@ pub record Kept (s : Service) (p : Past) : Type 0 where
   pub nothingBehind : NothingBehind s
   -- "The server forgets it": it has nothing of a client under embargo
   pub forgotten : Forgotten s
+  -- "From a fresh service free, used and reserved make the size after every step outside recovery"
+  pub accounted : Accounted s
 
 -- before each member of a history, and at its end
 abbrev pub AllKept : Service → Past → List Member → Type 0

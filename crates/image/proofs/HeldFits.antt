@@ -82,11 +82,13 @@ held-fits s vs known =
     let files = table .0 in
     let embargoed = table .1 .1 .1 .0 in
     let blocks = server .1 .1 .1 .0 in
+    let used = server .1 .1 .1 .1 .0 in
     let entry : (f : ℕ) → f < maxFiles → (u : Val) × Is (row entryType.the-type) (entryAt s f) (u ∷ []) =
     one entryType.the-type (tableIn s .files) maxFiles (files .0) (files .1 .0 .1) (files .1 .1) noEntry in
     record {
       entries = long entryType.the-type (tableIn s .files) maxFiles (files .0) (files .1 .0 .1) (files .1 .1);
       places = length-unmapped ℕ (s .server .blocks) maxPlaces (blocks .1 .0 .1);
+      used = length-unmapped Bool (s .server .used) maxPlaces (used .1 .0 .1);
       embargoes = length-unmapped Bool (tableIn s .embargoed) maxClients (embargoed .1 .0 .1);
       records = λ f hf. entry-records (entryAt s f) _ (entry f hf .1);
       version = λ f hf. entry-version (entryAt s f) _ (entry f hf .1);

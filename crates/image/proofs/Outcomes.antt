@@ -40,14 +40,14 @@ module _
     (force : z ≡ sizesOf s)
     (d image : List ℕ)
     (n : ℕ)
-    (wrote : Wrote d 0 (imageBytes z (tableIn s .files) (s .server .blocks) (tableIn s .embargoed)) image n)
+    (wrote : Wrote d 0 (imageBytes z (tableIn s .files) (s .server .used) (s .server .blocks) (tableIn s .embargoed)) image n)
     (short waiting later refusal : ℕ)
     (is-short : short ≡ cond (ltb (length out) n) 16 0)
     (are-waiting : waiting ≡ count (z .files) (λ f. waits (z .clients) (entryOf (tableIn s .files) f)))
     (is-later : later ≡ cond (ltb 0 waiting) 15 short)
     (is-refusal : refusal ≡ cond (tableIn s .recovering) 5 later) where
-  bytes-are : imageBytes z (tableIn s .files) (s .server .blocks) (tableIn s .embargoed) ≡ imageOf s
-  bytes-are = ap (λ z. imageBytes z (tableIn s .files) (s .server .blocks) (tableIn s .embargoed)) force
+  bytes-are : imageBytes z (tableIn s .files) (s .server .used) (s .server .blocks) (tableIn s .embargoed) ≡ imageOf s
+  bytes-are = ap (λ z. imageBytes z (tableIn s .files) (s .server .used) (s .server .blocks) (tableIn s .embargoed)) force
 
   length-is : n ≡ length (imageOf s)
   length-is = wrote .next ∙ zero-add _ ∙ ap length bytes-are

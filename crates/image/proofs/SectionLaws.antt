@@ -1,12 +1,11 @@
 -- Sections: their entries one after the other, their lengths, and the count before them. Assumes nothing.
 use Prim.Native.Nat.{ℕ, zero, suc, _+_, _-_, _*_, _/_, _%_, _<_}
 use mathlib.Core.Path.{_≡_, refl, sym, _∙_, ap}
-use mathlib.Core.Bool.{Bool, true, false, not}
+use mathlib.Core.Bool.{Bool, true, false}
 use mathlib.Core.List.{List, [], _∷_, _++_, append-assoc, append-nil}
 use native.Mathlib.Nat.{mul-zero, mul-suc, mul-div-cancel-left}
 use native.Mathlib.Numerals.{add-one}
 use native.Mathlib.Omega.{arith}
-use lib.Dec.{eqb}
 use lib.ListN.{length, getD, set, length-append}
 use Rattle.records.specs.Record.{isOpen}
 use Rattle.sizes.specs.declared.sizes.Sizes.{Sizes}
@@ -78,13 +77,13 @@ wide-opens z entries =
     let r = recordAt (entryOf entries f) i in
     wide-if 5 (isOpen r) (openBytes i f r) refl))
 
-pub wide-blocks : (z : Sizes) (blocks : List ℕ) → Wide 10 (blockEntries z blocks)
+pub wide-blocks : (z : Sizes) (used : List Bool) (blocks : List ℕ) → Wide 10 (blockEntries z used blocks)
 unfolding low
-wide-blocks z blocks =
-    wide-below 10 (z .files) (λ f. fileBlocks (z .blocks) f blocks)
+wide-blocks z used blocks =
+    wide-below 10 (z .files) (λ f. fileBlocks (z .blocks) f used blocks)
     (λ f.
-    wide-below 10 (z .blocks) (λ b. blockEntry f b (getD blocks (place f b) 0))
-    (λ b. let v = getD blocks (place f b) 0 in wide-if 10 (not (eqb v 0)) (blockBytes f b v) refl))
+    wide-below 10 (z .blocks) (λ b. blockEntry f b (getD used (place f b) false) (getD blocks (place f b) 0))
+    (λ b. wide-if 10 (getD used (place f b) false) (blockBytes f b (getD blocks (place f b) 0)) refl))
 
 pub wide-embargoes : (z : Sizes) (embargoed : List Bool) → Wide 1 (embargoEntries z embargoed)
 wide-embargoes z embargoed =

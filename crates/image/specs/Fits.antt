@@ -14,6 +14,7 @@ use Rattle.service.specs.Contents.{tableIn, entryAt, blockAt}
 pub record Fits (s : Service) : Type 0 where
   pub entries : length (tableIn s .files) ≡ maxFiles
   pub places : length (s .server .blocks) ≡ maxPlaces
+  pub used : length (s .server .used) ≡ maxPlaces
   pub embargoes : length (tableIn s .embargoed) ≡ maxClients
   pub records : (f : ℕ) → f < maxFiles → length (entryAt s f .records) ≡ maxClients
   pub version : (f : ℕ) → f < maxFiles → numberOf (entryAt s f .version) < 4294967296

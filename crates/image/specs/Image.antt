@@ -1,9 +1,9 @@
 -- The image of the server (document 02, Wish 2): "The server shall be written into a lent buffer as sections in a fixed
 -- order". z are the sizes in force; what lies past them is not there.
 use Prim.Native.Nat.{ℕ}
-use mathlib.Core.Bool.{Bool, cond, not, _&&_}
+use mathlib.Core.Bool.{Bool, false, cond, not, _&&_}
 use mathlib.Core.List.{List, [], _∷_, _++_}
-use lib.Dec.{eqb, ltb, leb}
+use lib.Dec.{ltb, leb}
 use lib.ListN.{getD}
 use Rattle.records.specs.declared.record.ClientRecord.{ClientRecord}
 use Rattle.records.specs.Version.{numberOf, asRead, isFirstVersion}
@@ -17,9 +17,10 @@ use Rattle.service.specs.declared.service.Service.{Service}
 use Rattle.service.specs.Contents.{sizesOf, tableIn}
 use Rattle.image.specs.Bytes.{low, below, entryIf, section}
 
--- "the image begins with the three numbers, one byte each and no count" (Wish 7)
+-- "the image begins with the three numbers, one byte each and no count" (Wish 7); the size of the store: "the image
+-- gives it after the other three, in two bytes low first" (Wish 13)
 abbrev pub sizeBytes : Sizes → List ℕ
-sizeBytes z = z .clients ∷ z .files ∷ z .blocks ∷ []
+sizeBytes z = z .clients ∷ z .files ∷ z .blocks ∷ low 2 (z .store)
 
 -- "Files: number, version in four bytes low first, last writer or 255, for each file not at version 1 without last
 -- writer." "a version of 0 [reads] as 1", "a station field of 8 or more reads as none" (document 01)
@@ -54,18 +55,19 @@ fileOpens n f e = below n (λ i. openEntry i f (recordAt e i))
 abbrev pub openEntries : Sizes → List Entry → List (List ℕ)
 openEntries z entries = below (z .files) (λ f. fileOpens (z .clients) f (entryOf entries f))
 
--- "Non-zero blocks: file, block, value in eight bytes low first."
+-- "Non-zero blocks: file, block, value in eight bytes low first."; "The image lists used blocks in place of non-zero
+-- ones" (Wish 13)
 abbrev pub blockBytes : ℕ → ℕ → ℕ → List ℕ
 blockBytes f b v = f ∷ b ∷ low 8 v
 
-abbrev pub blockEntry : ℕ → ℕ → ℕ → List (List ℕ)
-blockEntry f b v = entryIf (not (eqb v 0)) (blockBytes f b v)
+abbrev pub blockEntry : ℕ → ℕ → Bool → ℕ → List (List ℕ)
+blockEntry f b t v = entryIf t (blockBytes f b v)
 
-abbrev pub fileBlocks : ℕ → ℕ → List ℕ → List (List ℕ)
-fileBlocks n f blocks = below n (λ b. blockEntry f b (getD blocks (place f b) 0))
+abbrev pub fileBlocks : ℕ → ℕ → List Bool → List ℕ → List (List ℕ)
+fileBlocks n f used blocks = below n (λ b. blockEntry f b (getD used (place f b) false) (getD blocks (place f b) 0))
 
-abbrev pub blockEntries : Sizes → List ℕ → List (List ℕ)
-blockEntries z blocks = below (z .files) (λ f. fileBlocks (z .blocks) f blocks)
+abbrev pub blockEntries : Sizes → List Bool → List ℕ → List (List ℕ)
+blockEntries z used blocks = below (z .files) (λ f. fileBlocks (z .blocks) f used blocks)
 
 -- "a last section of embargoed stations, ascending" (Wish 9)
 abbrev pub embargoBytes : ℕ → List ℕ
@@ -77,17 +79,18 @@ embargoEntry i t = entryIf t (embargoBytes i)
 abbrev pub embargoEntries : Sizes → List Bool → List (List ℕ)
 embargoEntries z embargoed = below (z .clients) (λ i. embargoEntry i (isEmbargoed embargoed i))
 
--- the image of a table's entries, of the blocks and of the embargoes
-unfoldable pub imageBytes : Sizes → List Entry → List ℕ → List Bool → List ℕ
-imageBytes z entries blocks embargoed =
+-- the image of a table's entries, of the blocks with whether each is used, and of the embargoes
+unfoldable pub imageBytes : Sizes → List Entry → List Bool → List ℕ → List Bool → List ℕ
+imageBytes z entries used blocks embargoed =
     sizeBytes z
     ++ (section (fileEntries z entries)
-    ++ (section (openEntries z entries) ++ (section (blockEntries z blocks) ++ section (embargoEntries z embargoed))))
+    ++ (section (openEntries z entries)
+    ++ (section (blockEntries z used blocks) ++ section (embargoEntries z embargoed))))
 
 -- of any service, hand-made ones included
 abbrev pub imageOf : Service → List ℕ
-imageOf s = imageBytes (sizesOf s) (tableIn s .files) (s .server .blocks) (tableIn s .embargoed)
+imageOf s = imageBytes (sizesOf s) (tableIn s .files) (s .server .used) (s .server .blocks) (tableIn s .embargoed)
 
 -- the longest image: 64 files, 512 opens, 512 blocks and 8 embargoes
 abbrev pub imageRoom : ℕ
-imageRoom = 8083
+imageRoom = 8085

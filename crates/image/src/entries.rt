@@ -6,7 +6,8 @@ ghost use mathlib.Core.List.{[], _∷_, _++_};
 ghost use lib.ListN.{length};
 ghost use Rattle.writer.specs.Buffer.{Wrote};
 ghost use Rattle.image.specs.Bytes.{low, flat};
-ghost use Rattle.image.specs.Image.{lastRead, fileEntry, openBytes, openEntry, blockEntry, embargoEntry};
+ghost use Rattle.image.specs.Image.{lastRead, fileEntry, openBytes, openEntry, blockBytes, blockEntry};
+ghost use Rattle.image.specs.Image.{embargoEntry};
 use crate::numbers::put_eight;
 use crate::numbers::put_four;
 use protocol::Entry;
@@ -94,17 +95,35 @@ fn permission_byte(caching: bool) -> u8
     if caching { 1 } else { 0 }
 }
 
-// A block that is zero is not listed.
-pub fn put_block(out: &mut [u8], at: usize, file: usize, block: usize, value: u64) -> usize
+// A block that is not used is not listed.
+pub fn put_block(
+    out: &mut [u8],
+    at: usize,
+    file: usize,
+    block: usize,
+    used: bool,
+    value: u64,
+) -> usize
     requires { ⌜ file < 256 ⌝ }
     requires { ⌜ block < 256 ⌝ }
     requires { ⌜ at + 10 ≤ length (now out) ⌝ }
-    ensures { λ r. ⌜ Wrote (now (out .entry)) at (flat (blockEntry file block value)) (now (out .exit)) r ⌝ }
+    ensures { λ r. ⌜ Wrote (now (out .entry)) at (flat (blockEntry file block used value)) (now (out .exit)) r ⌝ }
     ensures { λ r. ⌜ r ≤ at + 10 ⌝ }
 {
-    if value == 0 {
-        return at;
+    if used {
+        put_block_fields(out, at, file, block, value)
+    } else {
+        at
     }
+}
+
+fn put_block_fields(out: &mut [u8], at: usize, file: usize, block: usize, value: u64) -> usize
+    requires { ⌜ file < 256 ⌝ }
+    requires { ⌜ block < 256 ⌝ }
+    requires { ⌜ at + 10 ≤ length (now out) ⌝ }
+    ensures { λ r. ⌜ Wrote (now (out .entry)) at (blockBytes file block value) (now (out .exit)) r ⌝ }
+    ensures { λ r. ⌜ r ≤ at + 10 ⌝ }
+{
     let second = put_byte(out, at, file as u8);
     let third = put_byte(out, second, block as u8);
     put_eight(out, third, value)

@@ -11,6 +11,7 @@ use crate::entries::put_embargo;
 use crate::entries::put_file;
 use crate::entries::put_open;
 use crate::numbers::put_count;
+use crate::numbers::put_two;
 use protocol::Entry;
 use sizes::MAX_BLOCKS;
 use sizes::MAX_CLIENTS;
@@ -20,7 +21,7 @@ use sizes::Sizes;
 use writer::put_byte;
 
 // The longest image.
-pub const IMAGE_ROOM: usize = 8083;
+pub const IMAGE_ROOM: usize = 8085;
 
 fn put_files(out: &mut [u8], at: usize, sizes: Sizes, files: [Entry; MAX_FILES]) -> usize
     requires { ⌜ Permitted sizes ⌝ }
@@ -77,6 +78,7 @@ fn put_file_blocks(
     out: &mut [u8],
     at: usize,
     file: usize,
+    used: &[bool; MAX_PLACES],
     blocks: &[u64; MAX_PLACES],
     each: usize,
 ) -> usize
@@ -84,29 +86,36 @@ fn put_file_blocks(
     requires { ⌜ file < maxFiles ⌝ }
     requires { ⌜ at + 80 ≤ length (now out) ⌝ }
     ensures { λ r. ⌜ Wrote (now (out .entry)) at
-        (flat (fileBlocks each file (now (blocks .entry)))) (now (out .exit)) r ⌝ }
+        (flat (fileBlocks each file (now (used .entry)) (now (blocks .entry)))) (now (out .exit)) r ⌝ }
     ensures { λ r. ⌜ r ≤ at + 80 ⌝ }
 {
     let mut next = at;
     let mut block: usize = 0;
     while block < each {
-        next = put_block(out, next, file, block, blocks[file * MAX_BLOCKS + block]);
+        let place = file * MAX_BLOCKS + block;
+        next = put_block(out, next, file, block, used[place], blocks[place]);
         block += 1;
     }
     next
 }
 
-fn put_blocks(out: &mut [u8], at: usize, sizes: Sizes, blocks: &[u64; MAX_PLACES]) -> usize
+fn put_blocks(
+    out: &mut [u8],
+    at: usize,
+    sizes: Sizes,
+    used: &[bool; MAX_PLACES],
+    blocks: &[u64; MAX_PLACES],
+) -> usize
     requires { ⌜ Permitted sizes ⌝ }
     requires { ⌜ at + 5120 ≤ length (now out) ⌝ }
     ensures { λ r. ⌜ Wrote (now (out .entry)) at
-        (flat (blockEntries sizes (now (blocks .entry)))) (now (out .exit)) r ⌝ }
+        (flat (blockEntries sizes (now (used .entry)) (now (blocks .entry)))) (now (out .exit)) r ⌝ }
     ensures { λ r. ⌜ r ≤ at + 5120 ⌝ }
 {
     let mut next = at;
     let mut file: usize = 0;
     while file < sizes.files {
-        next = put_file_blocks(out, next, file, blocks, sizes.blocks);
+        next = put_file_blocks(out, next, file, used, blocks, sizes.blocks);
         file += 1;
     }
     next
@@ -149,14 +158,20 @@ fn put_open_section(out: &mut [u8], at: usize, sizes: Sizes, files: [Entry; MAX_
     past
 }
 
-fn put_block_section(out: &mut [u8], at: usize, sizes: Sizes, blocks: &[u64; MAX_PLACES]) -> usize
+fn put_block_section(
+    out: &mut [u8],
+    at: usize,
+    sizes: Sizes,
+    used: &[bool; MAX_PLACES],
+    blocks: &[u64; MAX_PLACES],
+) -> usize
     requires { ⌜ Permitted sizes ⌝ }
     requires { ⌜ at + 5122 ≤ length (now out) ⌝ }
     ensures { λ r. ⌜ Wrote (now (out .entry)) at
-        (section (blockEntries sizes (now (blocks .entry)))) (now (out .exit)) r ⌝ }
+        (section (blockEntries sizes (now (used .entry)) (now (blocks .entry)))) (now (out .exit)) r ⌝ }
     ensures { λ r. ⌜ r ≤ at + 5122 ⌝ }
 {
-    let past = put_blocks(out, at + 2, sizes, blocks);
+    let past = put_blocks(out, at + 2, sizes, used, blocks);
     put_count(out, at, (past - (at + 2)) / 10);
     past
 }
@@ -177,16 +192,17 @@ fn put_embargo_section(
     past
 }
 
-// The three sizes, at the start of the buffer.
+// The four sizes, at the start of the buffer.
 fn put_sizes(out: &mut [u8], sizes: Sizes) -> usize
     requires { ⌜ Permitted sizes ⌝ }
-    requires { ⌜ 3 ≤ length (now out) ⌝ }
+    requires { ⌜ 5 ≤ length (now out) ⌝ }
     ensures { λ r. ⌜ Wrote (now (out .entry)) 0 (sizeBytes sizes) (now (out .exit)) r ⌝ }
-    ensures { λ r. ⌜ r ≤ 3 ⌝ }
+    ensures { λ r. ⌜ r ≤ 5 ⌝ }
 {
     let second = put_byte(out, 0, sizes.clients as u8);
     let third = put_byte(out, second, sizes.files as u8);
-    put_byte(out, third, sizes.blocks as u8)
+    let fourth = put_byte(out, third, sizes.blocks as u8);
+    put_two(out, fourth, sizes.store as u64)
 }
 
 // The image, from the start of the buffer; the offset past it.
@@ -194,18 +210,19 @@ pub fn put_image(
     out: &mut [u8],
     sizes: Sizes,
     files: [Entry; MAX_FILES],
+    used: &[bool; MAX_PLACES],
     blocks: &[u64; MAX_PLACES],
     embargoed: [bool; MAX_CLIENTS],
 ) -> usize
     requires { ⌜ Permitted sizes ⌝ }
     requires { ⌜ imageRoom ≤ length (now out) ⌝ }
     ensures { λ r. ⌜ Wrote (now (out .entry)) 0
-        (imageBytes sizes files (now (blocks .entry)) embargoed) (now (out .exit)) r ⌝ }
+        (imageBytes sizes files (now (used .entry)) (now (blocks .entry)) embargoed) (now (out .exit)) r ⌝ }
     ensures { λ r. ⌜ r ≤ imageRoom ⌝ }
 {
     let first = put_sizes(out, sizes);
     let second = put_file_section(out, first, sizes, files);
     let third = put_open_section(out, second, sizes, files);
-    let fourth = put_block_section(out, third, sizes, blocks);
+    let fourth = put_block_section(out, third, sizes, used, blocks);
     put_embargo_section(out, fourth, sizes, embargoed)
 }

@@ -40,10 +40,11 @@ pub fn write_image(service: Service, out: &mut [u8]) -> ImageWritten
     let server = service.server;
     let table = server.table;
     let files = table.files;
+    let used = server.used;
     let blocks = server.blocks;
     let embargoed = table.embargoed;
     let mut image = [0u8; IMAGE_ROOM];
-    let length = put_image(&mut image, sizes, files, &blocks, embargoed);
+    let length = put_image(&mut image, sizes, files, &used, &blocks, embargoed);
     let short = refused_if(out.len() < length, BUFFER_TOO_SHORT, 0);
     let waiting = count_waiting(files, sizes);
     let waits = refused_if(0 < waiting, OPEN_WAITS_AT_WRITING, short);

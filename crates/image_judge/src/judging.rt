@@ -12,6 +12,7 @@ use restore::read_image;
 use service::Service;
 use sizes::MAX_FILES;
 use sizes::Sizes;
+use sizes::at_most;
 
 fn after(service: Service, step: Step) -> Service {
     let outcome = service.step(step);
@@ -130,8 +131,18 @@ fn recovered(service: Service) -> Service {
     after(recovering, Step::End)
 }
 
-// The verdict, the number of files that are not CLOSED, and the image with its length; or two zeros and the refusal.
+// How many places of the store are free.
+fn free_places(service: Service) -> usize {
+    let given = service.sizes;
+    let sizes = given.in_force();
+    let server = service.server;
+    at_most(server.free, sizes.store)
+}
+
+// The verdict, the number of files that are not CLOSED, the free places, and the image with its length; or two zeros and
+// the refusal.
 fn tell(verdict: u8, open: u8, service: Service) {
+    let free = free_places(service);
     let mut bytes = image_buffer();
     let written = write_image(service, &mut bytes);
     match written {
@@ -139,6 +150,8 @@ fn tell(verdict: u8, open: u8, service: Service) {
             let head = [
                 verdict,
                 open,
+                (free % 256) as u8,
+                (free / 256 % 256) as u8,
                 (count % 256) as u8,
                 (count / 256 % 256) as u8,
             ];
@@ -146,7 +159,15 @@ fn tell(verdict: u8, open: u8, service: Service) {
             io::write_all(STDOUT_FILENO, &bytes[..within(count)]);
         }
         ImageWritten::Refused(number) => {
-            let head = [verdict, open, 0, 0, number];
+            let head = [
+                verdict,
+                open,
+                (free % 256) as u8,
+                (free / 256 % 256) as u8,
+                0,
+                0,
+                number,
+            ];
             io::write_all(STDOUT_FILENO, &head);
         }
     }

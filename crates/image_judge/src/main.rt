@@ -13,8 +13,9 @@ use libc::STDOUT_FILENO;
 use service::Service;
 use sizes::Sizes;
 
-// The bytes before each string: three sizes, what comes before the reading, and the string's length.
-const HEAD: usize = 6;
+// The bytes before each string: three sizes, the store's in two bytes, what comes before the reading, and the string's
+// length.
+const HEAD: usize = 8;
 
 fn main() {
     let mut input = input_buffer();
@@ -34,14 +35,15 @@ fn judge_all(input: &[u8]) {
         clients: 0,
         files: 0,
         blocks: 0,
+        store: 0,
     };
     let mut service = Service::new(sizes);
     let mut at: usize = 0;
     while HEAD <= input.len() - at {
         let given = sizes_at(input, at);
-        let before = input[at + 3];
+        let before = input[at + 5];
         let start = at + HEAD;
-        let count = length_at(input, at + 4);
+        let count = number_at(input, at + 6);
         if input.len() - start < count {
             return;
         }
@@ -56,17 +58,18 @@ fn judge_all(input: &[u8]) {
 }
 
 fn sizes_at(input: &[u8], at: usize) -> Sizes
-    requires { ⌜ at + 3 ≤ length (now input) ⌝ }
+    requires { ⌜ at + 5 ≤ length (now input) ⌝ }
 {
     Sizes {
         clients: wide(input[at]),
         files: wide(input[at + 1]),
         blocks: wide(input[at + 2]),
+        store: number_at(input, at + 3),
     }
 }
 
 // The number in two bytes, the low byte first.
-fn length_at(input: &[u8], at: usize) -> usize
+fn number_at(input: &[u8], at: usize) -> usize
     requires { ⌜ at + 2 ≤ length (now input) ⌝ }
 {
     wide(input[at]) + wide(input[at + 1]) * 256
@@ -79,5 +82,5 @@ fn wide(byte: u8) -> usize
 }
 
 fn same_sizes(a: Sizes, b: Sizes) -> bool {
-    (a.clients == b.clients) & (a.files == b.files) & (a.blocks == b.blocks)
+    (a.clients == b.clients) & (a.files == b.files) & (a.blocks == b.blocks) & (a.store == b.store)
 }

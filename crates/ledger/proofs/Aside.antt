@@ -24,6 +24,7 @@ use Rattle.service.specs.Step.{stepOf}
 use Rattle.service.specs.Demand3.{refused, after}
 use Rattle.service.proofs.Tests.{split, conflict, and-true, and-false}
 use Rattle.service.proofs.Lists.{getD-set}
+use Rattle.service.specs.Space.{spaced}
 use Rattle.service.proofs.Accepted.{doneOf, when-accepted, refused-changes-nothing}
 use Rattle.ledger.specs.declared.ledger.Ledger.{Ledger}
 use Rattle.ledger.specs.Ledger.{embargoedSince, isWaiting, ledgerAfter}
@@ -140,6 +141,7 @@ module _ {z : Sizes} (s : Service) (size : sizesOf s ≡ z) (i : ℕ) where
       → embargoedAt (after s x) i ≡ true
       → embargoes i s x ≡ false
       → (releases i s x ≡ false) × (embargoedAt s i ≡ true)
+  unfolding spaced
   still-aside x e new =
       split (refused s x)
       (λ r. (refused-releases x r, subst (λ t. embargoedAt t i ≡ true) (refused-changes-nothing s x r) e))

@@ -26,6 +26,7 @@ use Rattle.service.specs.Embargo.{forgottenBelow, marked, putAside, grantsAside
 use Rattle.service.specs.Demand3.{refused, after}
 use Rattle.service.proofs.Tests.{split, conflict, either}
 use Rattle.service.proofs.Contents.{cell-same}
+use Rattle.service.specs.Space.{spaced}
 use Rattle.service.proofs.Accepted.{doneOf, when-accepted, refused-changes-nothing}
 use Rattle.ledger.specs.Provenance.{copies}
 use Rattle.ledger.proofs.Entries.{getD-elsewhere, names-there}
@@ -183,6 +184,7 @@ module _
 
   pub held-before :
       (x : Step) → copies i f b s x ≡ false → heldAt (after s x) i f b ≡ true → heldAt s i f b ≡ true
+  unfolding spaced
   held-before x miss h =
       split (refused s x)
       (λ e. subst (λ s′. heldAt s′ i f b ≡ true) (refused-changes-nothing s x e) h)

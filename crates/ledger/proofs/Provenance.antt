@@ -27,7 +27,8 @@ use Rattle.service.specs.declared.service.Service.{Service}
 use Rattle.service.specs.declared.outcome.Outcome.{Outcome}
 use Rattle.service.specs.Contents.{sizesOf, tableIn, entryAt, embargoedAt, clientAt, heldAt, dirtyAt}
 use Rattle.service.specs.Embargo.{forgottenBelow, marked, putAside, grantsAside, droppedBelow, answering, allStep}
-use Rattle.service.specs.Step.{stepOf}
+use Rattle.service.specs.Step.{moved, stepOf}
+use Rattle.service.specs.Space.{spaced}
 use Rattle.service.specs.Fresh.{fresh}
 use Rattle.service.specs.Demand3.{refused, after, Memory, blank, remembered, ReadIsLatest}
 use Rattle.service.proofs.Tests.{split, conflict, either}
@@ -66,7 +67,7 @@ answering-sizes t [] = refl
 answering-sizes t (g ∷ gs) = refl
 
 same-sizes : (s : Service) (x : Step) → sizesOf (after s x) ≡ sizesOf s
-unfolding stepOf allStep
+unfolding stepOf moved spaced allStep
 same-sizes s (Open m i f) = refl
 same-sizes s (Close m i f) = refl
 same-sizes s (Read i f b) = refl

@@ -56,7 +56,7 @@ pub fn note_line(
             file,
             block,
         } => {
-            let fetches = !is_refused(reply) & (caching & !held);
+            let fetches = !reply.is_refused() & (caching & !held);
             note_copy(fetches, line, client, file, block, copied);
         }
         Step::Write {
@@ -65,7 +65,7 @@ pub fn note_line(
             block,
             value: _,
         } => {
-            let accepted = !is_refused(reply);
+            let accepted = !reply.is_refused();
             let at = place_of(file, block);
             note_write(accepted, line, client, at, aside, caching, written, writers);
             note_copy(accepted & caching, line, client, file, block, copied);
@@ -75,27 +75,27 @@ pub fn note_line(
             file,
             block,
         } => {
-            let sent = !is_refused(reply);
+            let sent = !reply.is_refused();
             let at = place_of(file, block);
             note_came(sent, client, at, 1, written, writers);
         }
         Step::Answer { client, file } => {
-            let answered = !is_refused(reply);
+            let answered = !reply.is_refused();
             let first = first_place(file);
             note_came(answered, client, first, MAX_BLOCKS, written, writers);
         }
         Step::Restart { client } => {
-            let restarts = !is_refused(reply);
+            let restarts = !reply.is_refused();
             note_lost(restarts, client, written, writers);
             note_embargo(restarts, 0, client, since);
         }
         Step::Embargo { client, file: _ } => {
-            let embargoed = !is_refused(reply);
+            let embargoed = !reply.is_refused();
             note_lost(embargoed, client, written, writers);
             note_embargo(embargoed, line, client, since);
         }
         Step::Lift { client } => {
-            let lifted = !is_refused(reply);
+            let lifted = !reply.is_refused();
             note_embargo(lifted, 0, client, since);
         }
         _ => {}
@@ -110,20 +110,6 @@ fn is_waiting(reply: Reply) -> bool
         Reply::Waiting => true,
         Reply::Value(_) => false,
         Reply::Refused(_) => false,
-        Reply::Answered(_) => false,
-        Reply::AnsweredGrant(_, _, _) => false,
-        Reply::Done => false,
-    }
-}
-
-fn is_refused(reply: Reply) -> bool
-    ensures { λ r. ⌜ r ≡ isRefused reply ⌝ }
-{
-    match reply {
-        Reply::Granted(_) => false,
-        Reply::Waiting => false,
-        Reply::Value(_) => false,
-        Reply::Refused(_) => true,
         Reply::Answered(_) => false,
         Reply::AnsweredGrant(_, _, _) => false,
         Reply::Done => false,

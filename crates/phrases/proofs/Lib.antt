@@ -5,3 +5,4 @@ pub mod Calls
 pub mod Lists
 pub mod Losses
 pub mod Names
+pub mod Summing

@@ -72,7 +72,8 @@ versionSpentText f =
     bytes "version 4294967295 is the last, and no write open of" ++ (fileText f ++ bytes " can raise it")
 
 -- by document 01's numbers; `e` is the entry of the file, `since` the line since which its open waits, and `embargo`
--- that since which the client is under embargo
+-- that since which the client is under embargo. 22 and 23 look at more: `clashText` and `refusedText` in
+-- crates/sentences/specs/Explained.antt
 abbrev pub refusalText : Sizes → List Bool → List Bool → Entry → ℕ → ℕ → Step → ℕ → List ℕ
 refusalText z reported embargoed e since embargo x k =
     let i = clientOf x in

@@ -1,12 +1,12 @@
 -- The picture after a few lines, from the definitions by evaluation: both mornings of the README, a recovery that is
--- half reported, an open that waits, a last writer, a copy of a closed file, a setting outside its range, and a station
--- under embargo.
--- Assumes nothing.
+-- half reported, an open that waits, a last writer, a copy of a closed file, a setting outside its range, a full store, and
+-- a station under embargo. Assumes nothing.
 use Prim.Native.Nat.{ℕ}
 use mathlib.Core.Path.{_≡_, refl}
 use mathlib.Core.Bool.{true}
 use mathlib.Core.List.{List, [], _∷_, _++_}
-use Rattle.sizes.specs.Sizes.{defaultSizes}
+use Rattle.sizes.specs.declared.sizes.Sizes.{Sizes}
+use Rattle.sizes.specs.Sizes.{maxPlaces}
 use Rattle.decision.specs.Lists.{count, firstBelow, stored}
 use Rattle.decision.specs.State.{stateOf}
 use Rattle.decision.specs.Permission.{permissionAtGrant}
@@ -14,7 +14,8 @@ use Rattle.access.specs.BlockStep.{blockStep}
 use Rattle.file.specs.FileStep.{fileStep, afterForgetting}
 use Rattle.table.specs.TableStep.{tableStep}
 use Rattle.service.specs.Embargo.{forgottenBelow, grantsBelow, allStep}
-use Rattle.service.specs.Step.{stepOf}
+use Rattle.service.specs.Space.{anyBelow, sumBelow, spaced}
+use Rattle.service.specs.Step.{moved, stepOf}
 use Rattle.service.specs.Fresh.{fresh}
 use Rattle.stepfile.specs.Text.{bytes, decimal, digitsOf}
 use Rattle.stepfile.specs.Grammar.{digitsOn, numeral, argument, shapeOf, shaped, step, parseLine}
@@ -27,9 +28,13 @@ use Rattle.phrases.specs.Phrase.{numbersText}
 use Rattle.phrases.specs.Accepted.{lossesOn, lossesBelow}
 use Rattle.picture.specs.Picture.{asidesText, stationsText, filesText, timesText, pictureText}
 
+-- few stations, files and blocks, so that the blocks of the store are counted quickly
+abbrev few : Sizes
+few = record { clients = 7; files = 8; blocks = 2; store = maxPlaces }
+
 -- the picture after an input, from the fresh service and an empty ledger
 abbrev pictured : List ℕ → List ℕ
-pictured input = pictureText (after (annotatedAfter true) (unannotated (fresh defaultSizes)) 1 (lines input))
+pictured input = pictureText (after (annotatedAfter true) (unannotated (fresh few)) 1 (lines input))
 
 abbrev joined : List (List ℕ) → List ℕ
 joined [] = []
@@ -39,7 +44,12 @@ pub record Examples : Type 0 where
   -- nothing has happened
   pub start :
       pictured []
-      ≡ joined (bytes "the server runs\n" ∷ bytes "nothing was refused\n" ∷ bytes "end of the picture\n" ∷ [])
+      ≡ joined
+      (bytes "the server runs\n"
+      ∷ bytes "places: 512; used: 0; reserved: 0; reserved by stations: none; free: 512\n"
+      ∷ bytes "nothing was refused\n"
+      ∷ bytes "end of the picture\n"
+      ∷ [])
   -- the milling wheat
   pub wheat :
       pictured
@@ -59,6 +69,7 @@ pub record Examples : Type 0 where
       ∷ []))
       ≡ joined
       (bytes "the server runs\n"
+      ∷ bytes "places: 512; used: 1; reserved: 0; reserved by stations: none; free: 511\n"
       ∷ bytes "file 3 is CLOSED at version 2; last writer: none\n"
       ∷ bytes "refused with 11: 1\n"
       ∷ bytes "end of the picture\n"
@@ -84,6 +95,7 @@ pub record Examples : Type 0 where
       ∷ []))
       ≡ joined
       (bytes "the server runs\n"
+      ∷ bytes "places: 512; used: 1; reserved: 0; reserved by stations: none; free: 511\n"
       ∷ bytes "file 7 is CLOSED at version 3; last writer: none\n"
       ∷ bytes "  station 2: read opens 0, write opens 0, may not cache; blocks held: 0; dirty: none\n"
       ∷ bytes "  station 5: read opens 0, write opens 0, may not cache; blocks held: 0; dirty: none\n"
@@ -105,6 +117,7 @@ pub record Examples : Type 0 where
       ∷ []))
       ≡ joined
       (bytes "the server recovers; stations still to report: 0 2\n"
+      ∷ bytes "places: 512; used: 0; reserved: 1; reserved by stations: 1; free: 511\n"
       ∷ bytes "file 0 is ONE_WRITER at version 2; last writer: none\n"
       ∷ bytes "  station 1: read opens 0, write opens 1, may cache; blocks held: 0; dirty: 0\n"
       ∷ bytes "file 1 is CLOSED at version 1; last writer: none\n"
@@ -117,6 +130,7 @@ pub record Examples : Type 0 where
       pictured (joined (bytes "SET 1 1 1\n" ∷ bytes "XX\n" ∷ bytes "RP 0\n" ∷ []))
       ≡ joined
       (bytes "the server recovers; stations still to report: none\n"
+      ∷ bytes "places: 512; used: 0; reserved: 0; reserved by stations: none; free: 512\n"
       ∷ bytes "nothing was refused\n"
       ∷ bytes "end of the picture\n"
       ∷ [])
@@ -134,6 +148,7 @@ pub record Examples : Type 0 where
       ∷ []))
       ≡ joined
       (bytes "the server runs\n"
+      ∷ bytes "places: 512; used: 0; reserved: 1; reserved by stations: 2; free: 511\n"
       ∷ bytes "file 3 is ONE_WRITER at version 2; last writer: none\n"
       ∷ bytes "  station 2: read opens 0, write opens 1, may cache; blocks held: 0 1; dirty: 0\n"
       ∷ bytes "  station 5 waits to open file 3 for read since line 5; stations still to answer: 2\n"
@@ -146,6 +161,7 @@ pub record Examples : Type 0 where
       pictured (joined (bytes "SET 3 8 4\n" ∷ bytes "OW 2 7\n" ∷ bytes "WR 2 7 3 18700\n" ∷ bytes "CW 2 7\n" ∷ []))
       ≡ joined
       (bytes "the server runs\n"
+      ∷ bytes "places: 512; used: 0; reserved: 1; reserved by stations: 2; free: 511\n"
       ∷ bytes "file 7 is CLOSED_DIRTY at version 2; last writer: 2\n"
       ∷ bytes "  station 2: read opens 0, write opens 0, may not cache; blocks held: 3; dirty: 3\n"
       ∷ bytes "nothing was refused\n"
@@ -164,6 +180,7 @@ pub record Examples : Type 0 where
       ∷ []))
       ≡ joined
       (bytes "the server runs\n"
+      ∷ bytes "places: 512; used: 0; reserved: 0; reserved by stations: none; free: 512\n"
       ∷ bytes "file 6 is CLOSED at version 1; last writer: none\n"
       ∷ bytes "  station 4: read opens 0, write opens 0, may not cache; blocks held: 2; dirty: none\n"
       ∷ bytes "nothing was refused\n"
@@ -174,15 +191,27 @@ pub record Examples : Type 0 where
       pictured (joined (bytes "SET 9 1 1\n" ∷ bytes "OW 8 0\n" ∷ []))
       ≡ joined
       (bytes "the server runs\n"
+      ∷ bytes "places: 512; used: 0; reserved: 0; reserved by stations: none; free: 512\n"
       ∷ bytes "refused with 2: 1\n"
       ∷ bytes "refused with 19: 1\n"
       ∷ bytes "end of the picture\n"
       ∷ [])
+  -- a store of one place, which station 0 has reserved
+  pub full :
+      pictured (joined (bytes "SET 2 1 2 1\n" ∷ bytes "OW 0 0\n" ∷ bytes "WR 0 0 0 5\n" ∷ bytes "WR 0 0 1 6\n" ∷ []))
+      ≡ joined
+      (bytes "the server runs\n"
+      ∷ bytes "places: 1; used: 0; reserved: 1; reserved by stations: 0; free: 0\n"
+      ∷ bytes "file 0 is ONE_WRITER at version 2; last writer: none\n"
+      ∷ bytes "  station 0: read opens 0, write opens 1, may cache; blocks held: 0; dirty: 0\n"
+      ∷ bytes "refused with 23: 1\n"
+      ∷ bytes "end of the picture\n"
+      ∷ [])
 
 pub examples : Examples
-unfolding fresh emptyLedger ledgerAfter stepOf fileStep blockStep tableStep stateOf permissionAtGrant count
-    firstBelow stored decimal digitsOf digitsOn numeral argument shapeOf shaped step parseLine settingOf lines after
-    serviceAfter numbersText annotatedAfter asidesText stationsText filesText timesText pictureText
+unfolding fresh emptyLedger ledgerAfter stepOf moved spaced anyBelow sumBelow fileStep blockStep tableStep stateOf
+    permissionAtGrant count firstBelow stored decimal digitsOf digitsOn numeral argument shapeOf shaped step parseLine
+    settingOf lines after serviceAfter numbersText annotatedAfter asidesText stationsText filesText timesText pictureText
 examples =
     record {
       start = refl;
@@ -194,6 +223,7 @@ examples =
       last = refl;
       copy = refl;
       range = refl;
+      full = refl;
     }
 
 -- a station under embargo, which still writes
@@ -211,6 +241,7 @@ pub aside :
     ∷ []))
     ≡ joined
     (bytes "the server runs\n"
+    ∷ bytes "places: 512; used: 0; reserved: 0; reserved by stations: none; free: 512\n"
     ∷ bytes "station 1 is under embargo since line 5; writes lost: file 0 block 0 at line 6\n"
     ∷ bytes "file 0 is ONE_READER at version 2; last writer: none\n"
     ∷ bytes "  station 1: read opens 0, write opens 1, may cache; blocks held: 0; dirty: 0\n"
@@ -219,8 +250,8 @@ pub aside :
     ∷ bytes "refused with 21: 1\n"
     ∷ bytes "end of the picture\n"
     ∷ [])
-unfolding fresh emptyLedger ledgerAfter lostBelow stepOf fileStep blockStep tableStep allStep afterForgetting
-    forgottenBelow grantsBelow stateOf permissionAtGrant count stored
+unfolding fresh emptyLedger ledgerAfter lostBelow stepOf moved spaced anyBelow sumBelow fileStep blockStep tableStep
+    allStep afterForgetting forgottenBelow grantsBelow stateOf permissionAtGrant count stored
     decimal digitsOf digitsOn numeral argument shapeOf shaped step parseLine settingOf lines after serviceAfter
     numbersText lossesOn lossesBelow annotatedAfter asidesText stationsText filesText timesText pictureText
 aside = refl

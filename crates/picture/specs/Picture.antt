@@ -1,5 +1,5 @@
--- The picture of the service at the end of what `explain` prints: "recovering or not and who has to report", the
--- stations under embargo, the files, and the refusals by number. docs/EXPLAIN.md has an example.
+-- The picture of the service at the end of what `explain` prints: "recovering or not and who has to report", the store,
+-- the stations under embargo, the files, and the refusals by number. docs/EXPLAIN.md has an example.
 use Prim.Native.Nat.{ℕ, zero, suc}
 use mathlib.Core.Bool.{Bool, cond, not, _||_}
 use mathlib.Core.List.{List, [], _++_}
@@ -16,7 +16,7 @@ use Rattle.protocol.specs.Client.{sideOf}
 use Rattle.protocol.specs.Entry.{recordAt, waits}
 use Rattle.blocks.specs.Stores.{Stores, heldIn, dirtyIn}
 use Rattle.table.specs.declared.table.Table.{Table}
-use Rattle.service.specs.Contents.{sizesOf, tableIn, entryAt, embargoedAt, sidesAt, storesOf}
+use Rattle.service.specs.Contents.{sizesOf, tableIn, entryAt, freeOf, embargoedAt, sidesAt, storesOf}
 use Rattle.stepfile.specs.Text.{bytes, argumentText}
 use Rattle.stepfile.specs.Summary.{versionIn, isListed}
 use Rattle.ledger.specs.declared.annotated.Annotated.{Annotated}
@@ -25,6 +25,7 @@ use Rattle.ledger.specs.Ledger.{copiedAt, waitingSince, embargoedSince}
 use Rattle.ledger.specs.Refusals.{refusalNumbers, timesRefused}
 use Rattle.phrases.specs.Phrase.{clientText, embargoText, stateText, listText}
 use Rattle.phrases.specs.Accepted.{lossesText}
+use Rattle.phrases.specs.Places.{placesText}
 use Rattle.phrases.specs.Refusal.{missingText, openWaitsText}
 
 -- ---- the server
@@ -35,6 +36,12 @@ serverText z t =
     (bytes "the server recovers" ++ missingText (z .clients) (t .reported) (t .embargoed))
     (bytes "the server runs")
     ++ bytes "\n"
+
+-- ---- the store (document 02, Wish 13)
+
+abbrev pub storeText : Sizes → List Bool → List Bool → List Bool → ℕ → List ℕ
+storeText z used embargoed dirty free =
+    placesText z used embargoed dirty ++ (bytes "; free:" ++ (argumentText free ++ bytes "\n"))
 
 -- ---- the stations under embargo
 
@@ -163,8 +170,9 @@ unfoldable pub pictureText : Annotated → List ℕ
 pictureText t =
     let s = t .service in
     serverText (sizesOf s) (tableIn s)
+    ++ (storeText (sizesOf s) (s .server .used) (tableIn s .embargoed) (s .dirty) (freeOf s)
     ++ (asidesText t (sizesOf s .clients)
-    ++ (filesText t (sizesOf s .files) ++ (refusalsText (t .refusals) ++ endText)))
+    ++ (filesText t (sizesOf s .files) ++ (refusalsText (t .refusals) ++ endText))))
 
 -- the room that the picture is given: more than it takes
 abbrev pub pictureRoom : ℕ

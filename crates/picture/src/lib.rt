@@ -7,6 +7,7 @@ mod picture;
 mod refused;
 mod server;
 mod station;
+mod store;
 
 pub use picture::PICTURE_ROOM;
 pub use picture::write_picture;

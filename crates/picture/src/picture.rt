@@ -8,6 +8,7 @@ use crate::aside::put_aside_if;
 use crate::files::put_file;
 use crate::refused::put_refusals;
 use crate::server::put_server;
+use crate::store::put_store;
 use ledger::Annotated;
 use phrases::put_text;
 use sizes::MAX_FILES;
@@ -40,7 +41,8 @@ fn put_picture(out: &mut [u8], at: usize, state: Annotated) -> usize
     let sizes = given.in_force();
     let server = service.server;
     let table = server.table;
-    let asides = put_server(out, at, sizes, table);
+    let store = put_server(out, at, sizes, table);
+    let asides = put_store(out, store, state);
     let files = put_asides(out, asides, state);
     let refused = put_files(out, files, state);
     let refusals = state.refusals;

@@ -1,7 +1,8 @@
 -- Who can cause a refusal: the tests of each step on a file, each with document 01's number, in number order. "Open
 -- tests 2, 3, 5, 9, 12, 14; close 2, 3, 5, 9, 11; read and write 2, 3, 4, 5, 11; flush 2, 3, 4, 5, 13; reply 2, 3, 5,
 -- 10". "BT tests 2 only" (document 02, Wish 8). "20 .., after 4; 21 .., after 20"; "EM is tested as a reply is, never by
--- 20"; "LF tests 2 and 21" (Wish 9). They look at the sizes z, whether the client is under embargo, the server's flags,
+-- 20"; "LF tests 2 and 21" (Wish 9). "23 when such a write finds nothing free,
+-- and only then, last of all" (Wish 13). They look at the sizes z, whether the client is under embargo, the server's flags,
 -- the file's entry e and the client's own side of it: "Reads, writes, refusals 11 to 13 and a station's own change go by
 -- the station's record; calls, grants and the table go by the server's".
 use Prim.Native.Nat.{ℕ}
@@ -110,20 +111,25 @@ readTests z embargoed recovering reported own held i f b =
     noSuchClient z i
     ∷ noSuchFile z f
     ∷ noSuchBlock z b
-    ∷ underEmbargo embargoed (needsServer (Read i f b) own held)
-    ∷ cutOff recovering reported (needsServer (Read i f b) own held)
+    ∷ underEmbargo embargoed (needsServer (Read i f b) own held false)
+    ∷ cutOff recovering reported (needsServer (Read i f b) own held false)
     ∷ notOpenAtAll own
     ∷ []
 
+-- "23 when such a write finds nothing free": one that takes a place; `full` says that none is free
+abbrev pub noPlace : Bool → Bool → Test
+noPlace takes full = (takes && full, 23)
+
 -- a write does not look at whether its block is held
-abbrev pub writeTests : Sizes → Bool → Bool → Bool → ClientFile → ℕ → ℕ → ℕ → ℕ → List Test
-writeTests z embargoed recovering reported own i f b v =
+abbrev pub writeTests : Sizes → Bool → Bool → Bool → ClientFile → Bool → Bool → ℕ → ℕ → ℕ → ℕ → List Test
+writeTests z embargoed recovering reported own takes full i f b v =
     noSuchClient z i
     ∷ noSuchFile z f
     ∷ noSuchBlock z b
-    ∷ underEmbargo embargoed (needsServer (Write i f b v) own false)
-    ∷ cutOff recovering reported (needsServer (Write i f b v) own false)
+    ∷ underEmbargo embargoed (needsServer (Write i f b v) own false takes)
+    ∷ cutOff recovering reported (needsServer (Write i f b v) own false takes)
     ∷ notOpenIn ForWrite own
+    ∷ noPlace takes full
     ∷ []
 
 abbrev pub flushTests : Sizes → Bool → Bool → Bool → ℕ → ℕ → ℕ → List Test

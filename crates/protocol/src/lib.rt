@@ -27,6 +27,7 @@ pub use refusal::NO_CALL;
 pub use refusal::NO_CLIENT;
 pub use refusal::NO_FILE;
 pub use refusal::NO_IMAGE;
+pub use refusal::NO_PLACE;
 pub use refusal::NO_STEP;
 pub use refusal::NOT_DIRTY;
 pub use refusal::NOT_IN_RECOVERY;

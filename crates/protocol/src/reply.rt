@@ -1,7 +1,7 @@
 // What a step is answered. What it brings to others stands beside the reply: the callbacks of an open that waits, one kind
 // for each client, and the opens of others that are granted, one after the other.
 ghost use mathlib.Core.Path.{_≡_};
-ghost use Rattle.protocol.specs.Reply.{noGranting};
+ghost use Rattle.protocol.specs.Reply.{noGranting, isRefused};
 use crate::entry::NOBODY;
 use records::Version;
 
@@ -49,4 +49,20 @@ pub enum Reply {
     AnsweredGrant(usize, u8, Grant),
     // Done: a close, a write, a flush, a crash, a report, the end of recovery, or a restart.
     Done,
+}
+
+impl Reply {
+    pub fn is_refused(self) -> bool
+        ensures { λ r. ⌜ r ≡ isRefused self ⌝ }
+    {
+        match self {
+            Reply::Granted(_) => false,
+            Reply::Waiting => false,
+            Reply::Value(_) => false,
+            Reply::Refused(_) => true,
+            Reply::Answered(_) => false,
+            Reply::AnsweredGrant(_, _, _) => false,
+            Reply::Done => false,
+        }
+    }
 }

@@ -1,4 +1,4 @@
--- "chosen when the service starts, by a first line SET with the three numbers": what the first line of an input sets.
+-- "chosen when the service starts, by a first line SET": what the first line of an input sets.
 use Prim.Native.Nat.{ℕ, _+_}
 use mathlib.Core.Bool.{Bool, true, false}
 use mathlib.Core.List.{List}

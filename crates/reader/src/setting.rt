@@ -3,11 +3,13 @@ ghost use mathlib.Core.Path.{_≡_};
 ghost use mathlib.Core.List.{[]};
 ghost use lib.ListN.{getD, drop};
 ghost use Rattle.stepfile.specs.Grammar.{found};
-ghost use Rattle.stepfile.specs.Setting.{beginsWithSet, sizesAt, settled, settingOf};
+ghost use Rattle.stepfile.specs.Setting.{beginsWithSet, storeAt, sizesAt, settled, settingOf};
 ghost use Rattle.reader.specs.FirstLine.{isSet, firstSetting};
+ghost use Rattle.reader.specs.Offsets.{numberIn};
 use crate::line::no_step_at;
 use crate::number::Number;
 use crate::number::argument_at;
+use sizes::MAX_PLACES;
 use sizes::Sizes;
 use stepfile::Read;
 use stepfile::Setting;
@@ -70,7 +72,7 @@ fn byte_at(s: &[u8], at: usize) -> u8
     if at < s.len() { s[at] } else { 0 }
 }
 
-// The three numbers, up to the end of the line.
+// The three or four numbers, up to the end of the line.
 fn sizes_from(s: &[u8], at: usize) -> Setting
     ensures { λ r. ⌜ r ≡ settled (sizesAt (drop at (now (s .entry)))) ⌝ }
 {
@@ -90,8 +92,15 @@ fn sizes_from(s: &[u8], at: usize) -> Setting
     };
     let Number::Is {
         value: blocks,
-        next: past,
+        next: fourth,
     } = argument_at(s, third)
+    else {
+        return Setting::Missing;
+    };
+    let Number::Is {
+        value: store,
+        next: past,
+    } = store_at(s, fourth)
     else {
         return Setting::Missing;
     };
@@ -102,7 +111,21 @@ fn sizes_from(s: &[u8], at: usize) -> Setting
         clients: clients as usize,
         files: files as usize,
         blocks: blocks as usize,
+        store: store as usize,
     })
+}
+
+// The fourth number; where the line ends before it, the largest store.
+fn store_at(s: &[u8], at: usize) -> Number
+    ensures { λ r. ⌜ storeAt (drop at (now (s .entry))) ≡ numberIn (now (s .entry)) r ⌝ }
+{
+    if s.len() <= at {
+        return Number::Is {
+            value: MAX_PLACES as u64,
+            next: at,
+        };
+    }
+    argument_at(s, at)
 }
 
 // The sizes, if each lies inside its range.

@@ -17,9 +17,9 @@ use Rattle.protocol.specs.declared.entry.Entry.{Entry}
 use Rattle.protocol.specs.Entry.{recordAt, freshEntry}
 use Rattle.table.specs.TableStep.{noEntry, entryOf}
 use Rattle.restore.specs.Decoded.{numberAt, entriesIn, sectionIn, placed, withFile, putFile, fileOf, recordOf, withOpen}
-use Rattle.restore.specs.Decoded.{openerOf, openedOf, putOpen, placeOf, putBlock, filesPart, opensPart}
+use Rattle.restore.specs.Decoded.{openerOf, openedOf, putOpen, placeOf, putBlock, putUsed, filesPart, opensPart}
 use Rattle.restore.specs.Decoded.{blocksPart, embargoedOf, putEmbargo, embargoesPart, decodedFiles}
-use Rattle.restore.specs.Decoded.{decodedBlocks, decodedEmbargoes}
+use Rattle.restore.specs.Decoded.{decodedUsed, decodedBlocks, decodedEmbargoes}
 use Rattle.restore.specs.Exact.{AreBytes}
 
 -- ---- parts of bytes are bytes
@@ -132,7 +132,7 @@ unfolding decodedFiles
 decoded-files-good bytes h =
     let files = filesPart bytes in
     let opens = opensPart bytes in
-    let files-bytes : AreBytes files = drop-bytes 3 bytes h in
+    let files-bytes : AreBytes files = drop-bytes 5 bytes h in
     let opens-bytes : AreBytes opens = drop-bytes (2 + 6 * numberAt 2 files 0) files files-bytes in
     placed-keeps putOpen GoodFiles
     (λ e l he hl.
@@ -176,7 +176,7 @@ decoded-blocks-good bytes h =
     let files = filesPart bytes in
     let opens = opensPart bytes in
     let blocks = blocksPart bytes in
-    let files-bytes : AreBytes files = drop-bytes 3 bytes h in
+    let files-bytes : AreBytes files = drop-bytes 5 bytes h in
     let opens-bytes : AreBytes opens = drop-bytes (2 + 6 * numberAt 2 files 0) files files-bytes in
     let blocks-bytes : AreBytes blocks = drop-bytes (2 + 5 * numberAt 2 opens 0) opens opens-bytes in
     let none : GoodBlocks (replicate maxPlaces 0) =
@@ -186,6 +186,18 @@ decoded-blocks-good bytes h =
     } in
     placed-keeps putBlock GoodBlocks block-good 10 (numberAt 2 blocks 0) (drop 2 blocks) (replicate maxPlaces 0)
     (drop-bytes 2 blocks blocks-bytes) none
+
+-- ---- the used blocks
+
+used-long : (es : List (List ℕ)) (l : List Bool) → length (placed putUsed es l) ≡ length l
+unfolding placed
+used-long [] l = refl
+used-long (e ∷ es) l = used-long es (putUsed e l) ∙ length-set l (placeOf e) true
+
+pub decoded-used-long : (bytes : List ℕ) → length (decodedUsed bytes) ≡ maxPlaces
+unfolding decodedUsed
+decoded-used-long bytes =
+    used-long (sectionIn 10 (blocksPart bytes)) (replicate maxPlaces false) ∙ length-replicate maxPlaces false
 
 -- ---- the embargoes
 

@@ -1,6 +1,6 @@
 -- Reading accepts exactly the bytes that writing gives for some service, and a program can start from them. Assumes
 -- nothing.
-use Prim.Native.Nat.{ℕ, zero, suc, _≤_, _<_}
+use Prim.Native.Nat.{ℕ, zero, suc, _+_, _*_, _/_, _%_, _≤_, _<_}
 use mathlib.Core.Path.{_≡_, refl, sym, ap, _∙_, subst⁻¹}
 use mathlib.Core.Bool.{Bool, true, false, cond}
 use mathlib.Core.List.{List}
@@ -11,7 +11,8 @@ use borrow.Author.Tests.{le-ltb, le-leb}
 use Rattle.records.specs.Version.{versionOf, numberOf}
 use Rattle.sizes.proofs.Choosing.{split, conflict, when, unless}
 use Rattle.sizes.specs.declared.sizes.Sizes.{Sizes}
-use Rattle.sizes.specs.Sizes.{maxClients, maxFiles, maxBlocks, nobody, isPermitted, inForce, Permitted, place}
+use Rattle.sizes.specs.Sizes.{maxClients, maxFiles, maxBlocks, maxPlaces, nobody, isPermitted, inForce, Permitted}
+use Rattle.sizes.specs.Sizes.{place}
 use Rattle.decision.specs.Lists.{count}
 use Rattle.sizes.proofs.InForce.{in-force-permitted, file-fits, block-fits}
 use Rattle.protocol.specs.declared.reply.Reply.the-variants.{Refused, Done}
@@ -20,18 +21,19 @@ use Rattle.protocol.specs.Reply.{isRefused}
 use Rattle.table.specs.TableStep.{entryOf, isEmbargoed}
 use Rattle.service.specs.declared.service.Service.{Service}
 use Rattle.service.specs.declared.outcome.Outcome.{Outcome}
-use Rattle.service.specs.Contents.{sizesOf, tableIn, entryAt, blockAt, embargoedAt}
+use Rattle.service.specs.Contents.{sizesOf, tableIn, entryAt, blockAt, usedAt, embargoedAt}
 use Rattle.service.specs.Fresh.{fresh}
+use Rattle.image.specs.Bytes.{low}
 use Rattle.image.specs.Image.{versionRead, imageBytes, imageOf}
 use Rattle.image.specs.Fits.{Fits}
 use Rattle.image.specs.Writing.{openWaiting}
-use Rattle.restore.specs.Decoded.{decodedFiles, decodedBlocks, decodedEmbargoes}
+use Rattle.restore.specs.Decoded.{numberAt, decodedFiles, decodedUsed, decodedBlocks, decodedEmbargoes}
 use Rattle.restore.specs.Reading.{sameBytes, isImage, restored, readingOf, sizesIn}
-use Rattle.restore.specs.Exact.{AreBytes, Written, AcceptsExactly, Exact, Starts}
+use Rattle.restore.specs.Exact.{AreBytes, Written, AcceptsExactly, Exact, Starts, usedValues}
 use Rattle.restore.proofs.SameBytes.{same-true, same-self}
-use Rattle.restore.proofs.GivenBack.{version-given, block-given, embargo-given, same-again}
+use Rattle.restore.proofs.GivenBack.{version-given, used-given, block-given, embargo-given, same-again}
 use Rattle.restore.proofs.Bounds.{GoodFiles, GoodBlocks, decoded-files-good, decoded-blocks-good}
-use Rattle.restore.proofs.Bounds.{decoded-embargoes-long}
+use Rattle.restore.proofs.Bounds.{decoded-used-long, decoded-embargoes-long}
 
 -- ---- what is written is accepted
 
@@ -52,23 +54,32 @@ module _ (t : Service) (fits : Fits t) where
   unfolding isImage
   image-accepted =
       ap (sameBytes (imageOf t))
-      (same-again most (tableIn t .files) (t .server .blocks) (tableIn t .embargoed) versions values)
+      (same-again most (tableIn t .files) (t .server .used) (t .server .blocks) (tableIn t .embargoed) versions values)
       ∙ same-self (imageOf t)
 
   -- what the image gives back
   pub version-back :
       (f : ℕ) → f < z .files → entryOf (decodedFiles (imageOf t)) f .version ≡ versionOf (versionRead (entryAt t f))
   version-back f hf =
-      version-given most (tableIn t .files) (t .server .blocks) (tableIn t .embargoed) versions values f hf
+      version-given most (tableIn t .files) (t .server .used) (t .server .blocks) (tableIn t .embargoed) versions values f hf
+
+  pub used-back :
+      (f b : ℕ) → f < z .files → b < z .blocks → getD (decodedUsed (imageOf t)) (place f b) false ≡ usedAt t f b
+  used-back f b hf hb =
+      used-given most (tableIn t .files) (t .server .used) (t .server .blocks) (tableIn t .embargoed) versions values f b hf hb
 
   pub block-back :
-      (f b : ℕ) → f < z .files → b < z .blocks → getD (decodedBlocks (imageOf t)) (place f b) 0 ≡ blockAt t f b
+      (f b : ℕ)
+      → f < z .files
+      → b < z .blocks
+      → getD (decodedBlocks (imageOf t)) (place f b) 0
+      ≡ getD (usedValues (t .server .used) (t .server .blocks)) (place f b) 0
   block-back f b hf hb =
-      block-given most (tableIn t .files) (t .server .blocks) (tableIn t .embargoed) versions values f b hf hb
+      block-given most (tableIn t .files) (t .server .used) (t .server .blocks) (tableIn t .embargoed) versions values f b hf hb
 
   pub embargo-back : (i : ℕ) → i < z .clients → isEmbargoed (decodedEmbargoes (imageOf t)) i ≡ embargoedAt t i
   embargo-back i hi =
-      embargo-given most (tableIn t .files) (t .server .blocks) (tableIn t .embargoed) versions values i hi
+      embargo-given most (tableIn t .files) (t .server .used) (t .server .blocks) (tableIn t .embargoed) versions values i hi
 
 -- ---- what is accepted was written for some service
 
@@ -87,6 +98,8 @@ decodedService s bytes =
                   embargoed = decodedEmbargoes bytes;
                 };
             blocks = decodedBlocks bytes;
+            used = decodedUsed bytes;
+            free = 0;
           };
       clients = fresh (s .sizes) .clients;
       copies = fresh (s .sizes) .copies;
@@ -114,6 +127,7 @@ module _ (s : Service) (bytes : List ℕ) (are-bytes : AreBytes bytes) where
       record {
         entries = files-good .entries;
         places = blocks-good .places;
+        used = decoded-used-long bytes;
         embargoes = decoded-embargoes-long bytes;
         records = λ f hf. files-good .each f hf .records;
         version = λ f hf. files-good .each f hf .version;
@@ -165,7 +179,7 @@ module _ (s : Service) (bytes : List ℕ) where
   -- what is handed back
   pub taken :
       isImage (sizesOf s) bytes ≡ true
-      → readingOf s bytes ≡ restored s (decodedFiles bytes) (decodedBlocks bytes) (decodedEmbargoes bytes)
+      → readingOf s bytes ≡ restored s (decodedFiles bytes) (decodedUsed bytes) (decodedBlocks bytes) (decodedEmbargoes bytes)
   unfolding readingOf
   taken e = when _ _ e
 
@@ -204,10 +218,21 @@ in-force-again z =
     let clients = when (w .clients) 8 (permitted-is maxClients (w .clients) (most .someClient) (most .clients)) in
     let files = when (w .files) 32 (permitted-is maxFiles (w .files) (most .someFile) (most .files)) in
     let blocks = when (w .blocks) 4 (permitted-is maxBlocks (w .blocks) (most .someBlock) (most .blocks)) in
-    λ k. record { clients = clients k; files = files k; blocks = blocks k }
+    let store = when (w .store) maxPlaces (le-leb (w .store) maxPlaces (most .store)) in
+    λ k. record { clients = clients k; files = files k; blocks = blocks k; store = store k }
+
+-- an image begins with the sizes in force of the service that was written
+sizes-told : (t : Service) → sizesIn (imageOf t) ≡ sizesOf t
+unfolding imageBytes low numberAt
+sizes-told t =
+    let z = sizesOf t in
+    let store : z .store % 256 + 256 * (z .store / 256 % 256 + 256 * 0) ≡ z .store =
+    omega (arith, in-force-permitted (t .sizes) .store) in
+    λ k. record { clients = z .clients; files = z .files; blocks = z .blocks; store = store k }
 
 pub starts : Starts
-unfolding fresh imageBytes
+unfolding fresh
 starts t fits =
     not-refused (fresh (sizesIn (imageOf t))) (imageOf t)
-    (accepts (fresh (sizesIn (imageOf t))) t (imageOf t) fits (sym (in-force-again (t .sizes))) refl)
+    (accepts (fresh (sizesIn (imageOf t))) t (imageOf t) fits
+    (sym (ap inForce (sizes-told t) ∙ in-force-again (t .sizes))) refl)

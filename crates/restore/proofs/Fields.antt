@@ -12,7 +12,7 @@ use Rattle.records.specs.Version.{versionOf}
 use Rattle.protocol.specs.declared.entry.Entry.{Entry}
 use Rattle.table.specs.TableStep.{entryOf}
 use Rattle.restore.specs.Decoded.{byteAt, numberAt, withFile, putFile, recordOf, withOpen, putOpen}
-use Rattle.restore.specs.Decoded.{placeOf, putBlock, putEmbargo}
+use Rattle.restore.specs.Decoded.{placeOf, putBlock, putUsed, putEmbargo}
 use Rattle.restore.proofs.ReadLow.{byte-part, number-part}
 
 module _ (l : List ℕ) (at : ℕ) where
@@ -121,6 +121,12 @@ module _ (l : List ℕ) (at : ℕ) where
   block-put blocks place value =
       let v = value ∙ sym (number-part 10 at l 8 2 (lit≤ tt)) in
       λ k. set blocks (place k) (v k)
+
+  pub used-put :
+      (used : List Bool) {p : ℕ}
+      → p ≡ placeOf (take 10 (drop at l))
+      → set used p true ≡ putUsed (take 10 (drop at l)) used
+  used-put used place = ap (λ p. set used p true) place
 
   pub embargo-put :
       (embargoed : List Bool) {b : ℕ}

@@ -17,16 +17,17 @@ use Rattle.decision.proofs.Storing.{length-stored, getD-stored}
 use Rattle.protocol.specs.declared.entry.Entry.{Entry}
 use Rattle.protocol.specs.Entry.{recordAt, freshEntry}
 use Rattle.table.specs.TableStep.{noEntry, entryOf, isEmbargoed}
-use Rattle.image.specs.Bytes.{below, section}
+use Rattle.image.specs.Bytes.{low, below, section}
 use Rattle.image.specs.Image.{versionRead, lastRead, fileEntries}
 use Rattle.image.specs.Image.{openEntries, blockEntries, embargoEntries, imageBytes}
 use Rattle.image.proofs.SectionLaws.{wide-files, wide-opens, wide-blocks, wide-embargoes}
 use Rattle.restore.specs.Decoded.{sectionIn, pastSection, placed, putFile, putOpen, putBlock, filesPart}
-use Rattle.restore.specs.Decoded.{putEmbargo, opensPart, blocksPart, embargoesPart, decodedFiles}
-use Rattle.restore.specs.Decoded.{decodedBlocks, decodedEmbargoes}
-use Rattle.restore.specs.Reading.{withBlocks, withEmbargoes}
+use Rattle.restore.specs.Decoded.{putUsed, putEmbargo, opensPart, blocksPart, embargoesPart, decodedFiles}
+use Rattle.restore.specs.Decoded.{decodedUsed, decodedBlocks, decodedEmbargoes}
+use Rattle.restore.specs.Reading.{withBlocks, withUsed, withEmbargoes}
+use Rattle.restore.specs.Exact.{usedValues}
 use Rattle.restore.proofs.Parsing.{few-files, few-opens, few-blocks, few-embargoes, section-read, past-read}
-use Rattle.restore.proofs.GivenBlocks.{taken-block, given-blocks}
+use Rattle.restore.proofs.GivenBlocks.{taken-place, used-value, given-blocks, given-used}
 use Rattle.restore.proofs.GivenFiles.{listedEntry, freshFiles, given-files}
 use Rattle.restore.proofs.GivenOpens.{openRead, withOpens, given-opens}
 use Rattle.restore.proofs.GivenEmbargoes.{given-embargoes}
@@ -36,20 +37,21 @@ module _
     {z : Sizes}
     (most : Permitted z)
     (entries : List Entry)
+    (used : List Bool)
     (blocks : List ℕ)
     (embargoed : List Bool)
     (versions : (f : ℕ) → f < z .files → numberOf (entryOf entries f .version) < 4294967296)
     (values : (f b : ℕ) → f < z .files → b < z .blocks → getD blocks (place f b) 0 < 18446744073709551616) where
   abbrev image : List ℕ
-  image = imageBytes z entries blocks embargoed
+  image = imageBytes z entries used blocks embargoed
 
   -- ---- the four sections, and what stands from each of them on
 
   abbrev lastSections : List ℕ
-  lastSections = section (blockEntries z blocks) ++ section (embargoEntries z embargoed)
+  lastSections = section (blockEntries z used blocks) ++ section (embargoEntries z embargoed)
 
   opens-part : opensPart image ≡ section (openEntries z entries) ++ lastSections
-  unfolding imageBytes
+  unfolding imageBytes low
   opens-part =
       past-read 6 (fileEntries z entries) (section (openEntries z entries) ++ lastSections) (wide-files z entries)
       (few-files most entries)
@@ -62,11 +64,11 @@ module _
   embargoes-part : embargoesPart image ≡ section (embargoEntries z embargoed)
   embargoes-part =
       ap (pastSection 10) blocks-part
-      ∙ past-read 10 (blockEntries z blocks) (section (embargoEntries z embargoed)) (wide-blocks z blocks)
-      (few-blocks most blocks)
+      ∙ past-read 10 (blockEntries z used blocks) (section (embargoEntries z embargoed)) (wide-blocks z used blocks)
+      (few-blocks most used blocks)
 
   files-told : sectionIn 6 (filesPart image) ≡ fileEntries z entries
-  unfolding imageBytes
+  unfolding imageBytes low
   files-told =
       section-read 6 (fileEntries z entries) (section (openEntries z entries) ++ lastSections) (wide-files z entries)
       (few-files most entries)
@@ -76,11 +78,11 @@ module _
       ap (sectionIn 5) opens-part
       ∙ section-read 5 (openEntries z entries) lastSections (wide-opens z entries) (few-opens most entries)
 
-  blocks-told : sectionIn 10 (blocksPart image) ≡ blockEntries z blocks
+  blocks-told : sectionIn 10 (blocksPart image) ≡ blockEntries z used blocks
   blocks-told =
       ap (sectionIn 10) blocks-part
-      ∙ section-read 10 (blockEntries z blocks) (section (embargoEntries z embargoed)) (wide-blocks z blocks)
-      (few-blocks most blocks)
+      ∙ section-read 10 (blockEntries z used blocks) (section (embargoEntries z embargoed)) (wide-blocks z used blocks)
+      (few-blocks most used blocks)
 
   embargoes-told : sectionIn 1 (embargoesPart image) ≡ embargoEntries z embargoed
   embargoes-told =
@@ -148,17 +150,37 @@ module _
       ∙ getD-stored (z .clients) (λ i. i) (λ i. openRead (recordAt e i)) (replicate maxClients notOpen) notOpen i hi
       (rw (length-replicate maxClients notOpen) (let few = most .clients in omega arith)) (λ k less below. omega arith)
 
-  blocks-given : decodedBlocks image ≡ withBlocks (z .files) (z .blocks) blocks (replicate maxPlaces 0)
+  blocks-given :
+      decodedBlocks image ≡ withBlocks (z .files) (z .blocks) (usedValues used blocks) (replicate maxPlaces 0)
   unfolding decodedBlocks
   blocks-given =
-      ap (λ es. placed putBlock es (replicate maxPlaces 0)) blocks-told ∙ given-blocks most blocks values
+      ap (λ es. placed putBlock es (replicate maxPlaces 0)) blocks-told ∙ given-blocks most used blocks values
 
   pub block-given :
-      (f b : ℕ) → f < z .files → b < z .blocks → getD (decodedBlocks image) (place f b) 0 ≡ getD blocks (place f b) 0
+      (f b : ℕ)
+      → f < z .files
+      → b < z .blocks
+      → getD (decodedBlocks image) (place f b) 0 ≡ getD (usedValues used blocks) (place f b) 0
   block-given f b hf hb =
       ap (λ l. getD l (place f b) 0) blocks-given
-      ∙ taken-block (z .blocks) (most .blocks) blocks (replicate maxPlaces 0) (length-replicate {A = ℕ} maxPlaces 0)
-      (z .files) (most .files) f b hb
+      ∙ taken-place {A = ℕ} 0 (z .blocks) (most .blocks) (usedValues used blocks) (replicate maxPlaces 0)
+      (length-replicate {A = ℕ} maxPlaces 0) (z .files) (most .files) f b hb
+      ∙ when _ _ (lt-ltb f (z .files) hf)
+
+  used-are : decodedUsed image ≡ withUsed (z .files) (z .blocks) used (replicate maxPlaces false)
+  unfolding decodedUsed
+  used-are =
+      ap (λ es. placed putUsed es (replicate maxPlaces false)) blocks-told ∙ given-used most used blocks
+
+  pub used-given :
+      (f b : ℕ)
+      → f < z .files
+      → b < z .blocks
+      → getD (decodedUsed image) (place f b) false ≡ getD used (place f b) false
+  used-given f b hf hb =
+      ap (λ l. getD l (place f b) false) used-are
+      ∙ taken-place false (z .blocks) (most .blocks) used (replicate maxPlaces false)
+      (length-replicate maxPlaces false) (z .files) (most .files) f b hb
       ∙ when _ _ (lt-ltb f (z .files) hf)
 
   embargoes-given : decodedEmbargoes image ≡ withEmbargoes (z .clients) embargoed (replicate maxClients false)
@@ -175,11 +197,14 @@ module _
 
   -- ---- the image of what they give is the same again
 
-  pub same-again : imageBytes z (decodedFiles image) (decodedBlocks image) (decodedEmbargoes image) ≡ image
+  pub same-again :
+      imageBytes z (decodedFiles image) (decodedUsed image) (decodedBlocks image) (decodedEmbargoes image) ≡ image
   same-again =
-      image-again most (decodedFiles image) entries (decodedBlocks image) blocks (decodedEmbargoes image) embargoed
+      image-again most (decodedFiles image) entries (decodedUsed image) used (decodedBlocks image) blocks
+      (decodedEmbargoes image) embargoed
       (λ f hf. ap (λ v. numberOf (asRead v)) (version-given f hf) ∙ read-again (entryOf entries f))
       last-given
       record-given
-      block-given
+      used-given
+      (λ f b hf hb. block-given f b hf hb ∙ used-value used blocks (place f b))
       embargo-given

@@ -1,11 +1,11 @@
 -- The bytes of an image, read from left to right: its sections give back their entries. Assumes nothing.
 use Prim.Native.Nat.{ℕ, zero, suc, _+_, _*_, _≤_, _<_}
 use mathlib.Core.Path.{_≡_, refl, ap, _∙_}
-use mathlib.Core.Bool.{Bool, true, false, not}
+use mathlib.Core.Bool.{Bool, true, false}
 use mathlib.Core.List.{List, [], _∷_, _++_, append-assoc}
 use native.Mathlib.Nat.{mul-suc}
 use native.Mathlib.Omega.{arith}
-use lib.Dec.{eqb, lit≤}
+use lib.Dec.{lit≤}
 use lib.ListN.{length, getD, take, drop, length-append}
 use lib.Seq.{take-at, drop-at}
 use Rattle.records.specs.Record.{isOpen}
@@ -53,14 +53,14 @@ module _ {z : Sizes} (most : Permitted z) where
       omega (arith, short-below 1 (z .clients) y one, most .clients) in
       omega (arith, short-below 8 (z .files) x each, most .files)
 
-  pub few-blocks : (blocks : List ℕ) → length (blockEntries z blocks) < 65536
-  few-blocks blocks =
-      let x : ℕ → List (List ℕ) = λ f. fileBlocks (z .blocks) f blocks in
+  pub few-blocks : (used : List Bool) (blocks : List ℕ) → length (blockEntries z used blocks) < 65536
+  few-blocks used blocks =
+      let x : ℕ → List (List ℕ) = λ f. fileBlocks (z .blocks) f used blocks in
       let each : (f : ℕ) → length (x f) ≤ 8 =
       λ f.
-      let y : ℕ → List (List ℕ) = λ b. blockEntry f b (getD blocks (place f b) 0) in
+      let y : ℕ → List (List ℕ) = λ b. blockEntry f b (getD used (place f b) false) (getD blocks (place f b) 0) in
       let one : (b : ℕ) → length (y b) ≤ 1 =
-      λ b. let v = getD blocks (place f b) 0 in short-if (not (eqb v 0)) (blockBytes f b v) in
+      λ b. short-if (getD used (place f b) false) (blockBytes f b (getD blocks (place f b) 0)) in
       omega (arith, short-below 1 (z .blocks) y one, most .blocks) in
       omega (arith, short-below 8 (z .files) x each, most .files)
 

@@ -16,7 +16,7 @@ use Rattle.service.specs.declared.service.Service.{Service}
 use Rattle.service.specs.Contents.{sizesOf}
 use Rattle.service.specs.Demand3.{after}
 use Rattle.image.specs.Image.{imageBytes}
-use Rattle.restore.specs.Decoded.{decodedFiles, decodedBlocks, decodedEmbargoes}
+use Rattle.restore.specs.Decoded.{decodedFiles, decodedUsed, decodedBlocks, decodedEmbargoes}
 use Rattle.restore.specs.Reading.{sameBytes, isImage, withContents, readingOf}
 
 module _
@@ -26,6 +26,8 @@ module _
     (force : z ≡ sizesOf s)
     (files : List Entry)
     (files-are : files ≡ decodedFiles bytes)
+    (used : List Bool)
+    (used-are : used ≡ decodedUsed bytes)
     (blocks : List ℕ)
     (blocks-are : blocks ≡ decodedBlocks bytes)
     (embargoed : List Bool)
@@ -33,10 +35,10 @@ module _
     (none : Granting)
     (none-is : none ≡ noGranting)
     (t : Bool)
-    (test : t ≡ sameBytes bytes (imageBytes z files blocks embargoed)) where
+    (test : t ≡ sameBytes bytes (imageBytes z files used blocks embargoed)) where
   test-is : t ≡ isImage (sizesOf s) bytes
   unfolding isImage
-  test-is = test ∙ (λ k. sameBytes bytes (imageBytes (force k) (files-are k) (blocks-are k) (embargoed-are k)))
+  test-is = test ∙ (λ k. sameBytes bytes (imageBytes (force k) (files-are k) (used-are k) (blocks-are k) (embargoed-are k)))
 
   pub refused :
       t ≡ false
@@ -51,10 +53,10 @@ module _
       t ≡ true
       → (crashed s′ : Service)
       → crashed ≡ after s Crash
-      → s′ ≡ withContents crashed files blocks embargoed
+      → s′ ≡ withContents crashed files used blocks embargoed
       → record { service = s′; reply = Done; calls = noCalls; grants = replicate maxFiles none } ≡ readingOf s bytes
   unfolding readingOf
   accepted e crashed s′ crash is =
-      let service = is ∙ (λ k. withContents (crash k) (files-are k) (blocks-are k) (embargoed-are k)) in
+      let service = is ∙ (λ k. withContents (crash k) (files-are k) (used-are k) (blocks-are k) (embargoed-are k)) in
       (λ k. record { service = service k; reply = Done; calls = noCalls; grants = replicate maxFiles (none-is k) })
       ∙ sym (when _ _ (sym test-is ∙ e))

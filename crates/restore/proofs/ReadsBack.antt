@@ -1,8 +1,8 @@
--- What was written reads back: reading the image of a service is a crash, with the versions, blocks and embargoes of
--- that service. Assumes nothing.
-use Prim.Native.Nat.{ℕ, zero, suc, _<_}
-use mathlib.Core.Path.{_≡_, refl, ap, _∙_, subst⁻¹}
-use mathlib.Core.Bool.{Bool}
+-- What was written reads back: reading the image of a service is a crash, with the versions, used blocks, blocks and
+-- embargoes of that service. Assumes nothing.
+use Prim.Native.Nat.{ℕ, zero, suc, _-_, _<_}
+use mathlib.Core.Path.{_≡_, refl, sym, ap, _∙_, subst⁻¹}
+use mathlib.Core.Bool.{Bool, false}
 use mathlib.Core.List.{List}
 use native.Mathlib.Omega.{arith}
 use lib.Dec.{eqb}
@@ -11,23 +11,26 @@ use Rattle.records.specs.declared.version.Version.{Version}
 use Rattle.records.specs.Version.{numberOf, asRead}
 use Rattle.sizes.proofs.Choosing.{split}
 use Rattle.sizes.specs.declared.sizes.Sizes.{Sizes}
-use Rattle.sizes.specs.Sizes.{place}
+use Rattle.sizes.specs.Sizes.{inForce, place}
 use Rattle.decision.specs.Lists.{stored}
 use Rattle.decision.proofs.Storing.{stored-agree}
 use Rattle.protocol.specs.declared.entry.Entry.{Entry}
 use Rattle.protocol.specs.declared.reply.Reply.the-variants.{Done}
 use Rattle.protocol.specs.declared.step.Step.the-variants.{Crash}
 use Rattle.protocol.specs.Reply.{noCalls, noGrants}
-use Rattle.table.specs.TableStep.{entryOf, isEmbargoed, tableStep}
+use Rattle.table.specs.TableStep.{entryOf, isEmbargoed}
 use Rattle.service.specs.declared.service.Service.{Service}
 use Rattle.service.specs.Contents.{sizesOf, tableIn}
-use Rattle.service.specs.Step.{stepOf}
+use Rattle.service.specs.Space.{usedIn, spaced}
+use Rattle.service.specs.Step.{stepOf, moved}
 use Rattle.service.specs.Demand3.{after}
 use Rattle.image.specs.Image.{imageOf}
-use Rattle.restore.specs.Decoded.{decodedFiles, decodedBlocks, decodedEmbargoes}
-use Rattle.restore.specs.Reading.{withVersion, withVersions, withBlocks, withEmbargoes, restored}
-use Rattle.restore.specs.Exact.{ReadsBack}
-use Rattle.restore.proofs.Exact.{version-back, block-back, embargo-back, taken, accepts}
+use Rattle.image.specs.Fits.{Fits}
+use Rattle.restore.specs.Decoded.{decodedFiles, decodedUsed, decodedBlocks, decodedEmbargoes}
+use Rattle.restore.specs.Reading.{withVersion, withVersions, withPlaces, withBlocks, withUsed, withEmbargoes}
+use Rattle.restore.specs.Reading.{withContents}
+use Rattle.restore.specs.Exact.{usedValues, ReadsBack}
+use Rattle.restore.proofs.Exact.{version-back, used-back, block-back, embargo-back, taken, accepts}
 
 -- a version that is read again
 read-twice : (v : Version) → asRead (asRead v) ≡ asRead v
@@ -37,87 +40,107 @@ read-twice v = split (eqb (numberOf v) 0) (λ t. rw t) (λ t. rw (t, t))
 module _
     (s : Service)
     (others entries : List Entry)
+    (otherUsed used : List Bool)
     (otherBlocks blocks : List ℕ)
     (otherEmbargoes embargoed : List Bool) where
-  with-contents-alike :
-      withVersions (sizesOf s .files) others (tableIn (after s Crash) .files)
-      ≡ withVersions (sizesOf s .files) entries (tableIn (after s Crash) .files)
-      → withBlocks (sizesOf s .files) (sizesOf s .blocks) otherBlocks (after s Crash .server .blocks)
-      ≡ withBlocks (sizesOf s .files) (sizesOf s .blocks) blocks (after s Crash .server .blocks)
-      → withEmbargoes (sizesOf s .clients) otherEmbargoes (tableIn (after s Crash) .embargoed)
-      ≡ withEmbargoes (sizesOf s .clients) embargoed (tableIn (after s Crash) .embargoed)
-      → restored s others otherBlocks otherEmbargoes ≡ restored s entries blocks embargoed
-  unfolding stepOf tableStep
-  with-contents-alike versions values embargoes =
-      let crashed = after s Crash in
+  abbrev z : Sizes
+  z = sizesOf s
+
+  contents-alike :
+      withVersions (z .files) others (tableIn s .files) ≡ withVersions (z .files) entries (tableIn s .files)
+      → withUsed (z .files) (z .blocks) otherUsed (s .server .used)
+      ≡ withUsed (z .files) (z .blocks) used (s .server .used)
+      → withBlocks (z .files) (z .blocks) otherBlocks (s .server .blocks)
+      ≡ withBlocks (z .files) (z .blocks) blocks (s .server .blocks)
+      → withEmbargoes (z .clients) otherEmbargoes (tableIn s .embargoed)
+      ≡ withEmbargoes (z .clients) embargoed (tableIn s .embargoed)
+      → withContents s others otherUsed otherBlocks otherEmbargoes ≡ withContents s entries used blocks embargoed
+  contents-alike versions marks values embargoes =
       λ k.
       record {
-        service =
+        sizes = s .sizes;
+        server =
             record {
-              sizes = s .sizes;
-              server =
+              table =
                   record {
-                    table =
-                        record {
-                          files = versions k;
-                          recovering = tableIn crashed .recovering;
-                          reported = tableIn crashed .reported;
-                          embargoed = embargoes k;
-                        };
-                    blocks = values k;
+                    files = versions k;
+                    recovering = tableIn s .recovering;
+                    reported = tableIn s .reported;
+                    embargoed = embargoes k;
                   };
-              clients = s .clients;
-              copies = s .copies;
-              held = s .held;
-              dirty = s .dirty;
+              blocks = values k;
+              used = marks k;
+              free = z .store - usedIn z (marks k);
             };
-        reply = Done;
-        calls = noCalls;
-        grants = noGrants;
+        clients = s .clients;
+        copies = s .copies;
+        held = s .held;
+        dirty = s .dirty;
       }
 
--- blocks that agree are taken alike
-blocks-alike :
-    (k n : ℕ) (others blocks l : List ℕ)
-    → ((f b : ℕ) → f < k → b < n → getD others (place f b) 0 ≡ getD blocks (place f b) 0)
-    → withBlocks k n others l ≡ withBlocks k n blocks l
-unfolding withBlocks
-blocks-alike zero n others blocks l same = refl
-blocks-alike (suc k) n others blocks l same =
-    stored-agree n (place k) (λ b. getD others (place k b) 0) (λ b. getD blocks (place k b) 0)
-    (withBlocks k n others l) (λ b hb. same k b (omega arith) hb)
-    ∙ ap (stored n (place k) (λ b. getD blocks (place k b) 0))
-    (blocks-alike k n others blocks l (λ f b hf hb. same f b (omega arith) hb))
+-- what agrees in its places is taken alike
+places-alike {ℓ} :
+    {A : Type ℓ} (d : A) (k n : ℕ) (others these l : List A)
+    → ((f b : ℕ) → f < k → b < n → getD others (place f b) d ≡ getD these (place f b) d)
+    → withPlaces d k n others l ≡ withPlaces d k n these l
+unfolding withPlaces
+places-alike d zero n others these l same = refl
+places-alike d (suc k) n others these l same =
+    stored-agree n (place k) (λ b. getD others (place k b) d) (λ b. getD these (place k b) d)
+    (withPlaces d k n others l) (λ b hb. same k b (omega arith) hb)
+    ∙ ap (stored n (place k) (λ b. getD these (place k b) d))
+    (places-alike d k n others these l (λ f b hf hb. same f b (omega arith) hb))
+
+-- a crash keeps the sizes
+pub crash-sizes : (s : Service) → after s Crash .sizes ≡ s .sizes
+unfolding stepOf moved spaced
+crash-sizes s = refl
+
+-- the image of t, taken by a service s of the same sizes
+module _ (s t : Service) (fits : Fits t) (sizes : sizesOf t ≡ sizesOf s) where
+  abbrev bytes : List ℕ
+  bytes = imageOf t
+
+  abbrev files : List Entry
+  files = tableIn s .files
+
+  abbrev held : List Bool
+  held = tableIn s .embargoed
+
+  file-below : (f : ℕ) → f < sizesOf s .files → f < sizesOf t .files
+  file-below f hf = subst⁻¹ (λ (z : Sizes). f < z .files) sizes hf
+
+  block-below : (b : ℕ) → b < sizesOf s .blocks → b < sizesOf t .blocks
+  block-below b hb = subst⁻¹ (λ (z : Sizes). b < z .blocks) sizes hb
+
+  client-below : (i : ℕ) → i < sizesOf s .clients → i < sizesOf t .clients
+  client-below i hi = subst⁻¹ (λ (z : Sizes). i < z .clients) sizes hi
+
+  image-taken :
+      withContents s (decodedFiles bytes) (decodedUsed bytes) (decodedBlocks bytes) (decodedEmbargoes bytes)
+      ≡ withContents s (tableIn t .files) (t .server .used) (usedValues (t .server .used) (t .server .blocks))
+      (tableIn t .embargoed)
+  image-taken =
+      let n = sizesOf s .files in
+      let m = sizesOf s .blocks in
+      let entries = tableIn t .files in
+      let values = usedValues (t .server .used) (t .server .blocks) in
+      contents-alike s (decodedFiles bytes) entries (decodedUsed bytes) (t .server .used) (decodedBlocks bytes) values
+      (decodedEmbargoes bytes) (tableIn t .embargoed)
+      (stored-agree n (λ f. f) (λ f. withVersion (entryOf files f) (asRead (entryOf (decodedFiles bytes) f .version)))
+      (λ f. withVersion (entryOf files f) (asRead (entryOf entries f .version))) files
+      (λ f hf.
+      ap (λ v. withVersion (entryOf files f) v)
+      (ap asRead (version-back t fits f (file-below f hf)) ∙ read-twice (entryOf entries f .version))))
+      (places-alike false n m (decodedUsed bytes) (t .server .used) (s .server .used)
+      (λ f b hf hb. used-back t fits f b (file-below f hf) (block-below b hb)))
+      (places-alike 0 n m (decodedBlocks bytes) values (s .server .blocks)
+      (λ f b hf hb. block-back t fits f b (file-below f hf) (block-below b hb)))
+      (stored-agree (sizesOf s .clients) (λ i. i) (isEmbargoed (decodedEmbargoes bytes))
+      (isEmbargoed (tableIn t .embargoed)) held (λ i hi. embargo-back t fits i (client-below i hi)))
 
 pub reads-back : ReadsBack
 reads-back s t fits sizes =
-    let bytes = imageOf t in
-    let n = sizesOf s .files in
-    let crashed = after s Crash in
-    let files = tableIn crashed .files in
-    let entries = tableIn t .files in
-    let below : (f : ℕ) → f < n → f < sizesOf t .files = λ f hf. subst⁻¹ (λ (z : Sizes). f < z .files) sizes hf in
-    let version : (f : ℕ)
-    → f < n
-    → withVersion (entryOf files f) (asRead (entryOf (decodedFiles bytes) f .version))
-    ≡ withVersion (entryOf files f) (asRead (entryOf entries f .version)) =
-    λ f hf.
-    ap (λ v. withVersion (entryOf files f) v)
-    (ap asRead (version-back t fits f (below f hf)) ∙ read-twice (entryOf entries f .version)) in
-    let versions : withVersions n (decodedFiles bytes) files ≡ withVersions n entries files =
-    stored-agree n (λ f. f) (λ f. withVersion (entryOf files f) (asRead (entryOf (decodedFiles bytes) f .version)))
-    (λ f. withVersion (entryOf files f) (asRead (entryOf entries f .version))) files version in
-    let blocks : withBlocks n (sizesOf s .blocks) (decodedBlocks bytes) (crashed .server .blocks)
-    ≡ withBlocks n (sizesOf s .blocks) (t .server .blocks) (crashed .server .blocks) =
-    blocks-alike n (sizesOf s .blocks) (decodedBlocks bytes) (t .server .blocks) (crashed .server .blocks)
-    (λ f b hf hb.
-    block-back t fits f b (below f hf) (subst⁻¹ (λ (z : Sizes). b < z .blocks) sizes hb)) in
-    let held = tableIn crashed .embargoed in
-    let embargoes : withEmbargoes (sizesOf s .clients) (decodedEmbargoes bytes) held
-    ≡ withEmbargoes (sizesOf s .clients) (tableIn t .embargoed) held =
-    stored-agree (sizesOf s .clients) (λ i. i) (isEmbargoed (decodedEmbargoes bytes))
-    (isEmbargoed (tableIn t .embargoed)) held
-    (λ i hi. embargo-back t fits i (subst⁻¹ (λ (z : Sizes). i < z .clients) sizes hi)) in
-    taken s bytes (accepts s t bytes fits sizes refl)
-    ∙ with-contents-alike s (decodedFiles bytes) entries (decodedBlocks bytes) (t .server .blocks)
-    (decodedEmbargoes bytes) (tableIn t .embargoed) versions blocks embargoes
+    taken s (imageOf t) (accepts s t (imageOf t) fits sizes refl)
+    ∙ ap (λ x. record { service = x; reply = Done; calls = noCalls; grants = noGrants })
+    (image-taken (after s Crash) t fits (sizes ∙ ap inForce (sym (crash-sizes s))))

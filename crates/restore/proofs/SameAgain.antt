@@ -1,7 +1,7 @@
 -- Two servers whose contents read alike have the same image. Assumes nothing.
 use Prim.Native.Nat.{ℕ, zero, suc, _≤_, _<_}
 use mathlib.Core.Path.{_≡_, refl, sym, ap, _∙_}
-use mathlib.Core.Bool.{Bool, cond, not, _&&_}
+use mathlib.Core.Bool.{Bool, true, false, cond, not, _&&_}
 use mathlib.Core.List.{List, [], _∷_, _++_}
 use native.Mathlib.Omega.{arith}
 use lib.Dec.{eqb, ltb, leb}
@@ -62,10 +62,17 @@ open-again i f r =
     (λ t. ap (openEntry i f) (when r notOpen t))
     (λ t. ap (openEntry i f) (unless r notOpen t) ∙ sym (unless _ _ t))
 
+-- a block that is not used shows no value
+block-again :
+    (f b : ℕ) (t : Bool) (v : ℕ) {u : Bool} {w : ℕ} → u ≡ t → w ≡ cond t v 0 → blockEntry f b u w ≡ blockEntry f b t v
+block-again f b true v used value = λ k. blockEntry f b (used k) (value k)
+block-again f b false v {u} {w} used value = ap (λ u. blockEntry f b u w) used
+
 module _
     {z : Sizes}
     (most : Permitted z)
     (others entries : List Entry)
+    (otherUsed used : List Bool)
     (otherBlocks blocks : List ℕ)
     (otherEmbargoes embargoed : List Bool)
     (versions : (f : ℕ) → f < z .files → versionRead (entryOf others f) ≡ versionRead (entryOf entries f))
@@ -74,10 +81,14 @@ module _
     → f < z .files
     → i < z .clients
     → recordAt (entryOf others f) i ≡ openRead (recordAt (entryOf entries f) i))
+    (marks : (f b : ℕ)
+    → f < z .files
+    → b < z .blocks
+    → getD otherUsed (place f b) false ≡ getD used (place f b) false)
     (values : (f b : ℕ)
     → f < z .files
     → b < z .blocks
-    → getD otherBlocks (place f b) 0 ≡ getD blocks (place f b) 0)
+    → getD otherBlocks (place f b) 0 ≡ cond (getD used (place f b) false) (getD blocks (place f b) 0) 0)
     (embargoes : (i : ℕ) → i < z .clients → isEmbargoed otherEmbargoes i ≡ isEmbargoed embargoed i) where
   files-again : fileEntries z others ≡ fileEntries z entries
   files-again =
@@ -95,19 +106,23 @@ module _
       (λ i. openEntry i f (recordAt (entryOf entries f) i))
       (λ i hi. ap (openEntry i f) (records f i hf hi) ∙ open-again i f (recordAt (entryOf entries f) i)))
 
-  blocks-again : blockEntries z otherBlocks ≡ blockEntries z blocks
+  blocks-again : blockEntries z otherUsed otherBlocks ≡ blockEntries z used blocks
   blocks-again =
-      below-agree (z .files) (λ f. fileBlocks (z .blocks) f otherBlocks) (λ f. fileBlocks (z .blocks) f blocks)
+      below-agree (z .files) (λ f. fileBlocks (z .blocks) f otherUsed otherBlocks)
+      (λ f. fileBlocks (z .blocks) f used blocks)
       (λ f hf.
-      below-agree (z .blocks) (λ b. blockEntry f b (getD otherBlocks (place f b) 0))
-      (λ b. blockEntry f b (getD blocks (place f b) 0)) (λ b hb. ap (blockEntry f b) (values f b hf hb)))
+      below-agree (z .blocks)
+      (λ b. blockEntry f b (getD otherUsed (place f b) false) (getD otherBlocks (place f b) 0))
+      (λ b. blockEntry f b (getD used (place f b) false) (getD blocks (place f b) 0))
+      (λ b hb. block-again f b (getD used (place f b) false) (getD blocks (place f b) 0) (marks f b hf hb) (values f b hf hb)))
 
   embargoes-again : embargoEntries z otherEmbargoes ≡ embargoEntries z embargoed
   embargoes-again =
       below-agree (z .clients) (λ i. embargoEntry i (isEmbargoed otherEmbargoes i))
       (λ i. embargoEntry i (isEmbargoed embargoed i)) (λ i hi. ap (embargoEntry i) (embargoes i hi))
 
-  pub image-again : imageBytes z others otherBlocks otherEmbargoes ≡ imageBytes z entries blocks embargoed
+  pub image-again :
+      imageBytes z others otherUsed otherBlocks otherEmbargoes ≡ imageBytes z entries used blocks embargoed
   unfolding imageBytes
   image-again =
       λ k.

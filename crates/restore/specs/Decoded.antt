@@ -1,6 +1,6 @@
--- What bytes hold, if they are an image: a server's entries, blocks and embargoes, read from left to right. Numbers
--- past the arrays are wrapped, and nothing is tested here: bytes that are not the image of what they hold are no image
--- (Reading.antt). What is promised of reading does not mention these definitions (Exact.antt).
+-- What bytes hold, if they are an image: a server's entries, its blocks and which are used, and its embargoes, read
+-- from left to right. Numbers past the arrays are wrapped, and nothing is tested here: bytes that are not the image of
+-- what they hold are no image (Reading.antt). What is promised of reading does not mention these definitions (Exact.antt).
 use Prim.Native.Nat.{ℕ, zero, suc, _+_, _*_, _%_}
 use mathlib.Core.Bool.{Bool, true, false}
 use mathlib.Core.List.{List, [], _∷_}
@@ -87,6 +87,10 @@ placeOf e = place (byteAt e 0 % maxFiles) (byteAt e 1 % maxBlocks)
 abbrev pub putBlock : List ℕ → List ℕ → List ℕ
 putBlock e blocks = set blocks (placeOf e) (numberAt 8 e 2)
 
+-- "The image lists used blocks in place of non-zero ones" (document 02, Wish 13): a block that is listed is used
+abbrev pub putUsed : List ℕ → List Bool → List Bool
+putUsed e used = set used (placeOf e) true
+
 -- an entry of the section of embargoes
 abbrev pub embargoedOf : List ℕ → ℕ
 embargoedOf e = byteAt e 0 % maxClients
@@ -94,9 +98,9 @@ embargoedOf e = byteAt e 0 % maxClients
 abbrev pub putEmbargo : List ℕ → List Bool → List Bool
 putEmbargo e embargoed = set embargoed (embargoedOf e) true
 
--- where the four sections begin: after the three sizes, and each past the one before
+-- where the four sections begin: after the four sizes, which take five bytes, and each past the one before
 abbrev pub filesPart : List ℕ → List ℕ
-filesPart bytes = drop 3 bytes
+filesPart bytes = drop 5 bytes
 
 abbrev pub opensPart : List ℕ → List ℕ
 opensPart bytes = pastSection 6 (filesPart bytes)
@@ -107,7 +111,7 @@ blocksPart bytes = pastSection 5 (opensPart bytes)
 abbrev pub embargoesPart : List ℕ → List ℕ
 embargoesPart bytes = pastSection 10 (blocksPart bytes)
 
--- "files not listed" are as at the start, blocks not listed 0, and clients not listed without embargo
+-- "files not listed" are as at the start, blocks not listed 0 and not used, and clients not listed without embargo
 abbrev pub listedFiles : List ℕ → List Entry
 listedFiles bytes = placed putFile (sectionIn 6 (filesPart bytes)) (replicate maxFiles (freshEntry maxClients))
 
@@ -116,6 +120,9 @@ decodedFiles bytes = placed putOpen (sectionIn 5 (opensPart bytes)) (listedFiles
 
 unfoldable pub decodedBlocks : List ℕ → List ℕ
 decodedBlocks bytes = placed putBlock (sectionIn 10 (blocksPart bytes)) (replicate maxPlaces 0)
+
+unfoldable pub decodedUsed : List ℕ → List Bool
+decodedUsed bytes = placed putUsed (sectionIn 10 (blocksPart bytes)) (replicate maxPlaces false)
 
 unfoldable pub decodedEmbargoes : List ℕ → List Bool
 decodedEmbargoes bytes = placed putEmbargo (sectionIn 1 (embargoesPart bytes)) (replicate maxClients false)

@@ -2,8 +2,8 @@
 -- reads back. Proved by `exact` and `starts` (proofs/Exact.antt) and by `reads-back` (proofs/ReadsBack.antt).
 use Prim.Native.Nat.{ℕ, _<_}
 use mathlib.Core.Path.{_≡_}
-use mathlib.Core.Bool.{false}
-use mathlib.Core.List.{List}
+use mathlib.Core.Bool.{Bool, false, cond}
+use mathlib.Core.List.{List, [], _∷_}
 use mathlib.Core.Logic.{_↔_}
 use lib.ListN.{length, getD}
 use Rattle.sizes.specs.declared.sizes.Sizes.{Sizes}
@@ -43,11 +43,19 @@ Exact = (s : Service) (bytes : List ℕ) → AreBytes bytes → AcceptsExactly s
 abbrev pub Starts : Type 0
 Starts = (t : Service) → Fits t → isRefused (readingOf (fresh (sizesIn (imageOf t))) (imageOf t) .reply) ≡ false
 
--- The image of t, read by any service s of the same sizes: the crash of s, with the versions, blocks and embargoes of
--- t.
+-- the blocks as an image gives them back: those that are not used are 0
+unfoldable pub usedValues : List Bool → List ℕ → List ℕ
+usedValues [] blocks = []
+usedValues (t ∷ used) [] = []
+usedValues (t ∷ used) (v ∷ blocks) = cond t v 0 ∷ usedValues used blocks
+
+-- The image of t, read by any service s of the same sizes: the crash of s, with the versions, used blocks, blocks and
+-- embargoes of t.
 abbrev pub ReadsBack : Type 0
 ReadsBack =
     (s t : Service)
     → Fits t
     → sizesOf t ≡ sizesOf s
-    → readingOf s (imageOf t) ≡ restored s (tableIn t .files) (t .server .blocks) (tableIn t .embargoed)
+    → readingOf s (imageOf t)
+    ≡ restored s (tableIn t .files) (t .server .used) (usedValues (t .server .used) (t .server .blocks))
+    (tableIn t .embargoed)

@@ -1,12 +1,12 @@
-// What bytes hold, if they are an image: entries, blocks and embargoes. Numbers are wrapped into the arrays, and
-// nothing is tested.
+// What bytes hold, if they are an image: entries, blocks, which of them are used, and embargoes. Numbers are wrapped
+// into the arrays, and nothing is tested.
 ghost use Prim.Native.Nat.{_+_, _*_, _≤_, _<_};
 ghost use mathlib.Core.Path.{_≡_};
 ghost use lib.ListN.{take, drop};
 ghost use Rattle.restore.specs.Decoded.{numberAt, sectionIn, placed, withFile, putFile, recordOf};
-ghost use Rattle.restore.specs.Decoded.{withOpen, putOpen, putBlock, putEmbargo};
+ghost use Rattle.restore.specs.Decoded.{withOpen, putOpen, putBlock, putUsed, putEmbargo};
 ghost use Rattle.sizes.specs.Sizes.{maxPlaces};
-ghost use Rattle.restore.specs.Decoded.{placeOf, decodedFiles, decodedBlocks, decodedEmbargoes};
+ghost use Rattle.restore.specs.Decoded.{placeOf, decodedFiles, decodedBlocks, decodedUsed, decodedEmbargoes};
 use crate::numbers::byte_at;
 use crate::numbers::eight_at;
 use crate::numbers::four_at;
@@ -33,7 +33,7 @@ fn with_file(bytes: &[u8], at: usize, mut entry: Entry) -> Entry
 
 // The entries with those of the section of files that begins at the offset.
 fn take_files(bytes: &[u8], at: usize, mut files: [Entry; MAX_FILES]) -> [Entry; MAX_FILES]
-    requires { ⌜ at ≤ 3 ⌝ }
+    requires { ⌜ at ≤ 5 ⌝ }
     ensures { λ r. ⌜ r ≡ placed putFile (sectionIn 6 (drop at (now (bytes .entry)))) files ⌝ }
 {
     let count = two_at(bytes, at);
@@ -123,6 +123,23 @@ fn take_blocks(bytes: &[u8], at: usize, mut blocks: [u64; MAX_PLACES]) -> [u64; 
     blocks
 }
 
+// The used blocks with those of the section of blocks that begins at the offset: each that is listed.
+fn take_used(bytes: &[u8], at: usize, mut used: [bool; MAX_PLACES]) -> [bool; MAX_PLACES]
+    requires { ⌜ at ≤ 1400000 ⌝ }
+    ensures { λ r. ⌜ r ≡ placed putUsed (sectionIn 10 (drop at (now (bytes .entry)))) used ⌝ }
+{
+    let count = two_at(bytes, at);
+    let mut next = at + 2;
+    let mut k: u64 = 0;
+    while k < count {
+        let place = place_at(bytes, next);
+        used[place] = true;
+        next += 10;
+        k += 1;
+    }
+    used
+}
+
 // The embargoes with those of the section of embargoes that begins at the offset.
 fn take_embargoes(
     bytes: &[u8],
@@ -159,22 +176,30 @@ pub fn decode_files(bytes: &[u8]) -> [Entry; MAX_FILES]
     ensures { λ r. ⌜ r ≡ decodedFiles (now (bytes .entry)) ⌝ }
 {
     let fresh = Entry::fresh();
-    let files = take_files(bytes, 3, [fresh; MAX_FILES]);
-    take_opens(bytes, past_section(bytes, 3, 6), files)
+    let files = take_files(bytes, 5, [fresh; MAX_FILES]);
+    take_opens(bytes, past_section(bytes, 5, 6), files)
 }
 
 pub fn decode_blocks(bytes: &[u8]) -> [u64; MAX_PLACES]
     ensures { λ r. ⌜ r ≡ decodedBlocks (now (bytes .entry)) ⌝ }
 {
-    let opens = past_section(bytes, 3, 6);
+    let opens = past_section(bytes, 5, 6);
     let blocks = past_section(bytes, opens, 5);
     take_blocks(bytes, blocks, [0; MAX_PLACES])
+}
+
+pub fn decode_used(bytes: &[u8]) -> [bool; MAX_PLACES]
+    ensures { λ r. ⌜ r ≡ decodedUsed (now (bytes .entry)) ⌝ }
+{
+    let opens = past_section(bytes, 5, 6);
+    let blocks = past_section(bytes, opens, 5);
+    take_used(bytes, blocks, [false; MAX_PLACES])
 }
 
 pub fn decode_embargoes(bytes: &[u8]) -> [bool; MAX_CLIENTS]
     ensures { λ r. ⌜ r ≡ decodedEmbargoes (now (bytes .entry)) ⌝ }
 {
-    let opens = past_section(bytes, 3, 6);
+    let opens = past_section(bytes, 5, 6);
     let blocks = past_section(bytes, opens, 5);
     let embargoes = past_section(bytes, blocks, 10);
     take_embargoes(bytes, embargoes, [false; MAX_CLIENTS])

@@ -2,6 +2,7 @@
 mod decoding;
 mod numbers;
 mod reading;
+mod used;
 
 pub use reading::image_sizes;
 pub use reading::read_image;

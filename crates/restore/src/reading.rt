@@ -11,7 +11,12 @@ ghost use Rattle.restore.specs.Reading.{readingOf, sizesIn};
 use crate::decoding::decode_blocks;
 use crate::decoding::decode_embargoes;
 use crate::decoding::decode_files;
+use crate::decoding::decode_used;
 use crate::numbers::byte_at;
+use crate::numbers::two_at;
+use crate::used::count_used;
+use crate::used::places_left;
+use crate::used::with_used;
 use image::IMAGE_ROOM;
 use image::put_image;
 use protocol::Entry;
@@ -36,11 +41,12 @@ pub fn image_sizes(bytes: &[u8]) -> Sizes
         clients: byte_at(bytes, 0) as usize,
         files: byte_at(bytes, 1) as usize,
         blocks: byte_at(bytes, 2) as usize,
+        store: two_at(bytes, 3) as usize,
     }
 }
 
-// Takes the versions, blocks and embargoes of the image, and is otherwise a crash. Refused with 17, the service stays
-// as it came: the bytes are not the image of what they hold.
+// Takes the versions, used blocks, blocks and embargoes of the image, and is otherwise a crash; what is not used is
+// free. Refused with 17, the service stays as it came: the bytes are not the image of what they hold.
 pub fn read_image(service: Service, bytes: &[u8]) -> Outcome
     ensures { λ r. ⌜ r ≡ readingOf service (now (bytes .entry)) ⌝ }
     ensures { λ r. ⌜ AcceptsExactly service (now (bytes .entry)) r ⌝ }
@@ -49,9 +55,10 @@ pub fn read_image(service: Service, bytes: &[u8]) -> Outcome
     let given = service.sizes;
     let sizes = given.in_force();
     let files = decode_files(bytes);
+    let used = decode_used(bytes);
     let blocks = decode_blocks(bytes);
     let embargoed = decode_embargoes(bytes);
-    if !is_image(bytes, sizes, files, &blocks, embargoed) {
+    if !is_image(bytes, sizes, files, &used, &blocks, embargoed) {
         return Outcome {
             service,
             reply: Reply::Refused(NO_IMAGE),
@@ -61,26 +68,28 @@ pub fn read_image(service: Service, bytes: &[u8]) -> Outcome
     }
     let crashed = service.crashed();
     Outcome {
-        service: with_contents(crashed, files, &blocks, embargoed),
+        service: with_contents(crashed, files, &used, &blocks, embargoed),
         reply: Reply::Done,
         calls: [0; MAX_CLIENTS],
         grants: [none; MAX_FILES],
     }
 }
 
-// Whether the bytes are the image of these entries, blocks and embargoes.
+// Whether the bytes are the image of these entries, used blocks, blocks and embargoes.
 fn is_image(
     bytes: &[u8],
     sizes: Sizes,
     files: [Entry; MAX_FILES],
+    used: &[bool; MAX_PLACES],
     blocks: &[u64; MAX_PLACES],
     embargoed: [bool; MAX_CLIENTS],
 ) -> bool
     requires { ⌜ Permitted sizes ⌝ }
-    ensures { λ r. ⌜ r ≡ sameBytes (now (bytes .entry)) (imageBytes sizes files (now (blocks .entry)) embargoed) ⌝ }
+    ensures { λ r. ⌜ r ≡ sameBytes (now (bytes .entry))
+        (imageBytes sizes files (now (used .entry)) (now (blocks .entry)) embargoed) ⌝ }
 {
     let mut image = [0u8; IMAGE_ROOM];
-    let length = put_image(&mut image, sizes, files, blocks, embargoed);
+    let length = put_image(&mut image, sizes, files, used, blocks, embargoed);
     same_bytes(bytes, &image, length)
 }
 
@@ -102,14 +111,15 @@ fn same_bytes(bytes: &[u8], others: &[u8], count: usize) -> bool
     true
 }
 
-// The service with these versions, blocks and embargoes, as far as the sizes in force go.
+// The service with these versions, used blocks, blocks and embargoes, as far as the sizes in force go.
 fn with_contents(
     service: Service,
     files: [Entry; MAX_FILES],
+    used: &[bool; MAX_PLACES],
     blocks: &[u64; MAX_PLACES],
     embargoed: [bool; MAX_CLIENTS],
 ) -> Service
-    ensures { λ r. ⌜ r ≡ withContents service files (now (blocks .entry)) embargoed ⌝ }
+    ensures { λ r. ⌜ r ≡ withContents service files (now (used .entry)) (now (blocks .entry)) embargoed ⌝ }
 {
     let given = service.sizes;
     let sizes = given.in_force();
@@ -123,6 +133,9 @@ fn with_contents(
     let dirty = service.dirty;
     let reported = table.reported;
     let held_embargoed = table.embargoed;
+    let held_used = server.used;
+    let used_then = with_used(held_used, used, sizes);
+    let free = places_left(sizes.store, count_used(&used_then, sizes));
     Service {
         sizes: given,
         server: Server {
@@ -133,6 +146,8 @@ fn with_contents(
                 embargoed: with_embargoes(held_embargoed, embargoed, sizes.clients),
             },
             blocks: with_blocks(held_blocks, blocks, sizes),
+            used: used_then,
+            free,
         },
         clients,
         copies,

@@ -8,7 +8,8 @@ use mathlib.Core.List.{List, [], _∷_, _++_}
 use lib.Dec.{eqb, ltb}
 use Rattle.records.specs.declared.record.Mode.the-variants.{Read as ForRead, Write as ForWrite}
 use Rattle.records.specs.Version.{noVersion}
-use Rattle.sizes.specs.Sizes.{defaultSizes}
+use Rattle.sizes.specs.declared.sizes.Sizes.{Sizes}
+use Rattle.sizes.specs.Sizes.{maxPlaces, defaultSizes}
 use Rattle.decision.specs.Lists.{count, firstBelow, stored}
 use Rattle.decision.specs.State.{stateOf}
 use Rattle.decision.specs.Callback.{orderedCalls}
@@ -22,7 +23,8 @@ use Rattle.access.specs.BlockStep.{blockStep}
 use Rattle.file.specs.FileStep.{fileStep, afterForgetting, afterDropping}
 use Rattle.table.specs.TableStep.{tableStep}
 use Rattle.service.specs.Embargo.{forgottenBelow, grantsBelow, droppedBelow, allStep}
-use Rattle.service.specs.Step.{stepOf}
+use Rattle.service.specs.Space.{anyBelow, sumBelow, spaced}
+use Rattle.service.specs.Step.{moved, stepOf}
 use Rattle.service.specs.Fresh.{fresh}
 use Rattle.stepfile.specs.Text.{bytes, decimal, digitsOf, valuesText}
 use Rattle.stepfile.specs.Grammar.{digitsOn, numeral, argument, shapeOf, shaped, step, parseLine}
@@ -37,10 +39,14 @@ use Rattle.phrases.specs.Accepted.{callsText, lossesOn, lossesBelow}
 use Rattle.phrases.specs.Refusal.{refusalText}
 use Rattle.sentences.specs.Explained.{clashText, grantsText, sentenceOf, explainedText, explainedLine}
 
+-- few files and blocks, so that the blocks of the store are counted quickly
+abbrev few : Sizes
+few = record { clients = 8; files = 8; blocks = 4; store = maxPlaces }
+
 -- what is said of an input, line by line, from the fresh service and an empty ledger
 abbrev explained : List ℕ → List ℕ
 explained input =
-    transcript (explainedLine true) (annotatedAfter true) (unannotated (fresh defaultSizes)) 1 (lines input)
+    transcript (explainedLine true) (annotatedAfter true) (unannotated (fresh few)) 1 (lines input)
 
 -- what a client says of a file
 abbrev says : ℕ → ℕ → Bool → Bool → ClientFile
@@ -160,7 +166,7 @@ pub record Examples : Type 0 where
       ∷ bytes "hello\n"
       ∷ []))
       ≡ joined
-      (bytes "1 K    the service has 2 stations, 3 files of 1 blocks\n"
+      (bytes "1 K    the service has 2 stations, 3 files of 1 blocks; places: 512\n"
       ∷ bytes "2 N 2    there is no station 2; there are 2\n"
       ∷ bytes "3 N 3    there is no file 3; there are 3\n"
       ∷ bytes "4 N 4    there is no block 1; a file has 1\n"
@@ -253,7 +259,20 @@ pub record Examples : Type 0 where
   -- "19 when a setting lies outside its range"
   pub range :
       explained (bytes "SET 9 1 1\n")
-      ≡ bytes "1 N 19    a setting lies outside its range: 1 to 8 stations, 1 to 64 files, 1 to 8 blocks\n"
+      ≡ joined
+      (bytes "1 N 19    a setting lies outside its range: 1 to 8 stations, 1 to 64 files, 1 to 8 blocks, 0 to 512"
+      ∷ bytes " places\n"
+      ∷ [])
+  -- a store of one place, which station 0 has reserved
+  pub store :
+      explained (joined (bytes "SET 2 1 2 1\n" ∷ bytes "OW 0 0\n" ∷ bytes "WR 0 0 0 5\n" ∷ bytes "WR 0 0 1 6\n" ∷ []))
+      ≡ joined
+      (bytes "1 K    the service has 2 stations, 1 files of 2 blocks; places: 1\n"
+      ∷ bytes "2 G 2 1 1    station 0 has file 0 open for write at version 2 and may cache; it had no copy\n"
+      ∷ bytes "3 K    station 0 writes file 0 block 0 in its copy\n"
+      ∷ bytes "4 N 23    no place is free for file 0 block 1; places: 1; used: 0; reserved: 1; reserved by"
+      ∷ bytes " stations: 0\n"
+      ∷ [])
   -- 12 and 14
   pub full :
       refusalText defaultSizes [] [] (freshEntry 8) 0 0 (Open ForRead 5 3) 12
@@ -263,8 +282,8 @@ pub record Examples : Type 0 where
       ≡ bytes "version 4294967295 is the last, and no write open of file 3 can raise it"
 
 pub examples : Examples
-unfolding fresh emptyLedger ledgerAfter stepOf fileStep blockStep tableStep stateOf permissionAtGrant orderedCalls
-    count firstBelow stored decimal digitsOf valuesText digitsOn numeral argument shapeOf shaped step parseLine settingOf
+unfolding fresh emptyLedger ledgerAfter stepOf moved spaced anyBelow sumBelow fileStep blockStep tableStep stateOf
+    permissionAtGrant orderedCalls count firstBelow stored decimal digitsOf valuesText digitsOn numeral argument shapeOf shaped step parseLine settingOf
     replyCalls lines transcript serviceAfter numbersText callsText sentenceOf explainedText explainedLine
     annotatedAfter lossesOn lossesBelow grantsText afterForgetting afterDropping forgottenBelow grantsBelow droppedBelow
     allStep cameFrom lostBelow grantsValues
@@ -276,6 +295,7 @@ examples =
       calls = refl;
       restarts = refl;
       range = refl;
+      store = refl;
       full = refl;
       spent = refl;
     }
@@ -331,7 +351,7 @@ pub record Embargoes : Type 0 where
       ∷ bytes "EN\n"
       ∷ []))
       ≡ joined
-      (bytes "1 K    the service has 5 stations, 2 files of 1 blocks\n"
+      (bytes "1 K    the service has 5 stations, 2 files of 1 blocks; places: 512\n"
       ∷ bytes "2 G 1 0 1    station 2 has file 0 open for read at version 1 and may cache; it had no copy\n"
       ∷ bytes "3 G 1 0 1    station 3 has file 0 open for read at version 1 and may cache; it had no copy\n"
       ∷ bytes "4 G 1 0 1    station 2 has file 1 open for read at version 1 and may cache; it had no copy\n"
@@ -352,8 +372,8 @@ pub record Embargoes : Type 0 where
       ≡ bytes "station 5 is under embargo, as the image has it"
 
 pub embargoes : Embargoes
-unfolding fresh emptyLedger ledgerAfter stepOf fileStep blockStep tableStep stateOf permissionAtGrant orderedCalls
-    count firstBelow stored decimal digitsOf valuesText digitsOn numeral argument shapeOf shaped step parseLine settingOf
+unfolding fresh emptyLedger ledgerAfter stepOf moved spaced anyBelow sumBelow fileStep blockStep tableStep stateOf
+    permissionAtGrant orderedCalls count firstBelow stored decimal digitsOf valuesText digitsOn numeral argument shapeOf shaped step parseLine settingOf
     replyCalls lines transcript serviceAfter numbersText callsText sentenceOf explainedText explainedLine
     annotatedAfter lossesOn lossesBelow grantsText afterForgetting afterDropping forgottenBelow grantsBelow droppedBelow
     allStep cameFrom lostBelow grantsValues

@@ -19,9 +19,8 @@ use Rattle.protocol.specs.declared.step.Step.the-variants.{Restart, Embargo, Li
 use Rattle.protocol.specs.Step.{numbersOf, clientOf, fileOf, blockOf}
 use Rattle.ledger.specs.declared.told.Told.{Told}
 use Rattle.phrases.specs.Accepted.{readText, grantText, waitText, answerText, doneText}
-use Rattle.phrases.specs.Refusal.{refusalText}
 use Rattle.sentences.specs.Scene.{Whole}
-use Rattle.sentences.specs.Explained.{openedText, forgottenText, besidesText, embargoedText, isEmbargo}
+use Rattle.sentences.specs.Explained.{openedText, forgottenText, besidesText, embargoedText, isEmbargo, refusedText}
 
 -- what the numbers of a step name, the step names
 module _ (x : Step) {q : Numbers} (is : q ≡ numbersOf x) where
@@ -63,16 +62,17 @@ pub read-as :
     → readText fresh t aside n i f b ≡ readText fresh t aside′ n′ i′ f′ b′
 read-as fresh t o m p q r = λ k. readText fresh t (o k) (m k) (p k) (q k) (r k)
 
-pub refusal-as :
-    (z : Sizes) (x : Step) (k : ℕ) {reported reported′ embargoed embargoed′ : List Bool} {e e′ : Entry}
+pub refused-as :
+    (z : Sizes) (x : Step) (k : ℕ) (used dirty : List Bool) {reported reported′ embargoed embargoed′ : List Bool} {e e′ : Entry}
     {since since′ n n′ : ℕ}
     → reported ≡ reported′
     → embargoed ≡ embargoed′
     → e ≡ e′
     → since ≡ since′
     → n ≡ n′
-    → refusalText z reported embargoed e since n x k ≡ refusalText z reported′ embargoed′ e′ since′ n′ x k
-refusal-as z x j o p q r s = λ k. refusalText z (o k) (p k) (q k) (r k) (s k) x j
+    → refusedText z used dirty reported embargoed e since n x k
+    ≡ refusedText z used dirty reported′ embargoed′ e′ since′ n′ x k
+refused-as z x j used dirty o p q r s = λ k. refusedText z used dirty (o k) (p k) (q k) (r k) (s k) x j
 
 pub done-as :
     (caching : Bool) (x : Step) {aside aside′ : Bool} {n n′ : ℕ}

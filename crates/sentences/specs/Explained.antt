@@ -39,6 +39,7 @@ use Rattle.ledger.specs.declared.annotated.Annotated.{Annotated}
 use Rattle.ledger.specs.declared.ledger.Ledger.{Ledger}
 use Rattle.phrases.specs.Phrase.{clientText, listText}
 use Rattle.phrases.specs.Accepted.{readText, grantText, waitText, answerText, stillText, doneText, risksText}
+use Rattle.phrases.specs.Places.{noPlaceText}
 use Rattle.phrases.specs.Refusal.{refusalText}
 use Rattle.phrases.specs.Clash.{untrueText, notBothText}
 use Rattle.sentences.specs.Scene.{Scene, sceneOf, Whole, wholeOf}
@@ -125,8 +126,17 @@ clashText z accepted entry own i =
 
 -- ---- steps
 
+-- what is said of any other refusal; 23 looks at the store
+abbrev pub refusedText :
+    Sizes → List Bool → List Bool → List Bool → List Bool → Entry → ℕ → ℕ → Step → ℕ → List ℕ
+refusedText z used dirty reported embargoed e since embargo x k =
+    cond (eqb k 23)
+    (noPlaceText z used embargoed dirty (fileOf x) (blockOf x))
+    (refusalText z reported embargoed e since embargo x k)
+
 -- What is said of the step x, by its reply. An answer that grants gives the open that waited: the waiter's, in the mode
--- in which it waits. A refused report changes nothing, so what it clashes with is looked at after it.
+-- in which it waits. A refused step changes nothing, so what a report clashes with, and the dirty copies, are looked at
+-- after it.
 abbrev pub saidOf : Bool → Scene → Whole → Step → List ℕ → Reply → List ℕ
 saidOf fresh c w x kinds (Granted g) =
     grantText (modeOf x) g (sideOf (c .sides) (clientOf x)) (clientOf x) (fileOf x)
@@ -137,7 +147,7 @@ saidOf fresh c w x kinds (Value v) =
 saidOf fresh c w x kinds (Refused k) =
     cond (eqb k 22)
     (clashText (c .sizes) (isReported (c .reported)) (w .after) (w .sideAfter (clientOf x)) (clientOf x))
-    (refusalText (c .sizes) (c .reported) (c .embargoed) (c .entry) (c .since) (c .embargo) x k)
+    (refusedText (c .sizes) (c .used) (c .dirty) (c .reported) (c .embargoed) (c .entry) (c .since) (c .embargo) x k)
 saidOf fresh c w x kinds (Answered n) =
     cond (isEmbargo x)
     (embargoedText (c .sizes) w (clientOf x))
@@ -165,8 +175,11 @@ settingText (Are z) =
     bytes "the service has"
     ++ (argumentText (z .clients)
     ++ (bytes " stations,"
-    ++ (argumentText (z .files) ++ (bytes " files of" ++ (argumentText (z .blocks) ++ bytes " blocks")))))
-settingText OutOfRange = bytes "a setting lies outside its range: 1 to 8 stations, 1 to 64 files, 1 to 8 blocks"
+    ++ (argumentText (z .files)
+    ++ (bytes " files of"
+    ++ (argumentText (z .blocks) ++ (bytes " blocks; places:" ++ argumentText (z .store)))))))
+settingText OutOfRange =
+    bytes "a setting lies outside its range: 1 to 8 stations, 1 to 64 files, 1 to 8 blocks, 0 to 512 places"
 settingText Missing = noStepText
 
 -- ---- a line

@@ -16,7 +16,7 @@ use Rattle.protocol.specs.Step.{clientOf, fileOf}
 use Rattle.words.specs.Rows.{rowWords, tableWords, entryHeld, sidesHeld}
 use Rattle.service.specs.declared.service.Service.{Service}
 use Rattle.service.specs.Contents.{sizesOf, tableIn, entryAt, sidesAt, clientAt}
-use Rattle.service.specs.Lent.{reportedHeld, embargoedHeld}
+use Rattle.service.specs.Lent.{reportedHeld, embargoedHeld, usedHeld}
 use Rattle.service.specs.Step.{stepOf}
 use Rattle.ledger.specs.declared.ledger.Ledger.{Ledger}
 use Rattle.ledger.specs.declared.lines.Lines.{Lines}
@@ -29,6 +29,9 @@ pub record Scene : Type 0 where
   pub sizes : Sizes
   pub reported : List Bool
   pub embargoed : List Bool
+  -- which blocks are used, before the step, and which copies are dirty, after it
+  pub used : List Bool
+  pub dirty : List Bool
   -- the server's entry of the file, before the step and after it
   pub entry : Entry
   pub after : Entry
@@ -51,6 +54,8 @@ sceneOf s l x =
       sizes = sizesOf s;
       reported = tableIn s .reported;
       embargoed = tableIn s .embargoed;
+      used = s .server .used;
+      dirty = stepOf s x .service .dirty;
       entry = entryAt s (fileOf x);
       after = entryAt (stepOf s x .service) (fileOf x);
       sides = sidesAt s (fileOf x);
@@ -100,14 +105,16 @@ keptBefore kind f t before =
 abbrev pub asideHeld : List Bool → ℕ → Bool
 asideHeld flags i = getD flags (maxClients + 1 + i % maxClients) false
 
--- what is held by the words that are kept from before the step x, by the table and the flags after it, and by the lines
--- before it since which opens wait and clients are under embargo
-abbrev pub sceneHeld : Sizes → Step → List ℕ → List ℕ → List Bool → List ℕ → Told → Bool → Scene
-sceneHeld z x before t flags since told caching =
+-- what is held by the words that are kept from before the step x, by the table after it, the flags before it and the
+-- dirty copies after it, and by the lines before it since which opens wait and clients are under embargo
+abbrev pub sceneHeld : Sizes → Step → List ℕ → List ℕ → List Bool → List Bool → List ℕ → Told → Bool → Scene
+sceneHeld z x before t flags dirty since told caching =
     record {
       sizes = z;
       reported = reportedHeld flags;
       embargoed = embargoedHeld flags;
+      used = usedHeld flags;
+      dirty = dirty;
       entry = entryHeld before (fileOf x % maxFiles);
       after = entryHeld t (fileOf x % maxFiles);
       sides = sidesHeld before (fileOf x % maxFiles);

@@ -2,6 +2,7 @@
 mod clash;
 mod explained;
 mod forgotten;
+mod refused;
 mod scene;
 mod sentence;
 

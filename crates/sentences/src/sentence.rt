@@ -13,6 +13,7 @@ ghost use Rattle.sentences.specs.Explained.{saidOf, besidesText, embargo
 use crate::clash::put_clash;
 use crate::forgotten::put_files_open;
 use crate::forgotten::put_forgotten;
+use crate::refused::put_refused;
 use crate::scene::EMBARGO;
 use crate::scene::LIFT;
 use crate::scene::RESTART;
@@ -30,7 +31,6 @@ use phrases::put_client;
 use phrases::put_done;
 use phrases::put_grant;
 use phrases::put_read;
-use phrases::put_refusal;
 use phrases::put_still;
 use phrases::put_text;
 use phrases::put_wait;
@@ -39,6 +39,7 @@ use protocol::Reply;
 use protocol::Step;
 use protocol::asked;
 use service::FLAGS;
+use sizes::MAX_CELLS;
 use sizes::MAX_CLIENTS;
 use sizes::MAX_FILES;
 use sizes::Sizes;
@@ -48,7 +49,7 @@ use words::entry_at;
 use words::mode_of;
 
 // The sentence of a step that is answered so, with these callbacks. The words before the step are those that
-// keep_before has kept; the table and the flags are those after it, and the lines those before it.
+// keep_before has kept; the table and the dirty copies are those after it, and the flags and the lines those before it.
 pub fn put_sentence(
     out: &mut [u8],
     at: usize,
@@ -60,6 +61,7 @@ pub fn put_sentence(
     before: &[u64; WORDS],
     table: &[u64; WORDS],
     flags: &[bool; FLAGS],
+    dirty: &[bool; MAX_CELLS],
     written: &[u64; NOTES],
     writers: &[u8; NOTES],
     since: &[u64; BEGINNINGS],
@@ -74,7 +76,7 @@ pub fn put_sentence(
     ensures { λ r. ⌜ Wrote (now (out .entry)) at
         (saidOf fresh
         (sceneHeld sizes step (now (before .entry)) (now (table .entry)) (now (flags .entry))
-        (now (since .entry)) told caching)
+        (now (dirty .entry)) (now (since .entry)) told caching)
         (wholeHeld (now (before .entry)) (now (table .entry))
         (linesAt (entered (now (written .entry)) (now (writers .entry)) [] [])))
         step calls reply)
@@ -119,10 +121,12 @@ pub fn put_sentence(
             let embargoed = embargoed_in(flags);
             let entry = entry_at(before, row);
             let begun = embargo_since(since, client);
-            put_refusal(
+            put_refused(
                 out,
                 at,
                 sizes,
+                flags,
+                dirty,
                 reported,
                 embargoed,
                 entry,

@@ -31,7 +31,7 @@ use Rattle.words.specs.Rows.{wordAt, entryHeld}
 use Rattle.words.proofs.Listing.{length-listed, getD-listed}
 use Rattle.service.specs.declared.service.Service.{Service}
 use Rattle.service.specs.declared.outcome.Outcome.{Outcome}
-use Rattle.service.specs.Contents.{sizesOf, tableIn, entryAt, reportedAt, embargoedAt, clientAt}
+use Rattle.service.specs.Contents.{sizesOf, tableIn, entryAt, reportedAt, embargoedAt, clientAt, withSpace}
 use Rattle.service.specs.Demand3.{refused, after}
 use Rattle.service.specs.Embargo.{marked, forgottenFile, forgottenOn, forgottenBelow, putAside, droppedBelow, told}
 use Rattle.service.specs.Lent.{lentFlags, serviceHeld}
@@ -41,7 +41,7 @@ use Rattle.service.specs.Step.{stepOf}
 use Rattle.service.proofs.Tests.{split, conflict, when}
 use Rattle.service.proofs.LentFlags.{flags-read}
 use Rattle.service.proofs.Lists.{getD-set}
-use Rattle.service.proofs.Accepted.{Passed, testsOf, doneOf, when-accepted, crash-accepted, refused-changes-nothing}
+use Rattle.service.proofs.Accepted.{Passed, testsOf, doneOf, when-accepted, done-but-store, crash-accepted, refused-changes-nothing}
 use Rattle.service.proofs.Forgotten.{kept, told-silent}
 use Rattle.service.proofs.Accepting.{Accepting, crash-accepts, report-accepts, nothing-accepts, forget-accepts, uncalled}
 
@@ -60,6 +60,19 @@ pub record Agreeing (z : Sizes) (s : Service) : Type 0 where
   pub state : tableIn s .recovering ≡ true
   pub silent : (i : ℕ) → i < z .clients → embargoedAt s i ≡ true → reportedAt s i ≡ false
   pub accepting : (f : ℕ) → f < z .files → Accepting (z .clients) (reportedAt s) (entryAt s f)
+
+-- the store does not matter to it
+agreeing-stored :
+    {z : Sizes} (s : Service) (used : List Bool) (free : ℕ) → Agreeing z s → Agreeing z (withSpace s used free)
+agreeing-stored s used free h =
+    record {
+      sizes = h .sizes;
+      entries = h .entries;
+      reports = h .reports;
+      state = h .state;
+      silent = h .silent;
+      accepting = h .accepting;
+    }
 
 -- who has reported, once client i has
 heard-also :
@@ -309,9 +322,9 @@ module _ {z : Sizes} (most : Permitted z) where
         (λ e. subst⁻¹ (Agreeing z) (refused-changes-nothing s x e) h)
         (λ e.
         let (passed, done) = when-accepted s x (h .sizes) e in
-        let same : after s x ≡ doneOf z s x .service = ap (λ (o : Outcome). o .service) done in
-        subst⁻¹ (Agreeing z) same
-        (accepted-agrees x passed (subst (λ (t : Service). tableIn t .recovering ≡ true) same recovers)))
+        done-but-store (λ t. tableIn t .recovering ≡ true → Agreeing z t)
+        (λ t used free h recovers. agreeing-stored t used free (h recovers))
+        z s x done (accepted-agrees x passed) recovers)
 
     agree-now : AcceptedAgree s
     agree-now =
@@ -330,7 +343,7 @@ recovery-agrees s made =
     record {
       always =
           along most (after s Crash)
-          (subst⁻¹ (Agreeing (sizesOf s)) (ap (λ (o : Outcome). o .service) done) (crash-agrees most s made));
+          (done-but-store (Agreeing (sizesOf s)) agreeing-stored (sizesOf s) s Crash done (crash-agrees most s made));
     }
 
 -- and so of the one that any arrays hold

@@ -1,4 +1,4 @@
--- The outcome of a step, as the service's step and the player's loop put it together: one equation for each class of step.
+-- The outcome of a step, but for the store, as the code puts it together: one equation for each class of step.
 -- Numbers are wrapped into the arrays; a step that names what is not there is refused, whatever stands there. Assumes
 -- nothing.
 pub mod Result
@@ -28,15 +28,18 @@ use Rattle.table.specs.TableStep.{tableStep}
 use Rattle.service.specs.declared.service.Service.{Service}
 use Rattle.service.specs.declared.outcome.Outcome.{Outcome}
 use Rattle.service.specs.Contents.{sizesOf, tableIn, reportedAt, embargoedAt, clientAt, fileAt, storesOf}
-use Rattle.service.specs.Step.{fileOutcome, blockOutcome, tableOutcome, outcomeIn, stepOf}
+use Rattle.service.specs.Step.{fileOutcome, blockOutcome, tableOutcome, outcomeIn, moved}
 use Rattle.service.proofs.Tests.{split}
 use Rattle.service.proofs.OneFile.{same-file}
 use Rattle.service.proofs.Accepted.{refusedWith}
 
 -- the class of a step tells what it touches
-step-in : (s : Service) (x : Step) (c : Class) → classOf x ≡ c → stepOf s x ≡ outcomeIn s x c
-unfolding stepOf
-step-in s x c e = ap (outcomeIn s x) e
+step-in :
+    (takes full : Bool) (s : Service) (x : Step) (c : Class)
+    → classOf x ≡ c
+    → moved takes full s x ≡ outcomeIn takes full s x c
+unfolding moved
+step-in takes full s x c e = ap (outcomeIn takes full s x) e
 
 -- ---- on a file
 
@@ -70,7 +73,7 @@ absent :
 absent z i f g c h = rw (ap fileOf c) h
 
 -- whatever file and whatever flag stand for those that are not there
-no-file :
+pub no-file :
     (z : Sizes) (recovering : Bool) (a : Stores) (x : Step) (g : ℕ)
     → classOf x ≡ OnFile g
     → (leb (z .clients) (clientOf x) || leb (z .files) g) ≡ true
@@ -124,18 +127,18 @@ no-block :
     → classOf x ≡ OnBlock j g
     → (leb (z .clients) j || leb (z .files) g) ≡ true
     → (k : ℕ)
-    × ((embargoed reported : Bool) (own : ClientFile)
-    → blockStep z embargoed recovering reported own a x ≡ record { stores = a; reply = Refused k })
+    × ((embargoed reported : Bool) (own : ClientFile) (takes full : Bool)
+    → blockStep z embargoed recovering reported own takes full a x ≡ record { stores = a; reply = Refused k })
 unfolding blockStep
 no-block z recovering a (Read i f b) j g c h = (
   cond (leb (z .clients) i) 2 3,
-  λ embargoed reported own.
+  λ embargoed reported own takes full.
       refused-first (leb (z .clients) i) (leb (z .files) f) _ (λ k. record { stores = a; reply = Refused k }) _
       (rw (ap clientIn c, ap fileOf c) h),
 )
 no-block z recovering a (Write i f b v) j g c h = (
   cond (leb (z .clients) i) 2 3,
-  λ embargoed reported own.
+  λ embargoed reported own takes full.
       refused-first (leb (z .clients) i) (leb (z .files) f) _ (λ k. record { stores = a; reply = Refused k }) _
       (rw (ap clientIn c, ap fileOf c) h),
 )
@@ -171,16 +174,16 @@ past-either {z} p i f e =
 
 -- ---- the three equations
 
-module _ (s : Service) (x : Step) where
+module _ (takes full : Bool) (s : Service) (x : Step) where
   abbrev z : Sizes
   z = sizesOf s
 
   abbrev atFile : ℕ → ℕ → Outcome
   atFile i f = fileOutcome s f (fileStep z (embargoedAt s i) (tableIn s .recovering) (fileAt s f) (storesOf s) x)
 
-  pub file-arm : (f : ℕ) → classOf x ≡ OnFile f → stepOf s x ≡ atFile (clientOf x % maxClients) (f % maxFiles)
+  pub file-arm : (f : ℕ) → classOf x ≡ OnFile f → moved takes full s x ≡ atFile (clientOf x % maxClients) (f % maxFiles)
   file-arm f c =
-      step-in s x (OnFile f) c
+      step-in takes full s x (OnFile f) c
       ∙ split (leb maxClients (clientOf x) || leb maxFiles f)
       (λ e.
       let none = no-file z (tableIn s .recovering) (storesOf s) x f c
@@ -201,20 +204,20 @@ module _ (s : Service) (x : Step) where
   abbrev atBlock : ℕ → ℕ → Outcome
   atBlock i f =
       blockOutcome s
-      (blockStep z (embargoedAt s i) (tableIn s .recovering) (reportedAt s i) (clientAt s i f) (storesOf s) x)
+      (blockStep z (embargoedAt s i) (tableIn s .recovering) (reportedAt s i) (clientAt s i f) takes full (storesOf s) x)
 
-  pub block-arm : (i f : ℕ) → classOf x ≡ OnBlock i f → stepOf s x ≡ atBlock (i % maxClients) (f % maxFiles)
+  pub block-arm : (i f : ℕ) → classOf x ≡ OnBlock i f → moved takes full s x ≡ atBlock (i % maxClients) (f % maxFiles)
   block-arm i f c =
-      step-in s x (OnBlock i f) c
+      step-in takes full s x (OnBlock i f) c
       ∙ split (leb maxClients i || leb maxFiles f)
       (λ e.
       let none = no-block z (tableIn s .recovering) (storesOf s) x i f c (past-either (in-force-permitted (s .sizes)) i f e) in
-      ap (blockOutcome s) (none .1 _ _ _ ∙ sym (none .1 _ _ _)))
+      ap (blockOutcome s) (none .1 _ _ _ takes full ∙ sym (none .1 _ _ _ takes full)))
       (λ e.
       let (client, file) = neither (leb maxClients i) (leb maxFiles f) e in
       ap₂ atBlock (sym (mod-eq-of-lt (leb-false maxClients i client))) (sym (mod-eq-of-lt (leb-false maxFiles f file))))
 
   -- ---- on the table
 
-  pub table-arm : classOf x ≡ OnTable → stepOf s x ≡ tableOutcome s (tableStep z (tableIn s) (s .clients) x)
-  table-arm c = step-in s x OnTable c
+  pub table-arm : classOf x ≡ OnTable → moved takes full s x ≡ tableOutcome s (tableStep z (tableIn s) (s .clients) x)
+  table-arm c = step-in takes full s x OnTable c

@@ -1,6 +1,6 @@
 -- The step that a kind is, kind by kind, and what is special of an open. Assumes nothing.
 use Prim.Native.Nat.{ℕ, zero, suc, _<_, _≤_}
-use mathlib.Core.Path.{_≡_, refl, sym, ap, _∙_}
+use mathlib.Core.Path.{_≡_, refl, sym, ap, subst⁻¹}
 use mathlib.Core.Bool.{Bool, false}
 use native.Mathlib.Omega.{arith}
 use lib.Arith.{lt-of-le-ne}
@@ -11,7 +11,8 @@ use Rattle.sizes.specs.declared.sizes.Sizes.{Sizes}
 use Rattle.sizes.proofs.Choosing.{split, conflict}
 use Rattle.decision.specs.Lists.{firstOf}
 use Rattle.protocol.specs.declared.shared.SharedFile.{SharedFile}
-use Rattle.protocol.specs.declared.step.Step.the-variants.{Open, Close, End}
+use Rattle.protocol.specs.declared.step.Step.{Step}
+use Rattle.protocol.specs.declared.step.Step.the-variants.{Open, Close, End, Restart, Embargo, Lift}
 use Rattle.protocol.specs.Step.{OnTable}
 use Rattle.protocol.specs.Client.{sideOf}
 use Rattle.protocol.specs.Entry.{callsFor}
@@ -58,9 +59,26 @@ past n k h off = lt-of-le-ne h (λ e. off (sym e))
 pub on-table : (k : ℕ) → 4 ≤ k → (k ≡ 4 → ⊥) → (k ≡ 5 → ⊥) → (k ≡ 6 → ⊥) → (k ≡ 7 → ⊥) → 7 < k
 on-table k h a b c d = past 7 k (past 6 k (past 5 k (past 4 k h a) b) c) d
 
--- a kind past the last
-pub no-kind : (k : ℕ) → 10 < k → (k ≡ 11 → ⊥) → (k ≡ 12 → ⊥) → (k ≡ 13 → ⊥) → 13 < k
-no-kind k h a b c = past 13 k (past 12 k (past 11 k h a) b) c
+-- a step on all files, kind by kind
+pub lift-kind : (k : ℕ) → 10 < k → k < 14 → (k ≡ 11 → ⊥) → (k ≡ 12 → ⊥) → k ≡ 13
+lift-kind k h low a b = let last : 12 < k = past 12 k (past 11 k h a) b in omega arith
+
+pub all-asked :
+    (P : Step → Type 0) (k i f b v : ℕ)
+    → 10 < k
+    → k < 14
+    → P (Restart i)
+    → P (Embargo i f)
+    → P (Lift i)
+    → P (stepAsked k i f b v)
+all-asked P k i f b v h low restart embargo lift =
+    split (eqb k 11)
+    (λ e. subst⁻¹ (λ k. P (stepAsked k i f b v)) (eqb-true k 11 e) restart)
+    (λ e.
+    split (eqb k 12)
+    (λ e′. subst⁻¹ (λ k. P (stepAsked k i f b v)) (eqb-true k 12 e′) embargo)
+    (λ e′.
+    subst⁻¹ (λ k. P (stepAsked k i f b v)) (lift-kind k h low (eqb-false k 11 e) (eqb-false k 12 e′)) lift))
 
 eleventh : (k : ℕ) → 7 < k → k < 11 → (k ≡ 8 → ⊥) → (k ≡ 9 → ⊥) → k ≡ 10
 eleventh k past low crash report =

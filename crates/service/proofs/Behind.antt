@@ -17,7 +17,8 @@ use Rattle.file.specs.FileStep.{fileStep}
 use Rattle.access.specs.BlockStep.{blockStep}
 use Rattle.table.specs.TableStep.{tableStep}
 use Rattle.service.specs.Contents.{entryAt, clientAt}
-use Rattle.service.specs.Step.{stepOf}
+use Rattle.service.specs.Step.{moved, stepOf}
+use Rattle.service.specs.Space.{spaced, anyBelow, sumBelow}
 use Rattle.service.specs.Fresh.{fresh}
 use Rattle.service.proofs.Run.{freshDefault, OR, OW, CW, RD, WR, FL, AN, XX, grant, after, answerAfter, recovered, stateAt}
 
@@ -82,7 +83,7 @@ pub record Behind : Type 0 where
   pub recoveredOpen : reply (called ++ (XX ∷ recovered)) (OR 1 0) ≡ Granted (grant 2 1)
 
 pub behind : Behind
-unfolding fresh stepOf fileStep blockStep tableStep firstBelow stateOf permissionAtGrant count stored
+unfolding fresh stepOf moved spaced anyBelow sumBelow fileStep blockStep tableStep firstBelow stateOf permissionAtGrant count stored
 behind =
     record {
       writes = refl;

@@ -27,15 +27,15 @@ use Rattle.table.specs.TableStep.{noEntry, noSides}
 use Rattle.service.specs.declared.service.Service.{Service}
 use Rattle.service.specs.declared.outcome.Outcome.{Outcome}
 use Rattle.service.specs.Aside.{Forgotten}
-use Rattle.service.specs.Contents.{tableIn, embargoedAt, clientAt, storesOf}
+use Rattle.service.specs.Contents.{tableIn, embargoedAt, clientAt, storesOf, withSpace}
 use Rattle.service.specs.Embargo.{putAside, grantsAside}
 use Rattle.service.specs.Step.{stepOf}
 use Rattle.service.specs.Fresh.{fresh}
 use Rattle.service.specs.Demand3.{refused, after, Memory, blank, atBlock, delays, fed, remembered, tableOf, NoOpenWaits, Recovery, none, since}
 use Rattle.service.specs.Demand3.{recoveryAfter, ReadIsLatest, EndRestores, Holds, Consistent}
 use Rattle.service.proofs.Tests.{split, conflict}
-use Rattle.service.proofs.Views.{Sized, isIn, within-none, viewOf, same-view}
-use Rattle.service.proofs.Accepted.{Passed, testsOf, doneOf, when-accepted, crash-accepted}
+use Rattle.service.proofs.Views.{Sized, sized-stored, isIn, within-none, viewOf, same-view}
+use Rattle.service.proofs.Accepted.{Passed, testsOf, doneOf, when-accepted, done-but-store, crash-accepted}
 use Rattle.service.proofs.Accepted.{refused-changes-nothing, answering-service}
 use Rattle.service.proofs.Invariant.{Runs, Stands, Sound}
 use Rattle.service.proofs.Forgotten.{forgotten-kept}
@@ -133,6 +133,31 @@ module _
     (promises : Promises (z .clients) Running Recovering) where
   abbrev pub Holding : Service → Memory → Recovery → Type 0
   Holding = Sound z Running Recovering
+
+  -- the store does not matter to the invariant
+  stands-stored :
+      (s : Service) (m : Memory) (r : Recovery) (used : List Bool) (free : ℕ)
+      → Stands z Running Recovering s m r
+      → Stands z Running Recovering (withSpace s used free) m r
+  stands-stored s m none used free h =
+      record { sized = sized-stored s used free (h .sized); state = h .state; views = h .views }
+  stands-stored s m (since t) used free h =
+      record { sized = sized-stored s used free (h .sized); state = h .state; rows = h .rows; views = h .views }
+
+  holding-stored :
+      (s : Service) (m : Memory) (r : Recovery) (used : List Bool) (free : ℕ)
+      → Holding s m r
+      → Holding (withSpace s used free) m r
+  holding-stored s m r used free h =
+      record {
+        stands = stands-stored s m r used free (h .stands);
+        forgotten =
+            record {
+              unknown = h .forgotten .unknown;
+              unreported = h .forgotten .unreported;
+              quiet = h .forgotten .quiet;
+            };
+      }
 
   stands-sized : (s : Service) (m : Memory) (r : Recovery) → Stands z Running Recovering s m r → Sized z s
   stands-sized s m none h = h .sized
@@ -249,7 +274,11 @@ module _
       (λ e. kept e (refused-changes-nothing s x e) (refused-kept (Holding s) s m r x e h))
       (λ e.
       let (p, done) = when-accepted s x (sized s m r h .sizes) e in
-      kept e (ap (λ (o : Outcome). o .service) done) (accepted-kept s m r x h p))
+      subst⁻¹ (λ b. Holding (after s x) (fed m x b (delays s) (embargoedAt s)) (recoveryAfter s r x b)) e
+      (done-but-store (λ t. Holding t (fed m x false (delays s) (embargoedAt s)) (recoveryAfter s r x false))
+      (λ t used free.
+      holding-stored t (fed m x false (delays s) (embargoedAt s)) (recoveryAfter s r x false) used free)
+      z s x done (accepted-kept s m r x h p)))
     where
       kept : {b : Bool} {s′ : Service}
           → refused s x ≡ b
@@ -291,7 +320,7 @@ module _
       subst⁻¹ (λ x. refused s x ≡ false → Restored r (after s x)) e
       (λ a.
       let (p, done) = when-accepted s End (sized s m r h .sizes) a in
-      subst⁻¹ (λ (o : Outcome). Restored r (o .service)) done (table-restored s m r (h .stands) p))
+      done-but-store (Restored r) (λ t used free h. h) z s End done (table-restored s m r (h .stands) p))
 
   pub holds : (s : Service) (m : Memory) (r : Recovery) (steps : List Step) → Holding s m r → Holds s m r steps
   holds s m r [] h = tt

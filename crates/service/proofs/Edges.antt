@@ -17,7 +17,8 @@ use Rattle.service.specs.declared.service.Service.{Service}
 use Rattle.file.specs.FileStep.{fileStep}
 use Rattle.access.specs.BlockStep.{blockStep}
 use Rattle.table.specs.TableStep.{tableStep}
-use Rattle.service.specs.Step.{stepOf}
+use Rattle.service.specs.Step.{moved, stepOf}
+use Rattle.service.specs.Space.{spaced, anyBelow, sumBelow}
 use Rattle.service.specs.Fresh.{fresh}
 use Rattle.service.proofs.Making.{entry, withFile}
 use Rattle.service.proofs.Run.{freshDefault, OR, OW, CW, RD, WR, AN, XX, EN, grant}
@@ -69,7 +70,7 @@ pub record Edges : Type 0 where
   pub secondAfter : serverRecord brokenOff 2 0 ≡ record { readers = 1; writers = 0; caching = true }
 
 pub edges : Edges
-unfolding fresh stepOf fileStep blockStep tableStep firstBelow stateOf permissionAtGrant count stored
+unfolding fresh stepOf moved spaced anyBelow sumBelow fileStep blockStep tableStep firstBelow stateOf permissionAtGrant count stored
 edges =
     record {
       lastClient = refl;

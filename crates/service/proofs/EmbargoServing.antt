@@ -8,7 +8,7 @@ use native.Mathlib.Nat.{mod-eq-of-lt}
 use native.Mathlib.Omega.{arith}
 use lib.Dec.{eqb, leb}
 use lib.ListN.{length, getD, set, length-set, length-append}
-use lib.Seq.{getD-set-other, getD-set-same, set-set, take-set-le, take-set-lt}
+use lib.Seq.{getD-set-other, getD-set-same, set-set, take-set-le, take-set-lt, drop-set-lt}
 use types.Run.{OneOf}
 use denote.Enum.Declared.{tagOf}
 use borrow.Author.Tests.{leb-false, lt-leb, le-leb, ne-eqb}
@@ -41,13 +41,13 @@ use Rattle.words.proofs.SaidGrants.{said-none, said-more, said-same, grants-sai
 use Rattle.service.specs.declared.service.Service.{Service}
 use Rattle.service.specs.declared.outcome.Outcome.{Outcome}
 use Rattle.service.specs.Contents.{sizesOf, tableIn, entryAt, embargoedAt, fileAt, withFile, withTable}
-use Rattle.service.specs.Lent.{lentFlags, recoveringHeld, reportedHeld, embargoedHeld, serviceHeld}
+use Rattle.service.specs.Lent.{stateFlags, lentFlags, recoveringHeld, reportedHeld, embargoedHeld, usedHeld, serviceHeld}
 use Rattle.service.specs.Embargo.{forgottenFile, forgottenOn, forgottenBelow, grantsBelow, marking, marked, putAside, grantsAside}
 use Rattle.service.specs.Embargo.{droppedOn, droppedBelow, heard, answering}
-use Rattle.service.specs.Served.{Forgets, Drops, ServesAll}
-use Rattle.service.specs.Step.{stepOf}
+use Rattle.service.specs.Served.{Forgets, Drops, MovesAll}
+use Rattle.service.specs.Step.{moved}
 use Rattle.service.proofs.Tests.{split}
-use Rattle.service.proofs.Accepted.{testsOf, refusedWith, doneOf, accepted, rejected, answering-service}
+use Rattle.service.proofs.Accepted.{testsIn, refusedWith, doneOf, done-moved, refused-moved, answering-service}
 use Rattle.service.proofs.LentFlags.{flag-embargoed}
 use Rattle.service.proofs.Serving.{puts-service, file-at}
 
@@ -280,12 +280,16 @@ module _ (flags : List Bool) (i : ℕ) (v : Bool) where
       (getD-set-same flags (maxClients + 1 + i) v false (omega (arith, long, hi)))
       (λ k h off. getD-set-other flags (maxClients + 1 + i) (maxClients + 1 + k) v false (λ e. off (omega (arith, e))))
 
+  flagged-used : i < maxClients → usedHeld flagged ≡ usedHeld flags
+  flagged-used hi = drop-set-lt stateFlags flags (maxClients + 1 + i) v (omega (arith, hi))
+
   flagged-service :
       length flags ≡ lentFlags
       → i < maxClients
       → (given : Sizes) (t : List ℕ) (a : Stores)
       → (let s = serviceHeld given t flags a in serviceHeld given t flagged a ≡ withTable s (marking v i (tableIn s)))
-  flagged-service long hi given t a = rw (flagged-recovering, flagged-reported, flagged-embargoed long hi)
+  flagged-service long hi given t a =
+      rw (flagged-recovering, flagged-reported, flagged-embargoed long hi, flagged-used hi)
 
 -- the client is heard
 module _ (flags : List Bool) (i : ℕ) (hi : i < maxClients) where
@@ -305,6 +309,10 @@ module _ (flags : List Bool) (i : ℕ) (hi : i < maxClients) where
       listed-agree maxClients (λ k. getD (set flags i true) (maxClients + 1 + k) false) (λ k. getD flags (maxClients + 1 + k) false)
       (λ k h. getD-set-other flags i (maxClients + 1 + k) true false (λ e. omega (arith, e, hi)))
   hears-embargoed false = refl
+
+  hears-used : (b : Bool) → usedHeld (hears b) ≡ usedHeld flags
+  hears-used true = drop-set-lt stateFlags flags i true (omega (arith, hi))
+  hears-used false = refl
 
   hears-long : (b : Bool) → length (hears b) ≡ length flags
   hears-long true = length-set flags i true
@@ -333,9 +341,11 @@ tells-service flags i long hi given t a =
       hears-recovering off i hi b,
       hears-reported off i hi b,
       hears-embargoed off i hi b,
+      hears-used off i hi b,
       flagged-recovering flags i false,
       flagged-reported flags i false,
       flagged-embargoed flags i false long hi,
+      flagged-used flags i false hi,
     )
 
 -- so it is with one that is put under embargo just before
@@ -345,34 +355,34 @@ tells-flagged flags i =
     (flagged-recovering flags i true)
     ∙ ap (λ (l : List Bool). cond (recoveringHeld flags) (set l i true) l) (set-set flags (maxClients + 1 + i) true false)
 
--- ---- refused, or done
+-- ---- refused, or done, but for the store
 
 rejected-in :
     (z : Sizes) (s : Service) (x : Step) (k : ℕ)
     → z ≡ sizesOf s
-    → firstOf (testsOf z s x) ≡ k
+    → firstOf (testsIn false false z s x) ≡ k
     → eqb k 0 ≡ false
-    → stepOf s x ≡ refusedWith k s
+    → moved false false s x ≡ refusedWith k s
 rejected-in z s x k force is some =
-    let number : firstOf (testsOf (sizesOf s) s x) ≡ k = ap (λ (z : Sizes). firstOf (testsOf z s x)) (sym force) ∙ is in
-    rejected s x (ap (λ k. eqb k 0) number ∙ some) ∙ ap (λ k. refusedWith k s) number
+    let number : firstOf (testsIn false false (sizesOf s) s x) ≡ k = ap (λ (z : Sizes). firstOf (testsIn false false z s x)) (sym force) ∙ is in
+    refused-moved false false s x (ap (λ k. eqb k 0) number ∙ some) ∙ ap (λ k. refusedWith k s) number
 
 accepted-in :
     (z : Sizes) (s : Service) (x : Step)
     → z ≡ sizesOf s
-    → firstOf (testsOf z s x) ≡ 0
-    → stepOf s x ≡ doneOf z s x
+    → firstOf (testsIn false false z s x) ≡ 0
+    → moved false false s x ≡ doneOf z s x
 accepted-in z s x force is =
-    accepted s x (ap (λ k. eqb k 0) (ap (λ (z : Sizes). firstOf (testsOf z s x)) (sym force) ∙ is))
+    done-moved false false s x (ap (λ k. eqb k 0) (ap (λ (z : Sizes). firstOf (testsIn false false z s x)) (sym force) ∙ is))
     ∙ ap (λ (z : Sizes). doneOf z s x) (sym force)
 
-pub refused-serves :
+pub refused-moves :
     (sizes : Sizes) (x : Step) (k : ℕ) (t : List ℕ) (flags : List Bool) (a : Stores) (words₀ words : List ℕ) (said : ℕ)
-    → ((given : Sizes) → firstOf (testsOf sizes (serviceHeld given t flags a) x) ≡ k)
+    → ((given : Sizes) → firstOf (testsIn false false sizes (serviceHeld given t flags a) x) ≡ k)
     → eqb k 0 ≡ false
     → SaysIn words₀ said words (Refused k) noCalls noGrants
-    → ServesAll sizes x t flags a words₀ t flags a words said
-refused-serves sizes x k t flags a words₀ words said number some says =
+    → MovesAll sizes x t flags a words₀ t flags a words said
+refused-moves sizes x k t flags a words₀ words said number some says =
     record {
       long = refl;
       flagsLong = refl;
@@ -385,22 +395,32 @@ refused-serves sizes x k t flags a words₀ words said number some says =
   where
     is : (given : Sizes)
         → sizes ≡ inForce given
-        → stepOf (serviceHeld given t flags a) x ≡ refusedWith k (serviceHeld given t flags a)
+        → moved false false (serviceHeld given t flags a) x ≡ refusedWith k (serviceHeld given t flags a)
     is given force = rejected-in sizes (serviceHeld given t flags a) x k force (number given) some
 
+-- the same of a step said in another way
+pub moves-as :
+    {sizes : Sizes} {x y : Step} {t₀ : List ℕ} {flags₀ : List Bool} {a₀ : Stores} {words₀ t : List ℕ} {flags : List Bool}
+    {a : Stores} {words : List ℕ} {said : ℕ}
+    → y ≡ x
+    → MovesAll sizes x t₀ flags₀ a₀ words₀ t flags a words said
+    → MovesAll sizes y t₀ flags₀ a₀ words₀ t flags a words said
+moves-as {sizes} {x} {y} {t₀} {flags₀} {a₀} {words₀} {t} {flags} {a} {words} {said} is moves =
+    subst⁻¹ (λ (x : Step). MovesAll sizes x t₀ flags₀ a₀ words₀ t flags a words said) is moves
+
 -- the outcome o, where the step is done
-done-serves :
+done-moves :
     (sizes : Sizes) (x : Step) (t₀ : List ℕ) (flags₀ : List Bool) (a₀ : Stores) (words₀ t : List ℕ) (flags : List Bool)
     (a : Stores) (words : List ℕ) (said : ℕ)
-    → ((given : Sizes) → firstOf (testsOf sizes (serviceHeld given t₀ flags₀ a₀) x) ≡ 0)
+    → ((given : Sizes) → firstOf (testsIn false false sizes (serviceHeld given t₀ flags₀ a₀) x) ≡ 0)
     → length t ≡ length t₀
     → length flags ≡ length flags₀
     → ((given : Sizes) → serviceHeld given t flags a ≡ doneOf sizes (serviceHeld given t₀ flags₀ a₀) x .service)
     → ((given : Sizes)
     → (let o = doneOf sizes (serviceHeld given t₀ flags₀ a₀) x in
     SaysIn words₀ said words (o .reply) (o .calls) (o .grants) × (o .calls ≡ noCalls) × (isRefused (o .reply) ≡ false)))
-    → ServesAll sizes x t₀ flags₀ a₀ words₀ t flags a words said
-done-serves sizes x t₀ flags₀ a₀ words₀ t flags a words said passes long flagsLong service says =
+    → MovesAll sizes x t₀ flags₀ a₀ words₀ t flags a words said
+done-moves sizes x t₀ flags₀ a₀ words₀ t flags a words said passes long flagsLong service says =
     record {
       long = long;
       flagsLong = flagsLong;
@@ -416,7 +436,7 @@ done-serves sizes x t₀ flags₀ a₀ words₀ t flags a words said passes long
   where
     is : (given : Sizes)
         → sizes ≡ inForce given
-        → stepOf (serviceHeld given t₀ flags₀ a₀) x ≡ doneOf sizes (serviceHeld given t₀ flags₀ a₀) x
+        → moved false false (serviceHeld given t₀ flags₀ a₀) x ≡ doneOf sizes (serviceHeld given t₀ flags₀ a₀) x
     is given force = accepted-in sizes (serviceHeld given t₀ flags₀ a₀) x force (passes given)
 
 -- ---- the tests
@@ -510,7 +530,7 @@ module _
     few-granted given = omega (arith, counted given, r .few, most .files)
 
 -- a restart says its grants after K
-pub restart-serves :
+pub restart-moves :
     {sizes : Sizes} {i : ℕ} {t₀ : List ℕ} {a₀ : Stores} {words₀ t₁ : List ℕ} {a₁ : Stores} {words : List ℕ} {at : ℕ}
     {t : List ℕ} {a : Stores}
     → Permitted sizes
@@ -522,10 +542,10 @@ pub restart-serves :
     → flags ≡ tells flags₀ i
     → (said : ℕ)
     → said ≡ 75 + 256 * at
-    → ServesAll sizes (Restart i) t₀ flags₀ a₀ words₀ t flags a words said
-restart-serves {sizes} {i} {t₀} {a₀} {words₀} {t₁} {a₁} {words} {at} {t} {a} most hi r d flags₀ flags size is said tells-it =
+    → MovesAll sizes (Restart i) t₀ flags₀ a₀ words₀ t flags a words said
+restart-moves {sizes} {i} {t₀} {a₀} {words₀} {t₁} {a₁} {words} {at} {t} {a} most hi r d flags₀ flags size is said tells-it =
     let fit = client-fits most hi in
-    done-serves sizes (Restart i) t₀ flags₀ a₀ words₀ t flags a words said
+    done-moves sizes (Restart i) t₀ flags₀ a₀ words₀ t flags a words said
     (λ given. rw (lt-leb (sizes .clients) i hi))
     (d .long ∙ r .long)
     (ap length is ∙ tells-long flags₀ i fit)
@@ -558,7 +578,7 @@ said-answering :
 said-answering s [] h = (h, refl, refl)
 said-answering s (g ∷ gs) h = (h, refl, refl)
 
-pub embargo-serves :
+pub embargo-moves :
     {sizes : Sizes} {i f : ℕ} {t₀ : List ℕ} {a₀ : Stores} {words₀ t : List ℕ} {a : Stores} {words : List ℕ} {at : ℕ}
     → Permitted sizes
     → (flags₀ : List Bool)
@@ -567,10 +587,10 @@ pub embargo-serves :
     → Forgets sizes i (sizes .files) t₀ a₀ words₀ (0 ∷ []) t a words at
     → (said : ℕ)
     → said ≡ 65 + 256 * at
-    → ServesAll sizes (Embargo i f) t₀ flags₀ a₀ words₀ t (flagged flags₀ i true) a words said
-embargo-serves {sizes} {i} {f} {t₀} {a₀} {words₀} {t} {a} {words} {at} most flags₀ size passes r said tells-it =
+    → MovesAll sizes (Embargo i f) t₀ flags₀ a₀ words₀ t (flagged flags₀ i true) a words said
+embargo-moves {sizes} {i} {f} {t₀} {a₀} {words₀} {t} {a} {words} {at} most flags₀ size passes r said tells-it =
     let hi = embargo-there sizes (recoveringHeld flags₀) (entryHeld t₀ (f % maxFiles)) i f passes in
-    done-serves sizes (Embargo i f) t₀ flags₀ a₀ words₀ t (flagged flags₀ i true) a words said
+    done-moves sizes (Embargo i f) t₀ flags₀ a₀ words₀ t (flagged flags₀ i true) a words said
     (λ given. embargo-tested sizes given t₀ flags₀ a₀ i f most ∙ passes)
     (r .long)
     (length-set flags₀ (maxClients + 1 + i) true)
@@ -587,7 +607,7 @@ embargo-serves {sizes} {i} {f} {t₀} {a₀} {words₀} {t} {a} {words} {at} mos
     (tells-it ∙ ap (λ n. 65 + 256 * n) (counted most hi r flags₀ size given))))
 
 -- a lift says K alone
-pub lift-serves :
+pub lift-moves :
     {sizes : Sizes} {i : ℕ} {t₀ : List ℕ} {a₀ : Stores} {t : List ℕ} {a : Stores}
     → Permitted sizes
     → i < sizes .clients
@@ -598,10 +618,10 @@ pub lift-serves :
     → flags ≡ tells flags₀ i
     → (words₀ words : List ℕ) (said : ℕ)
     → SaysIn words₀ said words Done noCalls noGrants
-    → ServesAll sizes (Lift i) t₀ flags₀ a₀ words₀ t flags a words said
-lift-serves {sizes} {i} {t₀} {a₀} {t} {a} most hi d flags₀ flags size under is words₀ words said says =
+    → MovesAll sizes (Lift i) t₀ flags₀ a₀ words₀ t flags a words said
+lift-moves {sizes} {i} {t₀} {a₀} {t} {a} most hi d flags₀ flags size under is words₀ words said says =
     let fit = client-fits most hi in
-    done-serves sizes (Lift i) t₀ flags₀ a₀ words₀ t flags a words said
+    done-moves sizes (Lift i) t₀ flags₀ a₀ words₀ t flags a words said
     (λ given. lift-tested sizes given t₀ flags₀ a₀ i hi fit ∙ ap (λ b. cond b 21 0) under)
     (d .long)
     (ap length is ∙ tells-long flags₀ i fit)

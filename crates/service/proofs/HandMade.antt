@@ -22,7 +22,8 @@ use Rattle.service.specs.Contents.{entryAt}
 use Rattle.file.specs.FileStep.{fileStep}
 use Rattle.access.specs.BlockStep.{blockStep}
 use Rattle.table.specs.TableStep.{tableStep}
-use Rattle.service.specs.Step.{stepOf}
+use Rattle.service.specs.Step.{moved, stepOf}
+use Rattle.service.specs.Space.{spaced, anyBelow, sumBelow}
 use Rattle.service.specs.Fresh.{fresh}
 use Rattle.service.proofs.Run.{freshDefault, OR, OW, CR, AN, XX, RP, EN, grant, grantUncached}
 use Rattle.service.proofs.Run.{after, recovered, stateAt}
@@ -69,7 +70,7 @@ pub record Fields : Type 0 where
   pub lastBesideCalls : stepOf lastAway (OW 1 0) .calls ≡ kinds 2 0
 
 pub fields : Fields
-unfolding fresh stepOf fileStep blockStep tableStep firstBelow stateOf permissionAtGrant count stored
+unfolding fresh stepOf moved spaced anyBelow sumBelow fileStep blockStep tableStep firstBelow stateOf permissionAtGrant count stored
 fields =
     record {
       zeroRead = refl;
@@ -107,7 +108,7 @@ pub record Limits : Type 0 where
   pub lastEntry : entryAfter lastVersion (AN 0 0) ≡ entry 4294967295 notOpen writing nobody
 
 pub limits : Limits
-unfolding fresh stepOf fileStep blockStep tableStep firstBelow stateOf permissionAtGrant count stored
+unfolding fresh stepOf moved spaced anyBelow sumBelow fileStep blockStep tableStep firstBelow stateOf permissionAtGrant count stored
 limits =
     record {
       fullGrant = refl;
@@ -167,7 +168,7 @@ pub record Waits : Type 0 where
   pub judged : reply stillWriting (AN 0 0) ≡ AnsweredGrant 0 1 (grantUncached 1 0)
 
 pub waits : Waits
-unfolding fresh stepOf fileStep blockStep tableStep firstBelow stateOf permissionAtGrant count stored
+unfolding fresh stepOf moved spaced anyBelow sumBelow fileStep blockStep tableStep firstBelow stateOf permissionAtGrant count stored
 waits =
     record {
       leftOpen = refl;
@@ -219,7 +220,7 @@ pub record Recoveries : Type 0 where
   pub firstStays : entryAt (after twoFlags (RP 0 ∷ RP 1 ∷ [])) 0 .last ≡ 0
 
 pub recoveries : Recoveries
-unfolding fresh stepOf fileStep blockStep tableStep firstBelow stateOf permissionAtGrant count stored
+unfolding fresh stepOf moved spaced anyBelow sumBelow fileStep blockStep tableStep firstBelow stateOf permissionAtGrant count stored
 recoveries =
     record {
       storedOpen = refl;

@@ -33,7 +33,7 @@ use Rattle.service.specs.NothingBehind.{Owes, NothingBehind, afterSteps,
 use Rattle.service.proofs.Tests.{split, conflict}
 use Rattle.service.proofs.Views.{In, viewOf, client-is}
 use Rattle.service.proofs.BlockSteps.{read-step, write-step}
-use Rattle.service.proofs.Accepted.{Passed, testsOf, doneOf, when-accepted, refused-changes-nothing, answering-service}
+use Rattle.service.proofs.Accepted.{Passed, testsOf, doneOf, when-accepted, done-but-store, refused-changes-nothing, answering-service}
 use Rattle.service.proofs.Consistent.{sized, after-kept, fresh-sound, fresh-view}
 use Rattle.service.proofs.Invariant.{Stands, Sound}
 use Rattle.service.proofs.Forgotten.{entries-of}
@@ -176,7 +176,8 @@ module _
       (λ e. subst⁻¹ (Owed z) (refused-changes-nothing s x e) owed)
       (λ e.
       let (p, done) = when-accepted s x (sized most Running Recovering promises s m r h .sizes) e in
-      subst⁻¹ (λ (o : Outcome). Owed z (o .service)) done (accepted-owed s m r x h p owed))
+      done-but-store (Owed z)
+      (λ t used free h i f here. h i f (record { below = here .below; unbarred = here .unbarred })) z s x done (accepted-owed s m r x h p owed))
 
   -- every list of steps
   left-behind :

@@ -50,6 +50,8 @@ withLists s a entries sides =
                   embargoed = tableIn s .embargoed;
                 };
             blocks = a .blocks;
+            used = s .server .used;
+            free = s .server .free;
           };
       clients = sides;
       copies = a .copies;

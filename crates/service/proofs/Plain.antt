@@ -20,7 +20,8 @@ use Rattle.table.specs.TableStep.{clashing, reportTests, endTests, tableStep}
 use Rattle.service.specs.declared.service.Service.{Service}
 use Rattle.service.specs.Contents.{sizesOf, tableIn, embargoedAt, reportedAt}
 use Rattle.service.specs.Fresh.{fresh}
-use Rattle.service.specs.Step.{stepOf}
+use Rattle.service.specs.Step.{moved, stepOf}
+use Rattle.service.specs.Space.{spaced}
 use Rattle.service.proofs.Tests.{either}
 use Rattle.service.specs.Demand3.{refused, after, Memory, blank, atBlock, delays, fed, remembered, Recovery, none, recoveryAfter}
 use Rattle.service.specs.Demand3.{Holds}
@@ -68,7 +69,7 @@ alike-after m k (Lift i) refusal delayed aside e nobody h f b = absurd (true≢f
 
 -- such a step leaves the embargoes
 embargoes-stay : (s : Service) (x : Step) → isOnAll x ≡ false → tableIn (after s x) .embargoed ≡ tableIn s .embargoed
-unfolding stepOf tableStep
+unfolding stepOf moved spaced tableStep
 embargoes-stay s (Open mode i f) e = refl
 embargoes-stay s (Close mode i f) e = refl
 embargoes-stay s (Read i f b) e = refl

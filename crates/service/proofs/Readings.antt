@@ -11,7 +11,8 @@ use Rattle.service.specs.Contents.{entryAt}
 use Rattle.file.specs.FileStep.{fileStep}
 use Rattle.access.specs.BlockStep.{blockStep}
 use Rattle.table.specs.TableStep.{tableStep}
-use Rattle.service.specs.Step.{stepOf}
+use Rattle.service.specs.Step.{moved, stepOf}
+use Rattle.service.specs.Space.{spaced, anyBelow, sumBelow}
 use Rattle.service.specs.Fresh.{fresh}
 use Rattle.service.proofs.Run.{freshDefault, OR, OW, CR, CW, RD, WR, FL, AN, XX, RP, grant, grantUncached}
 use Rattle.service.proofs.Run.{replies, after, answerAfter, recovered, stateAt}
@@ -82,7 +83,7 @@ pub record Readings : Type 0 where
       ∷ []
 
 pub readings : Readings
-unfolding fresh stepOf fileStep blockStep tableStep firstBelow stateOf permissionAtGrant count stored
+unfolding fresh stepOf moved spaced anyBelow sumBelow fileStep blockStep tableStep firstBelow stateOf permissionAtGrant count stored
 readings =
     record {
       anyNumber = refl;

@@ -3,7 +3,7 @@
 use Prim.Native.Nat.{ℕ, _+_, _*_, _/_, _%_, _≤_, _<_}
 use mathlib.Core.Path.{_≡_, refl, sym, ap, ap₂, _∙_}
 use mathlib.Core.Bool.{Bool, true, false, cond, not, _&&_, _||_}
-use mathlib.Core.List.{List, []}
+use mathlib.Core.List.{List}
 use native.Mathlib.Nat.{mod-eq-of-lt}
 use native.Mathlib.Omega.{arith}
 use lib.Dec.{eqb, leb, ltb}
@@ -202,6 +202,12 @@ module _ (sizes : Sizes) (most : Permitted sizes) (i : ℕ) (flags : List Bool) 
   last false false false true meets h = conflict h refl
   last false false false false meets h = refl
 
+  -- the second test, where none holds
+  unbarred : (a b : Bool) (rest : ℕ) → eqb (cond a 2 (cond b 20 rest)) 0 ≡ true → b ≡ false
+  unbarred true b rest h = conflict h refl
+  unbarred false true rest h = conflict h refl
+  unbarred false false rest h = refl
+
   module _ (k : ℕ) (is : k ≡ firstOf (wrapped false)) where
     number-later : (meets : Bool) → (k ≡ 0 → ⊥) → k ≡ firstOf (plain meets)
     number-later meets h =
@@ -219,6 +225,15 @@ module _ (sizes : Sizes) (most : Permitted sizes) (i : ℕ) (flags : List Bool) 
     pub reporter-there : k ≡ 0 → i < maxClients
     reporter-there h = omega (arith, client-there sizes i k _ is h, most .clients)
 
+    pub reporter-below : k ≡ 0 → i < sizes .clients
+    reporter-below h = client-there sizes i k _ is h
+
+    -- and without embargo
+    pub reporter-within : k ≡ 0 → getD flags (maxClients + 1 + i) false ≡ false
+    reporter-within h =
+        ap (λ n. getD flags (maxClients + 1 + n) false) (sym (mod-eq-of-lt (reporter-there h)))
+        ∙ unbarred (leb (sizes .clients) i) (getD flags (9 + i % maxClients) false) _ (ap (λ n. eqb n 0) (sym is) ∙ eq-eqb k 0 h)
+
     -- refused by one of the first four
     pub early-refused :
         (meets : Bool)
@@ -226,7 +241,7 @@ module _ (sizes : Sizes) (most : Permitted sizes) (i : ℕ) (flags : List Bool) 
         → recoveryStep sizes (recoveryHeld flags) meets (Report i) ≡ kept (recoveryHeld flags) (Refused k)
     unfolding recoveryStep
     early-refused meets h =
-        when-refused (plain meets) (λ n. kept (recoveryHeld flags) (Refused n)) (heard sizes i [] [] flags) k (number-later meets h) h
+        when-refused (plain meets) (λ n. kept (recoveryHeld flags) (Refused n)) (heard i flags) k (number-later meets h) h
 
     pub clash-refused :
         (meets : Bool)
@@ -235,15 +250,15 @@ module _ (sizes : Sizes) (most : Permitted sizes) (i : ℕ) (flags : List Bool) 
         → recoveryStep sizes (recoveryHeld flags) meets (Report i) ≡ kept (recoveryHeld flags) (Refused 22)
     unfolding recoveryStep
     clash-refused meets h c =
-        when-refused (plain meets) (λ n. kept (recoveryHeld flags) (Refused n)) (heard sizes i [] [] flags) 22
+        when-refused (plain meets) (λ n. kept (recoveryHeld flags) (Refused n)) (heard i flags) 22
         (ap (λ (b : Bool). cond b 22 0) (sym c) ∙ number-last meets h) (λ e. omega (arith, e))
 
     pub report-taken :
         (meets : Bool)
         → k ≡ 0
         → meets ≡ false
-        → recoveryStep sizes (recoveryHeld flags) meets (Report i) ≡ heard sizes i [] [] flags
+        → recoveryStep sizes (recoveryHeld flags) meets (Report i) ≡ heard i flags
     unfolding recoveryStep
     report-taken meets h c =
-        when-accepted (plain meets) (λ n. kept (recoveryHeld flags) (Refused n)) (heard sizes i [] [] flags) 0
+        when-accepted (plain meets) (λ n. kept (recoveryHeld flags) (Refused n)) (heard i flags) 0
         (ap (λ (b : Bool). cond b 22 0) (sym c) ∙ number-last meets h) refl

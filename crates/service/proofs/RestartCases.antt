@@ -16,7 +16,8 @@ use Rattle.table.specs.TableStep.{tableStep}
 use Rattle.service.specs.declared.service.Service.{Service}
 use Rattle.service.specs.Demand3.{after, Memory, blank, remembered}
 use Rattle.service.specs.NothingBehind.{afterSteps}
-use Rattle.service.specs.Step.{stepOf}
+use Rattle.service.specs.Step.{moved, stepOf}
+use Rattle.service.specs.Space.{spaced, anyBelow, sumBelow}
 use Rattle.service.specs.Fresh.{fresh}
 use Rattle.service.specs.Embargo.{forgottenBelow, grantsBelow, droppedBelow, allStep}
 use Rattle.service.proofs.Run.{freshDefault, OR, OW, RD, WR, FL, AN, XX, RP, BT, grantUncached}
@@ -74,7 +75,7 @@ pub record Cases : Type 0 where
   pub answerRead : reply answering (RD 1 0 0) ≡ Value 7
 
 pub cases : Cases
-unfolding fresh stepOf fileStep blockStep tableStep firstBelow allStep afterForgetting afterDropping forgottenBelow grantsBelow droppedBelow grantsValues stateOf permissionAtGrant count stored
+unfolding fresh stepOf moved spaced anyBelow sumBelow fileStep blockStep tableStep firstBelow allStep afterForgetting afterDropping forgottenBelow grantsBelow droppedBelow grantsValues stateOf permissionAtGrant count stored
 cases =
     record {
       absent = refl;

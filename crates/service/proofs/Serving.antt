@@ -1,5 +1,5 @@
 -- The whole service in the lent arrays: what a step on a file, on a block and on the table leaves in them is what the
--- definition of the step makes of the service that they held. Assumes nothing.
+-- definition of the step makes of the service that they held, but for the store. Assumes nothing.
 use Prim.Native.Nat.{ℕ, _%_, _<_, _≤_, _+_}
 use mathlib.Core.Path.{_≡_, refl, sym, ap, ap₂, _∙_, subst⁻¹}
 use mathlib.Core.Bool.{Bool, true, false, not}
@@ -57,11 +57,11 @@ use Rattle.service.specs.declared.outcome.Outcome.{Outcome}
 use Rattle.service.specs.Contents.{tableIn, fileAt, withFile, clientAt, reportedAt, embargoedAt}
 use Rattle.service.specs.Step.{fileOutcome}
 use Rattle.service.specs.Lent.{lentFlags, recoveringHeld, reportedHeld, embargoedHeld, tableHeld, serviceHeld, isSide, mayChange}
-use Rattle.service.specs.Lent.{mayReport}
+use Rattle.service.specs.Lent.{mayReport, usedHeld, freeHeld}
 use Rattle.service.specs.Lent.{Keeps}
-use Rattle.service.specs.Served.{replyNumbered, numberIn, Serves, SweptBy}
+use Rattle.service.specs.Served.{replyNumbered, numberIn, Moves, SweptBy}
 use Rattle.service.proofs.Arms.Result.{file-result, block-result, table-result}
-use Rattle.service.proofs.LentFlags.{flag-embargoed, flag-reported, same-flags}
+use Rattle.service.proofs.LentFlags.{flag-embargoed, flag-reported, used-kept, same-flags}
 
 outcome-as :
     (s s′ : Service) (r r′ : Reply) (k k′ : List ℕ)
@@ -87,6 +87,7 @@ puts-service given flags a₀ a f x t₀ t there p =
       listed-set maxFiles (λ g. sidesHeld t₀ g) (λ g. sidesHeld t g) f (x .sides) there
           (ap (λ (y : SharedFile). y .sides) (p .here))
           (λ g lt off. ap (λ (y : SharedFile). y .sides) (others-held p g off)),
+      p .beside maxFiles 0 (λ e. omega (arith, there, e)) (omega arith),
     )
 
 -- the file that the service has is the one that the row holds
@@ -112,6 +113,7 @@ embargoed-at given t flags a i = flag-embargoed flags (i % maxClients) (mod-lt i
 -- ---- on a file
 
 module _
+    (takes full : Bool)
     (sizes : Sizes)
     (x : Step)
     (f : ℕ)
@@ -138,8 +140,8 @@ module _
         reports = λ e. refl;
       }
 
-  pub file-serves : (calls? (letterOf reply) ≡ false → calls ≡ noCalls) → Serves sizes x t₀ flags a₀ t flags (lent b c h d) reply calls
-  file-serves quiet =
+  pub file-moves : (calls? (letterOf reply) ≡ false → calls ≡ noCalls) → Moves takes full sizes x t₀ flags a₀ t flags (lent b c h d) reply calls
+  file-moves quiet =
       let there : f % maxFiles < maxFiles = mod-lt f (omega arith) in
       record {
         long = holds .puts .long;
@@ -157,21 +159,21 @@ module _
             ∙ ap₂ (λ (e : Bool) (y : SharedFile). fileOutcome s (f % maxFiles) (after e y))
             (sym (embargoed-at given t₀ flags a₀ (clientOf x)))
             (sym (file-at given flags a₀ (f % maxFiles) t₀ there))
-            ∙ file-result s x sizes force f class;
+            ∙ file-result takes full s x sizes force f class;
         quiet = quiet;
         keeps = file-keeps;
       }
 
 -- ---- on a block
 
-pub block-serves :
-    (sizes : Sizes) (x : Step) (i f : ℕ) (t : List ℕ) (flags : List Bool) (a₀ : Stores) (own : ClientFile) (b c : List ℕ)
-    (h d : List Bool) (reply : Reply)
+pub block-moves :
+    (takes full : Bool) (sizes : Sizes) (x : Step) (i f : ℕ) (t : List ℕ) (flags : List Bool) (a₀ : Stores) (own : ClientFile)
+    (b c : List ℕ) (h d : List Bool) (reply : Reply)
     → classOf x ≡ OnBlock i f
     → own ≡ sideHeld (wordAt t (f % maxFiles) (10 + i % maxClients))
-    → LeavesBlock (blockStep sizes (flagOf flags i) (recoveringHeld flags) (getD flags (i % maxClients) false) own a₀ x) reply b c h d
-    → Serves sizes x t flags a₀ t flags (lent b c h d) reply noCalls
-block-serves sizes x i f t flags a₀ own b c h d reply class is l =
+    → LeavesBlock (blockStep sizes (flagOf flags i) (recoveringHeld flags) (getD flags (i % maxClients) false) own takes full a₀ x) reply b c h d
+    → Moves takes full sizes x t flags a₀ t flags (lent b c h d) reply noCalls
+block-moves takes full sizes x i f t flags a₀ own b c h d reply class is l =
     let file : f % maxFiles < maxFiles = mod-lt f (omega arith) in
     let client : i % maxClients < maxClients = mod-lt i (omega arith) in
     record {
@@ -186,7 +188,7 @@ block-serves sizes x i f t flags a₀ own b c h d reply class is l =
           ∙ sym is in
           let told : reportedAt s (i % maxClients) ≡ getD flags (i % maxClients) false =
           getD-take maxClients flags (i % maxClients) false client in
-          block-result s x sizes force i f reply b c h d class
+          block-result takes full s x sizes force i f reply b c h d class
           (rw (side, told, embargoed-at given t flags a₀ i) l);
       quiet = λ e. refl;
       keeps =
@@ -216,6 +218,7 @@ recovery-as v w a b c =
     ∙ ap (λ (l : List Bool). record { recovering = w .recovering; reported = w .reported; embargoed = l }) c
 
 module _
+    (takes full : Bool)
     (sizes : Sizes)
     (x : Step)
     (t₀ t : List ℕ)
@@ -230,6 +233,7 @@ module _
     (reports : v .reported ≡ reportedHeld flags₀)
     (embargoes : v .embargoed ≡ embargoedHeld flags₀)
     (size : length flags₀ ≡ lentFlags)
+    (most : sizes .files ≤ maxFiles)
     (done : SweptBy sizes o t₀ flags₀ t flags reply) where
   -- a refusal leaves the rows, and stores the flags as they were
   refused-keeps : isRefused reply ≡ true → (t ≡ t₀) × (flags ≡ flags₀)
@@ -240,11 +244,12 @@ module _
         same-flags flags flags₀ (done .flagsLong ∙ size) size
             (done .recovers ∙ ap (λ (w : Recovery). w .recovering) rests ∙ recovers)
             (done .reports ∙ ap (λ (w : Recovery). w .reported) rests ∙ reports)
-            (done .embargoes ∙ ap (λ (w : Recovery). w .embargoed) rests ∙ embargoes),
+            (done .embargoes ∙ ap (λ (w : Recovery). w .embargoed) rests ∙ embargoes)
+            (done .used),
       )
 
-  pub table-serves : Serves sizes x t₀ flags₀ a t flags a reply noCalls
-  table-serves =
+  pub table-moves : Moves takes full sizes x t₀ flags₀ a t flags a reply noCalls
+  table-moves =
       record {
         long = done .rows .long;
         flagsLong = done .flagsLong;
@@ -252,8 +257,12 @@ module _
             λ given force.
             let s = serviceHeld given t₀ flags₀ a in
             let same : v ≡ recoveryIn (tableIn s) = recovery-as v (recoveryIn (tableIn s)) recovers reports embargoes in
-            outcome-as _ _ _ _ _ _ (rw (swept-sides (done .rows), done .recovers, done .reports, done .embargoes)) (done .same) refl
-            ∙ table-result s x sizes force o (listed maxFiles (λ f. entryHeld t f)) class
+            let free : freeHeld t ≡ freeHeld t₀ = done .rows .past maxFiles 0 most (omega arith) in
+            outcome-as _ _ _ _ _ _
+            (rw (swept-sides (done .rows), done .recovers, done .reports, done .embargoes, done .used, free))
+            (done .same)
+            refl
+            ∙ table-result takes full s x sizes force o (listed maxFiles (λ f. entryHeld t f)) class
             (is ∙ ap (λ (w : Recovery). recoveryStep sizes w (clashHeld sizes t₀ flags₀ (reporter x)) x) same)
             (done .rows .files);
         quiet = λ e. refl;
@@ -269,8 +278,8 @@ module _
       }
 
 -- a crash by itself
-module _ (sizes : Sizes) (t₀ t : List ℕ) (flags₀ flags : List Bool) (v : Recovery) (o : RecoveryOutcome) where
-  pub crash-serves :
+module _ (takes full : Bool) (sizes : Sizes) (t₀ t : List ℕ) (flags₀ flags : List Bool) (v : Recovery) (o : RecoveryOutcome) where
+  pub crash-moves :
       (a : Stores)
       → Permitted sizes
       → ((clash : Bool) → o ≡ recoveryStep sizes v clash Crash)
@@ -282,12 +291,13 @@ module _ (sizes : Sizes) (t₀ t : List ℕ) (flags₀ flags : List Bool) (v : R
       → recoveringHeld flags ≡ o .recovery .recovering
       → reportedHeld flags ≡ o .recovery .reported
       → embargoedHeld flags ≡ o .recovery .embargoed
+      → usedHeld flags ≡ usedHeld flags₀
       → length flags ≡ lentFlags
-      → Serves sizes Crash t₀ flags₀ a t flags a Done noCalls
+      → Moves takes full sizes Crash t₀ flags₀ a t flags a Done noCalls
   unfolding recoveryStep
-  crash-serves a p so recovers reports embargoes size rows recovers′ reports′ embargoes′ long =
+  crash-moves a p so recovers reports embargoes size rows recovers′ reports′ embargoes′ used long =
       let is = so (clashHeld sizes t₀ flags₀ 0) in
-      table-serves sizes Crash t₀ t flags₀ flags a v o Done refl is recovers reports embargoes size
+      table-moves takes full sizes Crash t₀ t flags₀ flags a v o Done refl is recovers reports embargoes size (p .files)
       (record {
         rows =
             subst⁻¹ (λ (s : Sweep). Swept sizes s t₀ t) (ap (λ (o : RecoveryOutcome). o .sweep) is)
@@ -295,6 +305,7 @@ module _ (sizes : Sizes) (t₀ t : List ℕ) (flags₀ flags : List Bool) (v : R
         recovers = recovers′;
         reports = reports′;
         embargoes = embargoes′;
+        used = used;
         flagsLong = long ∙ sym size;
         same = sym (ap (λ (o : RecoveryOutcome). o .reply) is);
       })
@@ -305,55 +316,58 @@ recoveryHeld flags =
     record { recovering = recoveringHeld flags; reported = reportedHeld flags; embargoed = embargoedHeld flags }
 
 -- a report that is refused
-pub refused-serves :
-    (sizes : Sizes) (i : ℕ) (t : List ℕ) (flags : List Bool) (a : Stores) (k : ℕ)
+pub refused-moves :
+    (takes full : Bool) (sizes : Sizes) (i : ℕ) (t : List ℕ) (flags : List Bool) (a : Stores) (k : ℕ)
+    → Permitted sizes
     → length flags ≡ lentFlags
     → recoveryStep sizes (recoveryHeld flags) (clashHeld sizes t flags i) (Report i) ≡ kept (recoveryHeld flags) (Refused k)
-    → Serves sizes (Report i) t flags a t flags a (Refused k) noCalls
-refused-serves sizes i t flags a k size is =
-    table-serves sizes (Report i) t t flags flags a (recoveryHeld flags) (kept (recoveryHeld flags) (Refused k)) (Refused k) refl
-    (sym is) refl refl refl size
+    → Moves takes full sizes (Report i) t flags a t flags a (Refused k) noCalls
+refused-moves takes full sizes i t flags a k p size is =
+    table-moves takes full sizes (Report i) t t flags flags a (recoveryHeld flags) (kept (recoveryHeld flags) (Refused k)) (Refused k) refl
+    (sym is) refl refl refl size (p .files)
     (record {
       rows = swept-stay sizes t;
       recovers = refl;
       reports = refl;
       embargoes = refl;
+      used = refl;
       flagsLong = refl;
       same = refl;
     })
 
 -- one that is taken
-module _ (sizes : Sizes) (i : ℕ) (t₀ t : List ℕ) (flags : List Bool) where
-  abbrev pub heard : RecoveryOutcome
-  heard =
-      record {
-        recovery =
-            record {
-              recovering = recoveringHeld flags;
-              reported = set (reportedHeld flags) i true;
-              embargoed = embargoedHeld flags;
-            };
-        reply = Done;
-        sweep = Reports i;
-      }
+abbrev pub heard : ℕ → List Bool → RecoveryOutcome
+heard i flags =
+    record {
+      recovery =
+          record {
+            recovering = recoveringHeld flags;
+            reported = set (reportedHeld flags) i true;
+            embargoed = embargoedHeld flags;
+          };
+      reply = Done;
+      sweep = Reports i;
+    }
 
-  pub report-serves :
+module _ (takes full : Bool) (sizes : Sizes) (i : ℕ) (t₀ t : List ℕ) (flags : List Bool) where
+  pub report-moves :
       (a : Stores)
       → Permitted sizes
       → i < maxClients
       → length flags ≡ lentFlags
-      → recoveryStep sizes (recoveryHeld flags) (clashHeld sizes t₀ flags i) (Report i) ≡ heard
+      → recoveryStep sizes (recoveryHeld flags) (clashHeld sizes t₀ flags i) (Report i) ≡ heard i flags
       → SweepsRows (sizes .files) (λ f. reportedEntry (entryHeld t₀ f) i (sideOf (sidesHeld t₀ f) i)) t₀ t
-      → Serves sizes (Report i) t₀ flags a t (set flags i true) a Done noCalls
-  report-serves a p below size is rows =
+      → Moves takes full sizes (Report i) t₀ flags a t (set flags i true) a Done noCalls
+  report-moves a p below size is rows =
       let (recovers, reports, embargoes) = flag-reported flags i size below in
-      table-serves sizes (Report i) t₀ t flags (set flags i true) a (recoveryHeld flags) heard Done refl
-      (sym is) refl refl refl size
+      table-moves takes full sizes (Report i) t₀ t flags (set flags i true) a (recoveryHeld flags) (heard i flags) Done refl
+      (sym is) refl refl refl size (p .files)
       (record {
         rows = swept-report sizes (p .files) t₀ t i rows;
         recovers = recovers;
         reports = reports;
         embargoes = embargoes;
+        used = used-kept flags i true (omega (arith, below));
         flagsLong = length-set flags i true;
         same = refl;
       })
@@ -372,7 +386,7 @@ no-number (AnsweredGrant n j g) h = refl
 no-number Done h = refl
 
 -- the end of a recovery
-module _ (sizes : Sizes) (t : List ℕ) (flags₀ flags : List Bool) (v : Recovery) (o : RecoveryOutcome) where
+module _ (takes full : Bool) (sizes : Sizes) (t : List ℕ) (flags₀ flags : List Bool) (v : Recovery) (o : RecoveryOutcome) where
   end-stays : (clash : Bool) → recoveryStep sizes v clash End .sweep ≡ Stay
   unfolding recoveryStep
   end-stays clash =
@@ -385,8 +399,9 @@ module _ (sizes : Sizes) (t : List ℕ) (flags₀ flags : List Bool) (v : Recove
   end-numbered clash =
       split (eqb (firstOf (endTests sizes (v .recovering) (v .reported) (v .embargoed))) 0) (λ e. rw e) (λ e. rw (e, e))
 
-  pub end-serves :
+  pub end-moves :
       (a : Stores) (k : ℕ)
+      → Permitted sizes
       → ((clash : Bool) → o ≡ recoveryStep sizes v clash End)
       → v .recovering ≡ recoveringHeld flags₀
       → v .reported ≡ reportedHeld flags₀
@@ -395,13 +410,14 @@ module _ (sizes : Sizes) (t : List ℕ) (flags₀ flags : List Bool) (v : Recove
       → recoveringHeld flags ≡ o .recovery .recovering
       → reportedHeld flags ≡ o .recovery .reported
       → embargoedHeld flags ≡ o .recovery .embargoed
+      → usedHeld flags ≡ usedHeld flags₀
       → length flags ≡ lentFlags
       → k ≡ numberIn (o .reply)
-      → Serves sizes End t flags₀ a t flags a (replyNumbered k) noCalls
-  end-serves a k so recovers reports embargoes size recovers′ reports′ embargoes′ long number =
+      → Moves takes full sizes End t flags₀ a t flags a (replyNumbered k) noCalls
+  end-moves a k p so recovers reports embargoes size recovers′ reports′ embargoes′ used long number =
       let clash = clashHeld sizes t flags₀ 0 in
       let is = so clash in
-      table-serves sizes End t t flags₀ flags a v o (replyNumbered k) refl is recovers reports embargoes size
+      table-moves takes full sizes End t t flags₀ flags a v o (replyNumbered k) refl is recovers reports embargoes size (p .files)
       (record {
         rows =
             subst⁻¹ (λ (s : Sweep). Swept sizes s t t) (ap (λ (o : RecoveryOutcome). o .sweep) is ∙ end-stays clash)
@@ -409,6 +425,7 @@ module _ (sizes : Sizes) (t : List ℕ) (flags₀ flags : List Bool) (v : Recove
         recovers = recovers′;
         reports = reports′;
         embargoes = embargoes′;
+        used = used;
         flagsLong = long ∙ sym size;
         same =
             ap replyNumbered (number ∙ ap (λ (o : RecoveryOutcome). numberIn (o .reply)) is)

@@ -2,30 +2,33 @@
 -- copies, and once it is told it is under embargo no more. Assumes nothing.
 use Prim.Native.Nat.{ℕ, _<_}
 use mathlib.Core.Path.{_≡_, refl, sym, ap, _∙_, subst, subst⁻¹}
-use mathlib.Core.Bool.{Bool, true, false, cond, _&&_}
+use mathlib.Core.Bool.{Bool, true, false, cond, _&&_, _||_}
 use mathlib.Core.List.{List, [], _∷_}
 use mathlib.Core.Logic.{_⊎_, inl, inr}
 use lib.Dec.{eqb}
-use lib.ListN.{getD}
+use lib.ListN.{getD, set}
 use lib.Seq.{getD-set-other}
-use borrow.Author.Tests.{eqb-false, leb-false}
+use borrow.Author.Tests.{eqb-true, eqb-false, eq-eqb, leb-false, not-true}
 use Rattle.sizes.specs.declared.sizes.Sizes.{Sizes}
 use Rattle.sizes.specs.Sizes.{cell}
 use Rattle.sizes.proofs.InForce.{in-force-permitted, client-fits, block-fits}
 use Rattle.protocol.specs.declared.step.Step.{Step}
+use Rattle.protocol.specs.Step.{OnBlock}
 use Rattle.protocol.specs.declared.step.Step.the-variants.{Read, Write, Restart, Lift}
 use Rattle.blocks.specs.Stores.{writtenStores}
 use Rattle.service.specs.declared.service.Service.{Service}
 use Rattle.service.specs.declared.outcome.Outcome.{Outcome}
 use Rattle.service.specs.Aside.{Forgotten, Alone, Unseen, Told, SetsAside, Embargoes}
-use Rattle.service.specs.Contents.{sizesOf, tableIn, embargoedAt, clientAt, storesOf, withStores}
+use Rattle.service.specs.Contents.{sizesOf, tableIn, embargoedAt, clientAt, usedAt, storesOf, withStores, withSpace}
+use Rattle.service.specs.Space.{countedOn, isKnown, takenIn, recounted, spaced}
 use Rattle.service.specs.Demand3.{refused, after, Memory, blank, remembered, Recovery, none, recoveryAfter, promisesNothing}
 use Rattle.service.specs.Embargo.{putAside, told, droppedBelow}
 use Rattle.service.specs.Fresh.{fresh}
 use Rattle.service.specs.NothingBehind.{afterSteps}
-use Rattle.service.proofs.Tests.{split, and-false}
+use Rattle.service.proofs.Tests.{split, conflict, both, when, and-false}
 use Rattle.service.proofs.Contents.{cell-same}
-use Rattle.service.proofs.Accepted.{Passed, testsOf, doneOf, when-accepted}
+use Rattle.service.proofs.Counting.{any-cong, count-cong}
+use Rattle.service.proofs.Accepted.{Passed, testsOf, doneOf, when-accepted, done-but-store}
 use Rattle.service.proofs.Unknown.{set-or}
 use Rattle.service.proofs.WhileAside.{aside-read, aside-caches}
 use Rattle.service.proofs.Reached.{Reached, reached-fresh, reached-after}
@@ -42,6 +45,10 @@ forgotten-after z s m r h (x ∷ steps) =
     forgotten-after z (after s x) (remembered s m x) (recoveryAfter s r x (refused s x)) (reached-after z s m r h x) steps
 
 -- ---- it is alone
+
+-- where as many places are taken as before, as many are free
+unless-changed : (store free t t′ : ℕ) → t′ ≡ t → recounted store free t t′ ≡ free
+unless-changed store free t t′ same = when _ _ (eq-eqb t t′ (sym same))
 
 alone-same : (s s′ : Service) (i : ℕ) → s′ ≡ s → Alone s s′ i
 alone-same s s′ i same =
@@ -68,6 +75,45 @@ module _ (s : Service) (i f b v : ℕ) (p : Passed (testsOf (sizesOf s) s (Write
       ∙ ap (λ t. (eqb g f && eqb c b) && t) other
       ∙ and-false (eqb g f && eqb c b))
 
+  -- the server does not count the block
+  known-other : embargoedAt s i ≡ true → (j : ℕ) → isKnown s j ≡ true → eqb j i ≡ false
+  known-other out j known =
+      split (eqb j i)
+      (λ e. conflict (ap (λ k. embargoedAt s k) (eqb-true j i e) ∙ out) (not-true (embargoedAt s j) (both _ _ known .0)))
+      (λ e. e)
+
+  flag-stays :
+      embargoedAt s i ≡ true
+      → (j c : ℕ)
+      → j < z .clients
+      → c < z .blocks
+      → (isKnown s j && getD (set (s .dirty) (cell i f b) true) (cell j f c) false)
+      ≡ (isKnown s j && getD (s .dirty) (cell j f c) false)
+  flag-stays out j c hj hc =
+      split (isKnown s j)
+      (λ known.
+      ap (λ t. isKnown s j && t)
+      (getD-set-other (s .dirty) (cell i f b) (cell j f c) true false (apart j f c hj hc (known-other out j known))))
+      (λ unknown. rw unknown)
+
+  uncounted :
+      embargoedAt s i ≡ true
+      → countedOn z (isKnown s) (s .server .used) (set (s .dirty) (cell i f b) true) f
+      ≡ countedOn z (isKnown s) (s .server .used) (s .dirty) f
+  uncounted out =
+      count-cong (z .blocks) _ _
+      (λ c hc.
+      ap (λ t. usedAt s f c || t) (any-cong (z .clients) _ _ (λ j hj. flag-stays out j c hj hc)))
+
+  abbrev written : Service
+  written = withStores s (writtenStores true i f b v (storesOf s))
+
+  free-stays :
+      embargoedAt s i ≡ true
+      → recounted (z .store) (s .server .free) (takenIn s (OnBlock i f)) (takenIn written (OnBlock i f)) ≡ s .server .free
+  free-stays out =
+      unless-changed (z .store) (s .server .free) (takenIn s (OnBlock i f)) (takenIn written (OnBlock i f)) (uncounted out)
+
   alone-written : Alone s (withStores s (writtenStores true i f b v (storesOf s))) i
   alone-written =
       record {
@@ -80,12 +126,31 @@ module _ (s : Service) (i f b v : ℕ) (p : Passed (testsOf (sizesOf s) s (Write
         );
       }
 
+  -- nor does it use one
+  unspent :
+      embargoedAt s i ≡ true
+      → clientAt s i f .opens .caching ≡ true
+      → spaced s (Write i f b v) false written ≡ written
+  unfolding spaced
+  unspent out caches =
+      rw (caches, free-stays out)
+
+-- a read leaves the store
+unread : (s : Service) (i f b : ℕ) → spaced s (Read i f b) false s ≡ s
+unfolding spaced
+unread s i f b =
+    let taken : ℕ = takenIn s (OnBlock i f) in
+    ap (withSpace s (s .server .used)) (unless-changed (sizesOf s .store) (s .server .free) taken taken refl)
+
 pub unseen : (s : Service) (x : Step) → Unseen s x
 unseen s x i f b v (inl is) out =
     subst⁻¹ (λ x. refused s x ≡ false → Alone s (after s x) i × ((m : Memory) → remembered s m x ≡ m)) is
     (λ a.
     let (p, done) = when-accepted s (Read i f b) refl a in (
-      alone-same s (after s (Read i f b)) i (ap (λ (o : Outcome). o .service) done ∙ aside-read (sizesOf s) s i f b out p),
+      alone-same s (after s (Read i f b)) i
+          (ap (λ (o : Outcome). o .service) done
+          ∙ ap (spaced s (Read i f b) false) (aside-read (sizesOf s) s i f b out p)
+          ∙ unread s i f b),
       λ m. refl,
     ))
 unseen s x i f b v (inr is) out =
@@ -94,7 +159,9 @@ unseen s x i f b v (inr is) out =
     let (p, done) = when-accepted s (Write i f b v) refl a in
     let caches : clientAt s i f .opens .caching ≡ true = aside-caches (sizesOf s) s i f b out v p in
     let now : after s (Write i f b v) ≡ withStores s (writtenStores true i f b v (storesOf s)) =
-    ap (λ (o : Outcome). o .service) done ∙ ap (λ t. withStores s (writtenStores t i f b v (storesOf s))) caches in
+    ap (λ (o : Outcome). o .service) done
+    ∙ ap (λ t. spaced s (Write i f b v) false (withStores s (writtenStores t i f b v (storesOf s)))) caches
+    ∙ unspent s i f b v p out caches in
     (subst⁻¹ (λ s′. Alone s s′ i) now (alone-written s i f b v p), λ m. unlisted m a))
   where
     unlisted : (m : Memory) → refused s (Write i f b v) ≡ false → remembered s m (Write i f b v) ≡ m
@@ -107,7 +174,7 @@ is-told s x i (inl is) =
     subst⁻¹ (λ x. refused s x ≡ false → promisesNothing (after s x) i ≡ false) is
     (λ a.
     let (p, done) = when-accepted s (Lift i) refl a in
-    subst⁻¹ (λ (o : Outcome). embargoedAt (o .service) i ≡ false) done (lifted (sizesOf s) s i))
+    done-but-store (λ t. embargoedAt t i ≡ false) (λ t used free e. e) (sizesOf s) s (Lift i) done (lifted (sizesOf s) s i))
   where
     lifted : (z : Sizes) (s : Service) (i : ℕ) → embargoedAt (told z s i) i ≡ false
     lifted z s i = set-or (tableIn (droppedBelow z i (z .files) s) .embargoed) i false
@@ -116,7 +183,7 @@ is-told s x i (inr is) =
     (λ a.
     let (p, done) = when-accepted s (Restart i) refl a in
     let z = sizesOf s in
-    subst⁻¹ (λ (o : Outcome). embargoedAt (o .service) i ≡ false) done
+    done-but-store (λ t. embargoedAt t i ≡ false) (λ t used free e. e) z s (Restart i) done
     (set-or (tableIn (droppedBelow z i (z .files) (putAside z s i)) .embargoed) i false))
 
 pub embargoes : Embargoes

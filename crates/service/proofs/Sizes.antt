@@ -12,7 +12,7 @@ use Rattle.protocol.specs.declared.entry.Entry.{Entry}
 use Rattle.protocol.specs.declared.reply.Reply.the-variants.{Granted, Waiting, Value, Refused, AnsweredGrant, Done}
 use Rattle.protocol.specs.declared.step.Step.{Step}
 use Rattle.decision.specs.declared.state.FileState.the-variants.{Closed}
-use Rattle.sizes.specs.Sizes.{maxClients, nobody}
+use Rattle.sizes.specs.Sizes.{maxClients, maxPlaces, nobody}
 use Rattle.decision.specs.Lists.{count, stored, firstBelow}
 use Rattle.records.specs.Version.{versionOf}
 use Rattle.records.specs.Record.{notOpen}
@@ -23,7 +23,8 @@ use Rattle.access.specs.BlockStep.{blockStep}
 use Rattle.table.specs.TableStep.{tableStep}
 use Rattle.service.specs.declared.service.Service.{Service}
 use Rattle.service.specs.Contents.{tableIn, entryAt, blockAt}
-use Rattle.service.specs.Step.{stepOf}
+use Rattle.service.specs.Step.{moved, stepOf}
+use Rattle.service.specs.Space.{spaced, anyBelow, sumBelow}
 use Rattle.service.specs.Fresh.{fresh}
 use Rattle.service.specs.Demand3.{tableOf}
 use Rattle.service.proofs.Run.{OR, OW, CW, RD, WR, AN, XX, RP, EN, grant, grantUncached}
@@ -33,7 +34,7 @@ use Rattle.service.proofs.Making.{withEntry, withSide, withCopyOf, copy
 
 -- the fresh service of so many clients, files and blocks
 abbrev freshOf : ℕ → ℕ → ℕ → Service
-freshOf clients files blocks = fresh (record { clients = clients; files = files; blocks = blocks })
+freshOf clients files blocks = fresh (record { clients = clients; files = files; blocks = blocks; store = maxPlaces })
 
 abbrev three : Service
 three = freshOf 3 3 3
@@ -79,7 +80,7 @@ pub record Chosen : Type 0 where
       ∷ []
 
 pub chosen : Chosen
-unfolding fresh stepOf fileStep blockStep tableStep firstBelow stateOf permissionAtGrant count stored
+unfolding fresh stepOf moved spaced anyBelow sumBelow fileStep blockStep tableStep firstBelow stateOf permissionAtGrant count stored
 chosen =
     record {
       noClient = refl;
@@ -113,7 +114,7 @@ pub record OutOfRange : Type 0 where
       ≡ Granted (grant 1 0) ∷ Value 0 ∷ Refused 2 ∷ Refused 3 ∷ Refused 4 ∷ []
 
 pub outOfRange : OutOfRange
-unfolding fresh stepOf fileStep blockStep tableStep firstBelow stateOf permissionAtGrant count stored
+unfolding fresh stepOf moved spaced anyBelow sumBelow fileStep blockStep tableStep firstBelow stateOf permissionAtGrant count stored
 outOfRange = record { noClients = refl; manyFiles = refl; manyBlocks = refl; noneGiven = refl }
 
 -- Two clients, one file, one block. The entry of file 0 has the record of client 0, a last writer and a waiting open as
@@ -176,7 +177,7 @@ pub record Past : Type 0 where
   pub notDropped : copyOf (after called (AN 0 0 ∷ [])) 1 ≡ (7, true, true)
 
 pub past : Past
-unfolding fresh stepOf fileStep blockStep tableStep firstBelow stateOf permissionAtGrant count stored
+unfolding fresh stepOf moved spaced anyBelow sumBelow fileStep blockStep tableStep firstBelow stateOf permissionAtGrant count stored
 past =
     record {
       state = refl;

@@ -2,7 +2,7 @@
 -- nothing.
 use Prim.Native.Nat.{ℕ}
 use mathlib.Core.Path.{_≡_, refl}
-use mathlib.Core.Bool.{Bool, true, false, cond, _&&_}
+use mathlib.Core.Bool.{Bool, true, false, cond, _&&_, _||_}
 use lib.Dec.{eqb}
 use borrow.Author.Tests.{eq-eqb}
 pub use Rattle.sizes.proofs.Choosing.{split, conflict, when, unless, cond-not}
@@ -25,6 +25,11 @@ eqb-same k = eq-eqb k k refl
 pub both : (x y : Bool) → (x && y) ≡ true → (x ≡ true) × (y ≡ true)
 both true y e = (refl, e)
 both false y e = conflict e refl
+
+-- where neither of two tests holds the first does not
+pub neither-first : (x y : Bool) → (x || y) ≡ false → x ≡ false
+neither-first true y e = e
+neither-first false y e = refl
 
 pub and-true : (x : Bool) → (x && true) ≡ x
 and-true true = refl

@@ -4,6 +4,7 @@ use Prim.Native.Nat.{ℕ, _<_}
 use mathlib.Core.Path.{_≡_, sym, ap, _∙_, subst}
 use mathlib.Core.Bool.{Bool, true, false, cond, not, _&&_, _||_}
 use lib.Dec.{eqb, ltb}
+use mathlib.Core.List.{List}
 use lib.ListN.{length}
 use borrow.Author.Tests.{eqb-true, lt-ltb, ltb-true, not-true}
 use Rattle.sizes.specs.declared.sizes.Sizes.{Sizes}
@@ -13,7 +14,7 @@ use Rattle.protocol.specs.Table.{seen}
 use Rattle.protocol.proofs.View.{View, at, valueIn}
 use Rattle.blocks.specs.Stores.{valueRead}
 use Rattle.service.specs.declared.service.Service.{Service}
-use Rattle.service.specs.Contents.{sizesOf, tableIn, entryAt, blockAt, reportedAt, embargoedAt, sidesAt, clientAt, copyAt}
+use Rattle.service.specs.Contents.{sizesOf, tableIn, entryAt, blockAt, reportedAt, embargoedAt, sidesAt, clientAt, copyAt, withSpace}
 use Rattle.service.specs.Contents.{heldAt, dirtyAt, storesOf}
 use Rattle.service.proofs.Tests.{split, conflict, unless, both, and-false}
 
@@ -29,6 +30,22 @@ pub record Sized (z : Sizes) (s : Service) : Type 0 where
   pub copies : length (s .copies) ≡ maxCells
   pub held : length (s .held) ≡ maxCells
   pub dirty : length (s .dirty) ≡ maxCells
+
+-- the store does not matter to it
+pub sized-stored : {z : Sizes} (s : Service) (used : List Bool) (free : ℕ) → Sized z s → Sized z (withSpace s used free)
+sized-stored s used free n =
+    record {
+      sizes = n .sizes;
+      entries = n .entries;
+      words = n .words;
+      reports = n .reports;
+      embargoes = n .embargoes;
+      files = n .files;
+      sides = n .sides;
+      copies = n .copies;
+      held = n .held;
+      dirty = n .dirty;
+    }
 
 -- ---- what the clients have that are in: those in force without embargo
 

@@ -2,7 +2,7 @@
 -- invariant of the whole service is kept, and the reference memory loses what the client had not sent. Assumes nothing.
 use Prim.Native.Nat.{ℕ, zero, suc, _<_}
 use mathlib.Core.Path.{_≡_, refl, sym, ap, _∙_, subst, subst⁻¹}
-use mathlib.Core.Bool.{Bool, true, false, cond, not, _&&_}
+use mathlib.Core.Bool.{Bool, true, false, cond, not, _&&_, _||_}
 use mathlib.Core.List.{List, [], _∷_, map}
 use native.Mathlib.Omega.{arith}
 use lib.Dec.{eqb, ltb}
@@ -24,7 +24,8 @@ use Rattle.service.specs.Aside.{Forgotten}
 use Rattle.service.specs.Contents.{embargoedAt, clientAt, heldAt, storesOf, withStores}
 use Rattle.service.specs.Demand3.{Memory}
 use Rattle.service.specs.Embargo.{putAside, told, restarted}
-use Rattle.service.proofs.Tests.{conflict}
+use Rattle.service.specs.Space.{takesPlace}
+use Rattle.service.proofs.Tests.{conflict, neither-first}
 use Rattle.service.proofs.Views.{Sized, viewOf, heardOf}
 use Rattle.service.proofs.BlockSteps.{BlockStep, hidden-write}
 use Rattle.service.proofs.Accepted.{Passed, testsOf, doneOf}
@@ -60,7 +61,9 @@ module _ (z : Sizes) (s : Service) (i f b : ℕ) (out : embargoedAt s i ≡ true
   -- a write stands in its own copy
   pub aside-caches : (v : ℕ) → Passed (testsOf z s (Write i f b v)) → clientAt s i f .opens .caching ≡ true
   aside-caches v (_, (_, (_, (aside, _)))) =
-      caches (clientAt s i f) (not-needed (writeNeedsServer (clientAt s i f)) (embargoedAt s i) out aside)
+      let needs : Bool = writeNeedsServer (clientAt s i f) in
+      let takes : Bool = takesPlace s (Write i f b v) in
+      caches (clientAt s i f) (neither-first needs takes (not-needed (needs || takes) (embargoedAt s i) out aside))
 
   pub aside-write :
       Permitted z

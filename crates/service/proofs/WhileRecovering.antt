@@ -24,7 +24,8 @@ use Rattle.table.specs.TableStep.{noEntry}
 use Rattle.service.specs.declared.service.Service.{Service}
 use Rattle.service.specs.Contents.{tableIn, entryAt, blockAt, reportedAt, embargoedAt, clientAt, heldAt, storesOf, withStores}
 use Rattle.service.specs.Demand3.{Memory, atBlock, delays, tableOf, NoOpenWaits}
-use Rattle.service.proofs.Tests.{conflict}
+use Rattle.service.specs.Space.{takesPlace}
+use Rattle.service.proofs.Tests.{conflict, neither-first}
 use Rattle.service.proofs.Lists.{count-none}
 use Rattle.service.proofs.Views.{In, viewOf, heardOf, client-is, held-is, value-is}
 use Rattle.service.proofs.BlockSteps.{write-step}
@@ -115,7 +116,9 @@ module _
       let hf : f < z .files = leb-false (z .files) f file in
       let hb : b < z .blocks = leb-false (z .blocks) b block in
       let needs : Bool = writeNeedsServer (clientAt s i f) in
-      let own : needs ≡ false = own-step (tableIn s .recovering) (reportedAt s i) needs (r .state) cut in
+      let takes : Bool = takesPlace s (Write i f b v) in
+      let own : needs ≡ false =
+      neither-first needs takes (own-step (tableIn s .recovering) (reportedAt s i) (needs || takes) (r .state) cut) in
       let own′ = subst (λ c. writeNeedsServer c ≡ false) (client-is z s f b shown) own in
       let p = write-step most (r .sized) shown hf hb v in
       let s′ : Service = doneOf z s (Write i f b v) .service in

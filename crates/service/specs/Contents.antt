@@ -1,9 +1,10 @@
 -- What stands where in the service. The definitions of the steps look at it through these alone.
 use Prim.Native.Nat.{ℕ}
-use mathlib.Core.Bool.{Bool}
-use lib.ListN.{set}
+use mathlib.Core.Bool.{Bool, false}
+use mathlib.Core.List.{List}
+use lib.ListN.{getD, set}
 use Rattle.sizes.specs.declared.sizes.Sizes.{Sizes}
-use Rattle.sizes.specs.Sizes.{inForce}
+use Rattle.sizes.specs.Sizes.{inForce, atMost, place}
 use Rattle.protocol.specs.declared.client.ClientFile.{ClientFile}
 use Rattle.protocol.specs.declared.client.Sides.{Sides}
 use Rattle.protocol.specs.declared.entry.Entry.{Entry}
@@ -30,6 +31,13 @@ storesOf s = record { blocks = s .server .blocks; copies = s .copies; held = s .
 
 abbrev pub blockAt : Service → ℕ → ℕ → ℕ
 blockAt s f b = blockIn (storesOf s) f b
+
+-- whether the server's block b of file f is used, and how many places are free: "a hand-made one above reads as the size"
+abbrev pub usedAt : Service → ℕ → ℕ → Bool
+usedAt s f b = getD (s .server .used) (place f b) false
+
+abbrev pub freeOf : Service → ℕ
+freeOf s = atMost (sizesOf s .store) (s .server .free)
 
 -- whether client i has reported
 abbrev pub reportedAt : Service → ℕ → Bool
@@ -59,12 +67,24 @@ dirtyAt s i f b = dirtyIn (storesOf s) i f b
 abbrev pub fileAt : Service → ℕ → SharedFile
 fileAt s f = record { entry = entryAt s f; sides = sidesAt s f }
 
+-- the service with other used blocks and another number of free places
+abbrev pub withSpace : Service → List Bool → ℕ → Service
+withSpace s used free =
+    record {
+      sizes = s .sizes;
+      server = record { table = tableIn s; blocks = s .server .blocks; used = used; free = free };
+      clients = s .clients;
+      copies = s .copies;
+      held = s .held;
+      dirty = s .dirty;
+    }
+
 -- the service with other blocks and copies, with another table, and with another file f
 abbrev pub withStores : Service → Stores → Service
 withStores s a =
     record {
       sizes = s .sizes;
-      server = record { table = tableIn s; blocks = a .blocks };
+      server = record { table = tableIn s; blocks = a .blocks; used = s .server .used; free = s .server .free };
       clients = s .clients;
       copies = a .copies;
       held = a .held;
@@ -75,7 +95,7 @@ abbrev pub withTable : Service → Table → Service
 withTable s t =
     record {
       sizes = s .sizes;
-      server = record { table = t; blocks = s .server .blocks };
+      server = record { table = t; blocks = s .server .blocks; used = s .server .used; free = s .server .free };
       clients = s .clients;
       copies = s .copies;
       held = s .held;
@@ -96,6 +116,8 @@ withFile s f x a =
                   embargoed = tableIn s .embargoed;
                 };
             blocks = a .blocks;
+            used = s .server .used;
+            free = s .server .free;
           };
       clients = set (s .clients) f (x .sides);
       copies = a .copies;

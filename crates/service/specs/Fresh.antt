@@ -1,5 +1,6 @@
 -- The fresh service: "counts and labels 0, versions 1, server blocks and copies zero, none held or dirty; no
--- permission, mark, last writer, wait, call or report; not recovering".
+-- permission, mark, last writer, wait, call or report; not recovering". No block is used, and every place is free: the
+-- number is that of the largest store, which reads as the size in force.
 use mathlib.Core.Bool.{false}
 use lib.ListN.{replicate}
 use Rattle.sizes.specs.declared.sizes.Sizes.{Sizes}
@@ -23,6 +24,8 @@ fresh z =
                   embargoed = replicate maxClients false;
                 };
             blocks = replicate maxPlaces 0;
+            used = replicate maxPlaces false;
+            free = maxPlaces;
           };
       clients = replicate maxFiles (record { of = replicate maxClients noClient });
       copies = replicate maxCells 0;

@@ -4,9 +4,9 @@ use mathlib.Core.Path.{_≡_}
 use mathlib.Core.Bool.{Bool, true, false, cond, not, _&&_}
 use mathlib.Core.List.{List}
 use lib.Dec.{eqb, leb, ltb}
-use lib.ListN.{length, getD, take}
+use lib.ListN.{length, getD, take, drop}
 use Rattle.sizes.specs.declared.sizes.Sizes.{Sizes}
-use Rattle.sizes.specs.Sizes.{maxClients, maxFiles}
+use Rattle.sizes.specs.Sizes.{maxClients, maxFiles, maxPlaces}
 use Rattle.protocol.specs.declared.reply.Reply.{Reply}
 use Rattle.protocol.specs.declared.reply.Reply.the-variants.{Refused}
 use Rattle.protocol.specs.Step.{Class}
@@ -22,9 +22,13 @@ use Rattle.service.specs.declared.service.Service.{Service}
 use Rattle.service.specs.declared.outcome.Outcome.{Outcome}
 use Rattle.service.specs.Step.{stepOf}
 
--- the flags: who has reported, after them whether the server recovers, and last who is under embargo
+-- the flags: who has reported, after them whether the server recovers, then who is under embargo, and last which blocks
+-- are used
+abbrev pub stateFlags : ℕ
+stateFlags = 2 * maxClients + 1
+
 abbrev pub lentFlags : ℕ
-lentFlags = 2 * maxClients + 1
+lentFlags = stateFlags + maxPlaces
 
 abbrev pub recoveringHeld : List Bool → Bool
 recoveringHeld flags = getD flags maxClients false
@@ -34,6 +38,13 @@ reportedHeld flags = take maxClients flags
 
 abbrev pub embargoedHeld : List Bool → List Bool
 embargoedHeld flags = listed maxClients (λ i. getD flags (maxClients + 1 + i) false)
+
+abbrev pub usedHeld : List Bool → List Bool
+usedHeld flags = drop stateFlags flags
+
+-- the word after the rows: how many places are free
+abbrev pub freeHeld : List ℕ → ℕ
+freeHeld t = wordAt t maxFiles 0
 
 abbrev pub tableHeld : List ℕ → List Bool → Table
 tableHeld t flags =
@@ -48,7 +59,7 @@ abbrev pub serviceHeld : Sizes → List ℕ → List Bool → Stores → Service
 serviceHeld z t flags a =
     record {
       sizes = z;
-      server = record { table = tableHeld t flags; blocks = a .blocks };
+      server = record { table = tableHeld t flags; blocks = a .blocks; used = usedHeld flags; free = freeHeld t };
       clients = listed maxFiles (λ f. sidesHeld t f);
       copies = a .copies;
       held = a .held;
@@ -87,7 +98,7 @@ mayReport OnAll = true
 pub record Keeps (x : Step) (reply : Reply) (t₀ : List ℕ) (flags₀ : List Bool) (t : List ℕ) (flags : List Bool) : Type 0 where
   pub refused : isRefused reply ≡ true → (t ≡ t₀) × (flags ≡ flags₀)
   pub words : (g k : ℕ) → g < maxFiles → k < rowWords → mayChange (classOf x) g k ≡ false → wordAt t g k ≡ wordAt t₀ g k
-  pub reports : mayReport (classOf x) ≡ false → flags ≡ flags₀
+  pub reports : mayReport (classOf x) ≡ false → take stateFlags flags ≡ take stateFlags flags₀
 
 -- The step that the five numbers are is taken: the arrays hold the service that it makes of the one that they held, and
 -- its reply and its calls are said.

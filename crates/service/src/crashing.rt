@@ -35,7 +35,7 @@ impl Service {
             &mut held,
             &mut dirty,
         );
-        let _ = step_table(given.in_force(), 8, 0, &mut table, &mut flags);
+        let _ = step_table(given.in_force(), 8, 0, &mut table, &mut flags, &dirty);
         held_service(given, &table, &flags, &blocks, &copies, &held, &dirty)
     }
 }

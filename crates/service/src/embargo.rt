@@ -16,7 +16,7 @@ ghost use Rattle.blocks.specs.Stores.{lent};
 ghost use Rattle.words.specs.Rows.{tableWords};
 ghost use Rattle.words.specs.Said.{saidRoom, Begun, SaidSoFar};
 ghost use Rattle.service.specs.Lent.{lentFlags, recoveringHeld};
-ghost use Rattle.service.specs.Served.{Forgets, Drops, ServesAll};
+ghost use Rattle.service.specs.Served.{Forgets, Drops, MovesAll};
 use crate::flags::FLAGS;
 use decision::asks_nothing;
 use file::drop_file;
@@ -147,7 +147,7 @@ pub fn restart_client(
     requires { ⌜ length (now table) ≡ tableWords ⌝ }
     requires { ⌜ length (now flags) ≡ lentFlags ⌝ }
     requires { ⌜ length (now words) ≡ saidRoom ⌝ }
-    ensures { λ r. ⌜ ((blocks : List ℕ) → ServesAll sizes (Step.Restart client) (now (table .entry)) (now (flags .entry))
+    ensures { λ r. ⌜ ((blocks : List ℕ) → MovesAll sizes (Step.Restart client) (now (table .entry)) (now (flags .entry))
         (lent blocks (now (copies .entry)) (now (held .entry)) (now (dirty .entry)))
         (now (words .entry)) (now (table .exit)) (now (flags .exit))
         (lent blocks (now (copies .exit)) (now (held .exit)) (now (dirty .exit)))
@@ -191,7 +191,7 @@ pub fn embargo_client(
     requires { ⌜ length (now table) ≡ tableWords ⌝ }
     requires { ⌜ length (now flags) ≡ lentFlags ⌝ }
     requires { ⌜ length (now words) ≡ saidRoom ⌝ }
-    ensures { λ r. ⌜ ((blocks : List ℕ) → ServesAll sizes (Step.Embargo client file) (now (table .entry)) (now (flags .entry))
+    ensures { λ r. ⌜ ((blocks : List ℕ) → MovesAll sizes (Step.Embargo client file) (now (table .entry)) (now (flags .entry))
         (lent blocks (now (copies .entry)) (now (held .entry)) (now (dirty .entry)))
         (now (words .entry)) (now (table .exit)) (now (flags .exit))
         (lent blocks (now (copies .exit)) (now (held .exit)) (now (dirty .exit)))
@@ -223,7 +223,7 @@ pub fn lift_embargo(
     requires { ⌜ length (now table) ≡ tableWords ⌝ }
     requires { ⌜ length (now flags) ≡ lentFlags ⌝ }
     requires { ⌜ length (now words) ≡ saidRoom ⌝ }
-    ensures { λ r. ⌜ ((blocks : List ℕ) → ServesAll sizes (Step.Lift client) (now (table .entry)) (now (flags .entry))
+    ensures { λ r. ⌜ ((blocks : List ℕ) → MovesAll sizes (Step.Lift client) (now (table .entry)) (now (flags .entry))
         (lent blocks (now (copies .entry)) (now (held .entry)) (now (dirty .entry)))
         (now (words .entry)) (now (table .exit)) (now (flags .exit))
         (lent blocks (now (copies .exit)) (now (held .exit)) (now (dirty .exit)))

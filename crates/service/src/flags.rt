@@ -1,11 +1,16 @@
-// The lent flags: who has reported, after them whether the server recovers, and last who is under embargo.
+// The lent flags: who has reported, after them whether the server recovers, then who is under embargo, and last which
+// blocks are used.
 ghost use mathlib.Core.Path.{_≡_};
 ghost use lib.ListN.{length};
-ghost use Rattle.service.specs.Lent.{lentFlags, recoveringHeld, reportedHeld, embargoedHeld};
+ghost use Rattle.service.specs.Lent.{lentFlags, recoveringHeld, reportedHeld, embargoedHeld, usedHeld};
 use sizes::MAX_CLIENTS;
+use sizes::MAX_PLACES;
 use table::Recovery;
 
-pub const FLAGS: usize = 2 * MAX_CLIENTS + 1;
+// Where the flags of the used blocks begin.
+pub const USED: usize = 2 * MAX_CLIENTS + 1;
+
+pub const FLAGS: usize = USED + MAX_PLACES;
 
 pub fn recovery_of(flags: &[bool; FLAGS]) -> Recovery
     requires { ⌜ length (now flags) ≡ lentFlags ⌝ }
@@ -43,6 +48,7 @@ pub fn put_recovery(flags: &mut [bool; FLAGS], recovery: Recovery)
     ensures { λ r. ⌜ (recoveringHeld (now (flags .exit)) ≡ recovery .recovering)
         × (reportedHeld (now (flags .exit)) ≡ recovery .reported)
         × (embargoedHeld (now (flags .exit)) ≡ recovery .embargoed)
+        × (usedHeld (now (flags .exit)) ≡ usedHeld (now (flags .entry)))
         × (length (now (flags .exit)) ≡ lentFlags) ⌝ }
 {
     let reports = recovery.reported;

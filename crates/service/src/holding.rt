@@ -1,12 +1,13 @@
 // A service stored into lent arrays, and read back out of them.
 ghost use mathlib.Core.Path.{_≡_};
-ghost use lib.ListN.{length};
+ghost use lib.ListN.{length, set, take};
 ghost use Rattle.sizes.specs.Sizes.{maxFiles};
 ghost use Rattle.blocks.specs.Stores.{lent};
-ghost use Rattle.words.specs.Rows.{listed, tableWords, entryHeld, sidesHeld};
+ghost use Rattle.words.specs.Rows.{listed, tableRows, tableWords, entryHeld, sidesHeld};
 ghost use Rattle.service.specs.Fresh.{fresh};
-ghost use Rattle.service.specs.Lent.{lentFlags, tableHeld, serviceHeld};
+ghost use Rattle.service.specs.Lent.{stateFlags, lentFlags, usedHeld, tableHeld, serviceHeld};
 use crate::flags::FLAGS;
+use crate::flags::USED;
 use crate::flags::put_recovery;
 use crate::flags::recovery_of;
 use crate::service::Server;
@@ -22,6 +23,7 @@ use sizes::MAX_PLACES;
 use sizes::Sizes;
 use table::Recovery;
 use table::Table;
+use words::ROWS;
 use words::WORDS;
 use words::entry_at;
 use words::put_file;
@@ -41,6 +43,28 @@ fn hold_files(files: [Entry; MAX_FILES], clients: [Sides; MAX_FILES], table: &mu
         let shared = SharedFile { entry, sides };
         put_file(table, f, shared);
         f += 1;
+    }
+}
+
+// The used blocks and the number of free places. What else the table and the flags hold stays.
+fn hold_space(
+    used: [bool; MAX_PLACES],
+    free: usize,
+    table: &mut [u64; WORDS],
+    flags: &mut [bool; FLAGS],
+)
+    requires { ⌜ length (now table) ≡ tableWords ⌝ }
+    requires { ⌜ length (now flags) ≡ lentFlags ⌝ }
+    ensures { λ r. ⌜ (usedHeld (now (flags .exit)) ≡ used)
+        × (take stateFlags (now (flags .exit)) ≡ take stateFlags (now (flags .entry)))
+        × (length (now (flags .exit)) ≡ lentFlags) ⌝ }
+    ensures { λ r. ⌜ now (table .exit) ≡ set (now (table .entry)) tableRows free ⌝ }
+{
+    table[ROWS] = free as u64;
+    let mut p: usize = 0;
+    while p < MAX_PLACES {
+        flags[USED + p] = used[p];
+        p += 1;
     }
 }
 
@@ -75,6 +99,8 @@ pub fn hold(
             embargoed,
         },
     );
+    let used = server.used;
+    hold_space(used, server.free, table, flags);
     let all_blocks = server.blocks;
     let all_copies = service.copies;
     let all_held = service.held;
@@ -115,6 +141,7 @@ pub fn hold_fresh(
             embargoed: [false; MAX_CLIENTS],
         },
     );
+    hold_space([false; MAX_PLACES], MAX_PLACES, table, flags);
     *blocks = [0; MAX_PLACES];
     *copies = [0; MAX_CELLS];
     *held = [false; MAX_CELLS];
@@ -168,6 +195,20 @@ fn held_sides(table: &[u64; WORDS]) -> [Sides; MAX_FILES]
     clients
 }
 
+// Which blocks are used.
+pub fn held_used(flags: &[bool; FLAGS]) -> [bool; MAX_PLACES]
+    requires { ⌜ length (now flags) ≡ lentFlags ⌝ }
+    ensures { λ r. ⌜ r ≡ usedHeld (now (flags .entry)) ⌝ }
+{
+    let mut used = [false; MAX_PLACES];
+    let mut p: usize = 0;
+    while p < MAX_PLACES {
+        used[p] = flags[USED + p];
+        p += 1;
+    }
+    used
+}
+
 pub fn held_service(
     sizes: Sizes,
     table: &[u64; WORDS],
@@ -187,9 +228,12 @@ pub fn held_service(
     let all_copies = *copies;
     let all_held = *held;
     let all_dirty = *dirty;
+    let used = held_used(flags);
     let server = Server {
         table: state,
         blocks: all_blocks,
+        used,
+        free: table[ROWS] as usize,
     };
     Service {
         sizes,

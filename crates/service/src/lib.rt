@@ -8,6 +8,8 @@ mod holding;
 mod outcome;
 mod recovering;
 mod service;
+mod space;
+mod spending;
 mod step;
 mod taking;
 
@@ -17,6 +19,7 @@ pub use clashing::clashes_with;
 pub use flags::FLAGS;
 pub use holding::held_service;
 pub use holding::held_table;
+pub use holding::held_used;
 pub use holding::hold;
 pub use holding::hold_fresh;
 pub use outcome::Outcome;

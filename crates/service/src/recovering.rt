@@ -1,28 +1,35 @@
 // The steps on the table, on the arrays that hold the service: a crash, a report, and the end of a recovery. They are called
 // from two places, the one step function and the reading of an image, so that a program keeps them out of its loop.
 ghost use mathlib.Core.Path.{_≡_};
+ghost use mathlib.Core.Bool.{Bool, false};
 ghost use mathlib.Core.List.{List};
 ghost use Prim.Native.Nat.{ℕ, _<_};
 ghost use lib.ListN.{length};
 ghost use Rattle.sizes.specs.Sizes.{Permitted};
 ghost use Rattle.protocol.specs.Reply.{noCalls};
 ghost use Rattle.protocol.specs.Step.{stepAsked};
-ghost use Rattle.blocks.specs.Stores.{Stores};
+ghost use Rattle.blocks.specs.Stores.{Stores, lent};
 ghost use Rattle.words.specs.Rows.{tableWords};
 ghost use Rattle.service.specs.Lent.{lentFlags};
-ghost use Rattle.service.specs.Served.{replyNumbered, numberIn, Serves};
+ghost use Rattle.service.specs.Served.{replyNumbered, numberIn, Moves, Serves};
 use crate::clashing::clash_file;
 use crate::flags::FLAGS;
 use crate::flags::put_recovery;
 use crate::flags::recovery_of;
+use crate::space::less;
+use crate::space::recount;
+use crate::space::reserved_anew;
+use crate::space::used_in;
 use protocol::REPORTS_CLASH;
 use protocol::Reply;
 use protocol::Step;
+use sizes::MAX_CELLS;
 use sizes::MAX_CLIENTS;
 use sizes::Sizes;
 use table::crash_rows;
 use table::report_refusal;
 use table::report_rows;
+use words::ROWS;
 use words::WORDS;
 
 // The reply to a step on the table: it is done, or refused with a number.
@@ -52,19 +59,35 @@ pub fn step_table(
     client: usize,
     table: &mut [u64; WORDS],
     flags: &mut [bool; FLAGS],
+    dirty: &[bool; MAX_CELLS],
 ) -> u8
     requires { ⌜ Permitted sizes ⌝ }
     requires { ⌜ length (now table) ≡ tableWords ⌝ }
     requires { ⌜ length (now flags) ≡ lentFlags ⌝ }
-    ensures { λ r. ⌜ ((f b v : ℕ) (a : Stores) → 7 < kind → kind < 11
-        → Serves sizes (stepAsked kind client f b v) (now (table .entry)) (now (flags .entry)) a
-        (now (table .exit)) (now (flags .exit)) a (replyNumbered r) noCalls) ⌝ }
+    ensures { λ r. ⌜ ((f b v : ℕ) (blocks copies : List ℕ) (held : List Bool) → 7 < kind → kind < 11
+        → Serves sizes (stepAsked kind client f b v) (now (table .entry)) (now (flags .entry))
+        (lent blocks copies held (now (dirty .entry)))
+        (now (table .exit)) (now (flags .exit)) (lent blocks copies held (now (dirty .entry))) (replyNumbered r) noCalls) ⌝ }
 {
     match kind {
-        8 => crash(sizes, table, flags),
-        9 => report(sizes, client, table, flags),
+        8 => crash_store(sizes, table, flags),
+        9 => report(sizes, client, table, flags, dirty),
         _ => end(sizes, flags),
     }
+}
+
+// A crash: what is not used is free.
+fn crash_store(sizes: Sizes, table: &mut [u64; WORDS], flags: &mut [bool; FLAGS]) -> u8
+    requires { ⌜ Permitted sizes ⌝ }
+    requires { ⌜ length (now table) ≡ tableWords ⌝ }
+    requires { ⌜ length (now flags) ≡ lentFlags ⌝ }
+    ensures { λ r. ⌜ ((a : Stores) → Serves sizes Step.Crash (now (table .entry)) (now (flags .entry)) a
+        (now (table .exit)) (now (flags .exit)) a (replyNumbered r) noCalls) ⌝ }
+{
+    let number = crash(sizes, table, flags);
+    let used = used_in(sizes, flags);
+    table[ROWS] = less(sizes.store, used) as u64;
+    number
 }
 
 // The reports are lost, of the entries all but the versions, and recovery begins.
@@ -72,7 +95,7 @@ fn crash(sizes: Sizes, table: &mut [u64; WORDS], flags: &mut [bool; FLAGS]) -> u
     requires { ⌜ Permitted sizes ⌝ }
     requires { ⌜ length (now table) ≡ tableWords ⌝ }
     requires { ⌜ length (now flags) ≡ lentFlags ⌝ }
-    ensures { λ r. ⌜ ((a : Stores) → Serves sizes Step.Crash (now (table .entry)) (now (flags .entry)) a
+    ensures { λ r. ⌜ ((a : Stores) → Moves false false sizes Step.Crash (now (table .entry)) (now (flags .entry)) a
         (now (table .exit)) (now (flags .exit)) a (replyNumbered r) noCalls) ⌝ }
 {
     let recovery = recovery_of(flags);
@@ -83,13 +106,21 @@ fn crash(sizes: Sizes, table: &mut [u64; WORDS], flags: &mut [bool; FLAGS]) -> u
     0
 }
 
-// A report is tested whole before any of it is taken; the rows are looked at where nothing else refuses it.
-fn report(sizes: Sizes, client: usize, table: &mut [u64; WORDS], flags: &mut [bool; FLAGS]) -> u8
+// A report is tested whole before any of it is taken; the rows are looked at where nothing else refuses it. It takes a
+// place for each block that it reserves.
+fn report(
+    sizes: Sizes,
+    client: usize,
+    table: &mut [u64; WORDS],
+    flags: &mut [bool; FLAGS],
+    dirty: &[bool; MAX_CELLS],
+) -> u8
     requires { ⌜ Permitted sizes ⌝ }
     requires { ⌜ length (now table) ≡ tableWords ⌝ }
     requires { ⌜ length (now flags) ≡ lentFlags ⌝ }
-    ensures { λ r. ⌜ ((a : Stores) → Serves sizes (Step.Report client) (now (table .entry)) (now (flags .entry)) a
-        (now (table .exit)) (now (flags .exit)) a (replyNumbered r) noCalls) ⌝ }
+    ensures { λ r. ⌜ ((blocks copies : List ℕ) (held : List Bool) → Serves sizes (Step.Report client)
+        (now (table .entry)) (now (flags .entry)) (lent blocks copies held (now (dirty .entry)))
+        (now (table .exit)) (now (flags .exit)) (lent blocks copies held (now (dirty .entry))) (replyNumbered r) noCalls) ⌝ }
 {
     let own = client % MAX_CLIENTS;
     let refusal = report_refusal(sizes, flags[9 + own], flags[8], flags[own], client);
@@ -100,8 +131,10 @@ fn report(sizes: Sizes, client: usize, table: &mut [u64; WORDS], flags: &mut [bo
     if file < sizes.files {
         return REPORTS_CLASH;
     }
+    let taken = reserved_anew(sizes, client, flags, dirty);
     report_rows(sizes, client, table);
     flags[client] = true;
+    recount(sizes.store, table, 0, taken);
     0
 }
 
@@ -109,7 +142,7 @@ fn report(sizes: Sizes, client: usize, table: &mut [u64; WORDS], flags: &mut [bo
 fn end(sizes: Sizes, flags: &mut [bool; FLAGS]) -> u8
     requires { ⌜ Permitted sizes ⌝ }
     requires { ⌜ length (now flags) ≡ lentFlags ⌝ }
-    ensures { λ r. ⌜ ((t : List ℕ) (a : Stores) → Serves sizes Step.End t (now (flags .entry)) a
+    ensures { λ r. ⌜ ((t : List ℕ) (a : Stores) → Moves false false sizes Step.End t (now (flags .entry)) a
         t (now (flags .exit)) a (replyNumbered r) noCalls) ⌝ }
 {
     let recovery = recovery_of(flags);

@@ -6,6 +6,7 @@ ghost use Rattle.service.specs.Demand3.{Consistent};
 ghost use Rattle.service.specs.Fresh.{fresh};
 ghost use Rattle.service.specs.NothingBehind.{LeavesNothing};
 ghost use Rattle.service.specs.Plain.{PlainlyConsistent};
+ghost use Rattle.service.specs.Store.{StoreHolds};
 use protocol::ClientFile;
 use protocol::Entry;
 use protocol::Sides;
@@ -19,8 +20,12 @@ use table::Table;
 // The server: what a crash takes, and what survives it.
 pub struct Server {
     pub table: Table,
-    // Block b of file f stands at f * MAX_BLOCKS + b.
+    // Block b of file f stands at f * MAX_BLOCKS + b, here and among the flags.
     pub blocks: [u64; MAX_PLACES],
+    // Whether a write has reached the block.
+    pub used: [bool; MAX_PLACES],
+    // How many places of the store are free; one above its size reads as the size.
+    pub free: usize,
 }
 
 pub struct Service {
@@ -37,7 +42,8 @@ pub struct Service {
 
 impl Service {
     // The fresh service of these sizes. From it every list of steps is consistent, which is Demand 3, plainly so where no
-    // client restarts or is put under embargo; it leaves nothing behind, and sets aside whoever is under embargo.
+    // client restarts or is put under embargo; it leaves nothing behind, sets aside whoever is under embargo, and accounts for
+    // every place of the store.
     pub fn new(sizes: Sizes) -> Self
         ensures { λ r. ⌜ r ≡ fresh sizes ⌝ }
         ensures { λ r. ⌜ Consistent r ⌝ }
@@ -45,6 +51,7 @@ impl Service {
         ensures { λ r. ⌜ LeavesNothing r ⌝ }
         ensures { λ r. ⌜ SetsAside r ⌝ }
         ensures { λ r. ⌜ ReportsPass r ⌝ }
+        ensures { λ r. ⌜ StoreHolds r ⌝ }
     {
         let none = ClientFile::none();
         let sides = Sides {
@@ -60,6 +67,8 @@ impl Service {
         let server = Server {
             table,
             blocks: [0; MAX_PLACES],
+            used: [false; MAX_PLACES],
+            free: MAX_PLACES,
         };
         Service {
             sizes,

@@ -10,20 +10,22 @@ ghost use Rattle.blocks.specs.Stores.{lent};
 ghost use Rattle.words.specs.Rows.{tableWords};
 ghost use Rattle.words.specs.Said.{saidRoom};
 ghost use Rattle.service.specs.Lent.{lentFlags, Stepped};
-ghost use Rattle.service.specs.Served.{modeAsked, Serves};
+ghost use Rattle.service.specs.Served.{modeAsked, Serves, MovesAll};
 use crate::embargo::embargo_client;
 use crate::embargo::lift_embargo;
 use crate::embargo::restart_client;
 use crate::flags::FLAGS;
 use crate::recovering::reply_numbered;
 use crate::recovering::step_table;
+use crate::space::counted_in;
+use crate::space::recount;
+use crate::spending::answer_file;
+use crate::spending::flush_file;
+use crate::spending::open_file;
+use crate::spending::write_file;
 use access::read_block;
-use access::write_block;
 use file::Response;
-use file::answer;
 use file::close;
-use file::flush;
-use file::open;
 use protocol::NO_STEP;
 use protocol::Reply;
 use records::Mode;
@@ -121,7 +123,54 @@ fn take_other(
         (lent blocks (now (copies .exit)) (now (held .exit)) (now (dirty .exit)))
         (now (words .exit)) r) ⌝ }
 {
+    if 13 < kind {
+        return say(Reply::Refused(NO_STEP), [0; MAX_CLIENTS], words);
+    }
     let sizes = given.in_force();
+    let before = counted_in(sizes, flags, dirty);
+    let said = step_all(
+        sizes,
+        kind,
+        client,
+        file,
+        table,
+        flags,
+        copies,
+        held,
+        dirty,
+        words,
+    );
+    let after = counted_in(sizes, flags, dirty);
+    recount(sizes.store, table, before, after);
+    said
+}
+
+// A restart, an embargo or its end, by its kind, but for the store.
+fn step_all(
+    sizes: Sizes,
+    kind: u64,
+    client: usize,
+    file: usize,
+    table: &mut [u64; WORDS],
+    flags: &mut [bool; FLAGS],
+    copies: &mut [u64; MAX_CELLS],
+    held: &mut [bool; MAX_CELLS],
+    dirty: &mut [bool; MAX_CELLS],
+    words: &mut [u64; SAID],
+) -> u64
+    requires { ⌜ Permitted sizes ⌝ }
+    requires { ⌜ 10 < kind ⌝ }
+    requires { ⌜ kind < 14 ⌝ }
+    requires { ⌜ length (now table) ≡ tableWords ⌝ }
+    requires { ⌜ length (now flags) ≡ lentFlags ⌝ }
+    requires { ⌜ length (now words) ≡ saidRoom ⌝ }
+    ensures { λ r. ⌜ ((blocks : List ℕ) (b v : ℕ) → MovesAll sizes (stepAsked kind client file b v)
+        (now (table .entry)) (now (flags .entry))
+        (lent blocks (now (copies .entry)) (now (held .entry)) (now (dirty .entry)))
+        (now (words .entry)) (now (table .exit)) (now (flags .exit))
+        (lent blocks (now (copies .exit)) (now (held .exit)) (now (dirty .exit)))
+        (now (words .exit)) r) ⌝ }
+{
     match kind {
         11 => restart_client(sizes, client, table, flags, copies, held, dirty, words),
         12 => embargo_client(
@@ -135,8 +184,7 @@ fn take_other(
             dirty,
             words,
         ),
-        13 => lift_embargo(sizes, client, table, flags, copies, held, dirty, words),
-        _ => say(Reply::Refused(NO_STEP), [0; MAX_CLIENTS], words),
+        _ => lift_embargo(sizes, client, table, flags, copies, held, dirty, words),
     }
 }
 
@@ -170,18 +218,7 @@ fn respond(
     let embargoed = flags[9 + client % MAX_CLIENTS];
     let mode = mode_asked(kind);
     match kind {
-        0 | 1 => open(
-            sizes,
-            embargoed,
-            recovering,
-            mode,
-            client,
-            file,
-            table,
-            copies,
-            held,
-            dirty,
-        ),
+        0 | 1 => open_file(sizes, mode, client, file, table, flags, copies, held, dirty),
         2 | 3 => silent(close(
             sizes,
             embargoed,
@@ -209,49 +246,42 @@ fn respond(
                 dirty,
             ))
         }
-        5 => {
-            let own = side_of(table[file % MAX_FILES * ROW + (10 + client % MAX_CLIENTS)]);
-            silent(write_block(
-                sizes,
-                embargoed,
-                recovering,
-                flags[client % MAX_CLIENTS],
-                own,
-                client,
-                file,
-                block,
-                value,
-                blocks,
-                copies,
-                held,
-                dirty,
-            ))
-        }
-        6 => silent(flush(
+        5 => silent(write_file(
             sizes,
-            embargoed,
-            recovering,
             client,
             file,
             block,
+            value,
             table,
-            blocks,
-            copies,
-            dirty,
-        )),
-        7 => silent(answer(
-            sizes,
-            embargoed,
-            recovering,
-            client,
-            file,
-            table,
+            flags,
             blocks,
             copies,
             held,
             dirty,
         )),
-        _ => silent(reply_numbered(step_table(sizes, kind, client, table, flags))),
+        6 => silent(flush_file(
+            sizes,
+            client,
+            file,
+            block,
+            table,
+            flags,
+            blocks,
+            copies,
+            dirty,
+        )),
+        7 => silent(answer_file(
+            sizes,
+            client,
+            file,
+            table,
+            flags,
+            blocks,
+            copies,
+            held,
+            dirty,
+        )),
+        _ => silent(reply_numbered(step_table(sizes, kind, client, table, flags, dirty))),
     }
 }
 

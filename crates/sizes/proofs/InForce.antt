@@ -8,7 +8,7 @@ use lib.Dec.{leb, lit≤, lit<}
 use borrow.Author.Tests.{leb-true}
 use Rattle.sizes.proofs.Choosing.{split, and-left, and-right}
 use Rattle.sizes.specs.declared.sizes.Sizes.{Sizes}
-use Rattle.sizes.specs.Sizes.{maxClients, maxFiles, maxBlocks, isPermitted, inForce, Permitted}
+use Rattle.sizes.specs.Sizes.{maxClients, maxFiles, maxBlocks, maxPlaces, isPermitted, atMost, inForce, Permitted}
 
 -- a size that is permitted, or else the default
 inside :
@@ -25,6 +25,11 @@ inside most size otherwise some fits =
     subst⁻¹ Inside e (low, high))
     (λ e. subst⁻¹ Inside e (some, fits))
 
+pub at-most : (most n : ℕ) → atMost most n ≤ most
+at-most most n =
+    let Low : Bool → Type 0 = λ b. cond b n most ≤ most in
+    split (leb n most) (λ e. subst⁻¹ Low e (leb-true n most e)) (λ e. subst⁻¹ Low e (omega arith))
+
 pub in-force-permitted : (z : Sizes) → Permitted (inForce z)
 in-force-permitted z =
     let clients = inside 8 (z .clients) 8 (lit< tt) (lit≤ tt) in
@@ -34,6 +39,7 @@ in-force-permitted z =
       clients = clients .1;
       files = files .1;
       blocks = blocks .1;
+      store = at-most maxPlaces (z .store);
       someClient = clients .0;
       someFile = files .0;
       someBlock = blocks .0;

@@ -7,3 +7,4 @@ pub use sizes::MAX_CLIENTS;
 pub use sizes::MAX_FILES;
 pub use sizes::MAX_PLACES;
 pub use sizes::Sizes;
+pub use sizes::at_most;

@@ -1,8 +1,8 @@
-// The sizes of a service: how many clients, files, and blocks in each file there are. The arrays have the largest
-// sizes.
+// The sizes of a service: how many clients, files, and blocks in each file there are, and how many blocks the store has
+// places for. The arrays have the largest sizes.
 ghost use mathlib.Core.Path.{_≡_};
 ghost use mathlib.Core.Bool.{cond};
-ghost use Rattle.sizes.specs.Sizes.{defaultSizes, isPermitted, arePermitted, inForce, Permitted};
+ghost use Rattle.sizes.specs.Sizes.{defaultSizes, isPermitted, arePermitted, atMost, inForce, Permitted};
 
 // The largest sizes.
 pub const MAX_CLIENTS: usize = 8;
@@ -21,10 +21,12 @@ pub struct Sizes {
     pub clients: usize,
     pub files: usize,
     pub blocks: usize,
+    // How many blocks the store has places for.
+    pub store: usize,
 }
 
 impl Sizes {
-    // 8 clients, 32 files and 4 blocks, where nothing else is chosen.
+    // 8 clients, 32 files, 4 blocks and a store of 512, where nothing else is chosen.
     pub fn default() -> Self
         ensures { λ r. ⌜ r ≡ defaultSizes ⌝ }
     {
@@ -32,6 +34,7 @@ impl Sizes {
             clients: 8,
             files: 32,
             blocks: 4,
+            store: MAX_PLACES,
         }
     }
 
@@ -41,7 +44,8 @@ impl Sizes {
     {
         let clients = is_permitted(self.clients, MAX_CLIENTS);
         let files = is_permitted(self.files, MAX_FILES);
-        clients & (files & is_permitted(self.blocks, MAX_BLOCKS))
+        let blocks = is_permitted(self.blocks, MAX_BLOCKS);
+        clients & (files & (blocks & (self.store <= MAX_PLACES)))
     }
 
     // The sizes that the service goes by.
@@ -54,6 +58,7 @@ impl Sizes {
             clients: permitted_or(self.clients, MAX_CLIENTS, default.clients),
             files: permitted_or(self.files, MAX_FILES, default.files),
             blocks: permitted_or(self.blocks, MAX_BLOCKS, default.blocks),
+            store: at_most(self.store, MAX_PLACES),
         }
     }
 }
@@ -72,4 +77,11 @@ fn permitted_or(size: usize, most: usize, otherwise: usize) -> usize
     } else {
         otherwise
     }
+}
+
+// A number, or the most that it may be.
+pub fn at_most(number: usize, most: usize) -> usize
+    ensures { λ r. ⌜ r ≡ atMost most number ⌝ }
+{
+    if number <= most { number } else { most }
 }

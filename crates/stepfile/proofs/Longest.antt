@@ -1,5 +1,5 @@
--- More than 86 bytes are no step: a word of two letters and four numbers of twenty digits, each after a space; and no
--- settings line. Assumes nothing.
+-- More than 86 bytes are no step: a word of two letters and four numbers of twenty digits, each after a space. More than
+-- 87 are no settings line, whose word has three letters. Assumes nothing.
 use Prim.Native.Nat.{ℕ, _+_, _*_, _≤_, _<_}
 use mathlib.Core.Path.{_≡_, refl, _∙_, ap}
 use mathlib.Core.List.{List, [], _∷_}
@@ -16,7 +16,7 @@ use Rattle.stepfile.specs.declared.parsed.Parsed.the-variants.{Is, NoSte
 use Rattle.stepfile.specs.Text.{decimal, valuesText}
 use Rattle.stepfile.specs.declared.setting.Setting.the-variants.{Missing}
 use Rattle.stepfile.specs.Grammar.{Reading, found, nothing, onward, argument, parseLine}
-use Rattle.stepfile.specs.Setting.{beginsWithSet, sizesAt, settled, settingOf}
+use Rattle.stepfile.specs.Setting.{beginsWithSet, storeAt, sizesAt, settled, settingOf}
 use Rattle.stepfile.specs.StepText.{wordOf, numbersOf, stepText, EachFits}
 use Rattle.stepfile.proofs.Decimals.{decimal-most}
 use Rattle.stepfile.proofs.AsWritten.{never, argument-as-written, line-as-step}
@@ -70,7 +70,7 @@ too-long l long = from (parseLine l) refl
         absurd (omega (arith, ap length (w .text), length-append (stepText s) [], step-most s (w .fits)))
     from NoStep e = e
 
--- ---- nor a settings line: a word of three letters and three numbers
+-- ---- no settings line: a word of three letters and three or four numbers
 
 argument-most : (l : List ℕ) (n : ℕ) (rest : List ℕ) → argument l ≡ found n rest → length l ≤ 21 + length rest
 argument-most l n rest e =
@@ -86,20 +86,27 @@ abbrev restOf : {A : Type 0} → Reading A → List ℕ
 restOf (found a m) = m
 restOf nothing = []
 
-sizes-most : (l : List ℕ) (z : Sizes) (rest : List ℕ) → sizesAt l ≡ found z rest → length l ≤ 63 + length rest
+-- the last number, which may be missing
+store-most : (l : List ℕ) (n : ℕ) (rest : List ℕ) → storeAt l ≡ found n rest → length l ≤ 21 + length rest
+store-most [] n rest e = omega arith
+store-most (b ∷ l) n rest e = argument-most (b ∷ l) n rest e
+
+sizes-most : (l : List ℕ) (z : Sizes) (rest : List ℕ) → sizesAt l ≡ found z rest → length l ≤ 84 + length rest
 sizes-most l z rest e =
     let (n, second, e₁, k₁) = onward-found (argument l) _ z rest e in
     let (f, third, e₂, k₂) = onward-found (argument second) _ z rest k₁ in
-    let (b, last, e₃, k₃) = onward-found (argument third) _ z rest k₂ in
+    let (b, fourth, e₃, k₃) = onward-found (argument third) _ z rest k₂ in
+    let (m, last, e₄, k₄) = onward-found (storeAt fourth) _ z rest k₃ in
     omega (
       arith,
       argument-most l n second e₁,
       argument-most second f third e₂,
-      argument-most third b last e₃,
-      ap (λ (r : Reading Sizes). length (restOf r)) k₃,
+      argument-most third b fourth e₃,
+      store-most fourth m last e₄,
+      ap (λ (r : Reading Sizes). length (restOf r)) k₄,
     )
 
-pub no-setting : (l : List ℕ) → 86 < length l → settingOf l ≡ Missing
+pub no-setting : (l : List ℕ) → 87 < length l → settingOf l ≡ Missing
 unfolding settingOf
 no-setting l long = split (beginsWithSet l) (λ e. when _ _ e ∙ from (sizesAt (drop 3 l)) refl) (λ e. unless _ _ e)
   where
@@ -107,3 +114,7 @@ no-setting l long = split (beginsWithSet l) (λ e. when _ _ e ∙ from (sizesAt 
     from (found z []) e = absurd (omega (arith, sizes-most (drop 3 l) z [] e, length-drop 3 l))
     from (found z (b ∷ m)) e = refl
     from nothing e = refl
+
+-- a line that is longer than both
+pub no-step : (l : List ℕ) → 87 < length l → parseLine l ≡ NoStep
+no-step l long = too-long l (omega arith)

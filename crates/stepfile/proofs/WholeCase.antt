@@ -1,5 +1,5 @@
--- The whole case of document 01, an open with three calls, and an embargo, byte for byte, from the definitions by
--- evaluation. Assumes nothing.
+-- The whole case of document 01, an open with three calls, settings, an embargo, and a store of one place, byte for byte,
+-- from the definitions by evaluation. Assumes nothing.
 use mathlib.Core.Path.{_≡_, refl}
 use mathlib.Core.Bool.{false}
 use Rattle.decision.specs.Lists.{count, stored, firstBelow}
@@ -11,7 +11,8 @@ use Rattle.file.specs.FileStep.{fileStep, afterForgetting, afterDropping}
 use Rattle.table.specs.TableStep.{tableStep}
 use Rattle.protocol.specs.Reply.{grantsValues}
 use Rattle.service.specs.Embargo.{forgottenBelow, grantsBelow, droppedBelow, allStep}
-use Rattle.service.specs.Step.{stepOf}
+use Rattle.service.specs.Space.{anyBelow, sumBelow, spaced}
+use Rattle.service.specs.Step.{moved, stepOf}
 use Rattle.service.specs.Fresh.{fresh}
 use Rattle.stepfile.specs.Text.{bytes, decimal, digitsOf, valuesText}
 use Rattle.stepfile.specs.Grammar.{digitsOn, numeral, argument, shapeOf, shaped, step, parseLine}
@@ -40,15 +41,20 @@ pub record WholeCase : Type 0 where
       ≡ bytes "1 N 19\n2 G 1 0 1\n3 N 2\nfiles 1\n31 2 1 -\n"
   -- a session that goes on from a service keeps its sizes: no line of it sets others
   pub resumed :
-      playedFrom false (fresh (record { clients = 3; files = 3; blocks = 3 })) (bytes "SET 8 32 4\nOR 3 0\nOR 2 2\n")
+      playedFrom false (fresh (record { clients = 3; files = 3; blocks = 3; store = 512 })) (bytes "SET 8 32 4\nOR 3 0\nOR 2 2\n")
       ≡ bytes "1 N 1\n2 N 2\n3 G 1 0 1\nfiles 1\n2 2 1 -\n"
   -- "EM .. prints A 0, then grants as BT does"; the station then needs the server in vain until it is told (Wish 9)
   pub embargo :
       played (bytes "OW 0 0\nOW 0 1\nOR 2 1\nOR 1 0\nEM 0 0\nOR 0 0\nLF 0\nLF 0\n")
       ≡ bytes "1 G 2 1 1\n2 G 2 1 1\n3 W 0:3\n4 W 0:3\n5 A 0 1 2 1 1 2 2 1 1\n6 N 20\n7 K\n8 N 21\nfiles 2\n0 2 2 -\n1 2 2 -\n"
+  -- "23 when such a write finds nothing free, and only then, last of all"; a reserved block that is lost frees its place
+  -- (Wish 13)
+  pub store :
+      played (bytes "SET 2 1 2 1\nOW 0 0\nWR 0 0 0 5\nWR 0 0 1 6\nBT 0\nOW 1 0\nWR 1 0 1 1\n")
+      ≡ bytes "1 K\n2 G 2 1 1\n3 K\n4 N 23\n5 K\n6 G 3 2 1\n7 K\nfiles 1\n0 5 3 -\n"
 
 pub wholeCase : WholeCase
-unfolding fresh stepOf fileStep blockStep tableStep firstBelow allStep afterForgetting afterDropping forgottenBelow grantsBelow droppedBelow grantsValues stateOf orderedCalls permissionAtGrant count stored digitsOf decimal digitsOn numeral argument shapeOf shaped step parseLine settingOf valuesText callsText lineText filesText summaryText lines transcript after replyLine serviceAfter played
+unfolding fresh stepOf moved spaced anyBelow sumBelow fileStep blockStep tableStep firstBelow allStep afterForgetting afterDropping forgottenBelow grantsBelow droppedBelow grantsValues stateOf orderedCalls permissionAtGrant count stored digitsOf decimal digitsOn numeral argument shapeOf shaped step parseLine settingOf valuesText callsText lineText filesText summaryText lines transcript after replyLine serviceAfter played
 wholeCase =
     record {
       empty = refl;
@@ -58,4 +64,5 @@ wholeCase =
       outOfRange = refl;
       resumed = refl;
       embargo = refl;
+      store = refl;
     }

@@ -52,7 +52,7 @@ module _ {S : Type 0} (t : Telling S) (σ : Standing S) where
 -- What stands between two turns: a session that is to read has the start of one line, for which there is room; one
 -- whose input is over has whole lines, and nothing once they are told.
 pub record Sound {S : Type 0} (σ : Standing S) (kept : List ℕ) : Type 0 where
-  pub reading : wantsInput σ ≡ true → NoLF kept × (σ .rest ≤ 87)
+  pub reading : wantsInput σ ≡ true → NoLF kept × (σ .rest ≤ 88)
   pub whole : σ .over ≡ true → Terminated kept
   pub empty : isLastTurn σ ≡ true → kept ≡ []
 
@@ -198,7 +198,7 @@ module _ {S : Type 0} (t : Telling S) (blind : Blind (t .say) (t .next)) (σ : S
           from [] long = refl
           from (x ∷ l) long = absurd (omega arith)
 
-      one-line : NoLF kept × (σ .rest ≤ 87)
+      one-line : NoLF kept × (σ .rest ≤ 88)
       one-line = sound .reading (wants (σ .paused) (σ .over) e (still-reads (σ .paused) (σ .over) other e))
 
       pub has-room : σ .rest < length (g .buffer)

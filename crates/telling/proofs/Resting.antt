@@ -41,13 +41,13 @@ no-lf-take zero d h = tt
 no-lf-take (suc n) [] h = tt
 no-lf-take (suc n) (b ∷ d) h = (h .0, no-lf-take n d (h .1))
 
--- a rest of 87 bytes or more that has no LF may be cut to 87
-module _ {S : Type 0} (t : Telling S) (blind : Blind (t .say) (t .next)) (b : List ℕ) (none : NoLF b) (long : 87 ≤ length b) (s : S) (more : List ℕ) where
-  cut-long : 86 < length (take 87 b)
-  cut-long = rw (length-take-le 87 b long) (omega arith)
+-- a rest of 88 bytes or more that has no LF may be cut to 88
+module _ {S : Type 0} (t : Telling S) (blind : Blind (t .say) (t .next)) (b : List ℕ) (none : NoLF b) (long : 88 ≤ length b) (s : S) (more : List ℕ) where
+  cut-long : 87 < length (take 88 b)
+  cut-long = rw (length-take-le 88 b long) (omega arith)
 
-  pub transcript-cut : (n : ℕ) → saidOver t s n (b ++ more) ≡ saidOver t s n (take 87 b ++ more)
-  transcript-cut n = transcript-of-long (t .say) (t .next) blind b (take 87 b) none (no-lf-take 87 b none) long cut-long more s n
+  pub transcript-cut : (n : ℕ) → saidOver t s n (b ++ more) ≡ saidOver t s n (take 88 b ++ more)
+  transcript-cut n = transcript-of-long (t .say) (t .next) blind b (take 88 b) none (no-lf-take 88 b none) long cut-long more s n
 
-  pub after-cut : (n : ℕ) → stateAfter t s n (b ++ more) ≡ stateAfter t s n (take 87 b ++ more)
-  after-cut n = after-long (t .say) (t .next) blind b (take 87 b) none (no-lf-take 87 b none) long cut-long more s n
+  pub after-cut : (n : ℕ) → stateAfter t s n (b ++ more) ≡ stateAfter t s n (take 88 b ++ more)
+  after-cut n = after-long (t .say) (t .next) blind b (take 88 b) none (no-lf-take 88 b none) long cut-long more s n

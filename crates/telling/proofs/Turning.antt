@@ -87,18 +87,18 @@ module _ {S : Type 0} (t : Telling S) (s : S) (n : ℕ) (buffer : List ℕ) (fil
   pub written-text : take (u .written) (outTold t s n bytes out) ≡ saidOver t s n a
   written-text = take-at (saidOver t s n a) (drop (0 + length (saidOver t s n a)) out) (p .written) (sym (stops .at .size))
 
-  -- all that is left is kept, or 87 bytes of one line
+  -- all that is left is kept, or 88 bytes of one line
   by-rest :
       (P : Type 0)
       → (u .rest ≡ length bytes - p .used → P)
-      → (can ≡ true → 87 ≤ length bytes - p .used → u .rest ≡ 87 → P)
+      → (can ≡ true → 88 ≤ length bytes - p .used → u .rest ≡ 88 → P)
       → P
   by-rest P all cut =
       split can
       (λ c.
-      split (ltb (length bytes - p .used) 87)
+      split (ltb (length bytes - p .used) 88)
       (λ u. all (when _ _ c ∙ when _ _ u))
-      (λ u. cut c (ltb-false (length bytes - p .used) 87 u) (when _ _ c ∙ unless _ _ u)))
+      (λ u. cut c (ltb-false (length bytes - p .used) 88 u) (when _ _ c ∙ unless _ _ u)))
       (λ c. all (unless _ _ c))
 
   pub rest-most : u .rest ≤ length bytes - p .used
@@ -129,7 +129,7 @@ module _ {S : Type 0} (t : Telling S) (s : S) (n : ℕ) (buffer : List ℕ) (fil
   all-kept : u .rest ≡ length bytes - p .used → kept ≡ b
   all-kept e = kept-stands ∙ take-all (u .rest) b (omega (arith, b-long))
 
-  cut-kept : u .rest ≡ 87 → kept ≡ take 87 b
+  cut-kept : u .rest ≡ 88 → kept ≡ take 88 b
   cut-kept e = kept-stands ∙ ap (λ (k : ℕ). take k b) e
 
   -- a turn that is not paused leaves the start of one line, and room for its LF
@@ -143,10 +143,10 @@ module _ {S : Type 0} (t : Telling S) (s : S) (n : ℕ) (buffer : List ℕ) (fil
   pub kept-no-lf : u .paused ≡ false → NoLF kept
   kept-no-lf going = rw kept-stands (no-lf-take (u .rest) b (left-no-lf going))
 
-  pub kept-short : u .paused ≡ false → u .rest ≤ 87
+  pub kept-short : u .paused ≡ false → u .rest ≤ 88
   kept-short going =
       let c = not-paused can going in
-      omega (arith, when (least (length bytes - p .used) 87) (length bytes - p .used) c, least-right (length bytes - p .used) 87)
+      omega (arith, when (least (length bytes - p .used) 88) (length bytes - p .used) c, least-right (length bytes - p .used) 88)
 
   -- a turn that is paused keeps all that is left
   is-paused : (x : Bool) → not x ≡ true → x ≡ false

@@ -25,13 +25,13 @@ module _ {S : Type 0} (t : Telling S) where
   wroteOn σ g = take (movedOn σ g .written) (outMoved t σ (length (g .piece)) (g .buffer) (g .out))
 
   -- The program takes a turn of a session that is not done: the piece that it read stands after the rest, and it read
-  -- none where none is wanted. The buffers have room for a line of 87 bytes and its LF, and for the end.
+  -- none where none is wanted. The buffers have room for a line of 88 bytes and its LF, and for the end.
   pub record TakesTurn (σ : Standing S) (buffer : List ℕ) (g : Leg) : Type 0 where
     pub going : σ .done ≡ false
     pub reading : wantsInput σ ≡ false → g .piece ≡ []
     pub found : take (σ .rest + length (g .piece)) (g .buffer) ≡ take (σ .rest) buffer ++ g .piece
     pub fits : σ .rest + length (g .piece) ≤ length (g .buffer)
-    pub room : 87 < length (g .buffer)
+    pub room : 88 < length (g .buffer)
     pub space : t .closeRoom ≤ length (g .out)
 
   -- each turn begins with what the one before left

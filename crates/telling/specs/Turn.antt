@@ -11,10 +11,10 @@ use Rattle.telling.specs.Lines.{Telling, canTell, reach, outTold}
 abbrev pub least : ℕ → ℕ → ℕ
 least a b = cond (ltb a b) a b
 
--- How many of the bytes that are left are kept for the next turn: all of them; of a line that has no LF yet 87 at most,
--- since a line of that length is no step, whatever follows.
+-- How many of the bytes that are left are kept for the next turn: all of them; of a line that has no LF yet 88 at most,
+-- since a line of that length is no step and sets nothing, whatever follows.
 abbrev pub keptOf : Bool → ℕ → ℕ
-keptOf isOneLine left = cond isOneLine (least left 87) left
+keptOf isOneLine left = cond isOneLine (least left 88) left
 
 -- what a turn leaves: the state, the number of the next line, the bytes that are kept and those that were written, and
 -- whether whole lines may be left

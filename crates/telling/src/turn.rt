@@ -13,8 +13,8 @@ pub fn least(a: usize, b: usize) -> usize
     if a < b { a } else { b }
 }
 
-// A line of this length or more is no step, so that no more of it need be kept.
-const NO_STEP: usize = 87;
+// A line of this length or more is no step and sets nothing, so that no more of it need be kept.
+const NO_STEP: usize = 88;
 
 // How many bytes of a rest are kept: all of them, unless it is known to be the start of one line.
 pub fn kept_of(is_one_line: bool, left: usize) -> usize

@@ -5,7 +5,7 @@ use Prim.Native.Nat.{ℕ, zero, suc, _+_, _%_, _≤_, _<_}
 use native.Mathlib.Nat.{mod-eq-of-lt, min-le-left}
 use native.Mathlib.Omega.{arith}
 use mathlib.Core.Path.{_≡_, refl, sym, ap, ap₂, subst⁻¹, _∙_}
-use mathlib.Core.Bool.{Bool, true, false, cond, not, _&&_}
+use mathlib.Core.Bool.{Bool, true, false, cond, not, _&&_, _||_}
 use mathlib.Core.List.{List, [], _∷_, _++_}
 use lib.Dec.{eqb}
 use lib.ListN.{length, getD, replicate, length-append, length-take, length-replicate}
@@ -27,6 +27,7 @@ use Rattle.protocol.specs.declared.step.Step.the-variants.{Open, Close, Read, W
 use Rattle.protocol.specs.declared.step.Step.the-variants.{Restart, Embargo, Lift}
 use Rattle.protocol.specs.Client.{noClient, sideOf}
 use Rattle.protocol.specs.Entry.{callTo, callsFor, callsOut, answeredEntry}
+use Rattle.protocol.specs.Client.{writeNeedsServer}
 use Rattle.protocol.specs.Needs.{needsServer}
 use Rattle.protocol.specs.Reply.{isRefused, brought, noGranting, noGrants, placed}
 use Rattle.protocol.specs.Step.{byMode, five, numbersOf, kinds, clientOf, fileOf, blockOf}
@@ -54,15 +55,19 @@ use Rattle.trace.specs.Records.{recordsOf, servesItself, itselfBy, trace
 
 -- ---- what a station does itself
 
+or-none : (a : Bool) → (a || false) ≡ a
+or-none true = refl
+or-none false = refl
+
 -- by the number of the kind, as by the step
 pub itself-so :
-    (x : Step) (own : ClientFile) (held : Bool) → itselfBy (numbersOf x .kind) own held ≡ not (needsServer x own held)
+    (x : Step) (own : ClientFile) (held : Bool) → itselfBy (numbersOf x .kind) own held ≡ not (needsServer x own held false)
 itself-so (Open ForRead i f) own held = refl
 itself-so (Open ForWrite i f) own held = refl
 itself-so (Close ForRead i f) own held = refl
 itself-so (Close ForWrite i f) own held = refl
 itself-so (Read i f b) own held = refl
-itself-so (Write i f b v) own held = refl
+itself-so (Write i f b v) own held = ap not (sym (or-none (writeNeedsServer own)))
 itself-so (Flush i f b) own held = refl
 itself-so (Answer i f) own held = refl
 itself-so Crash own held = refl
@@ -179,7 +184,8 @@ module _ (s : Service) where
       refl
   found-itself (Write i f b v) a =
       let (client, (file, _)) = when-accepted s (Write i f b v) refl a .0 in
-      rw (same-client i (leb-false _ i client), same-file f (leb-false _ f file)) refl
+      rw (same-client i (leb-false _ i client), same-file f (leb-false _ f file))
+      (ap not (sym (or-none (writeNeedsServer (clientAt s i f)))))
   found-itself (Flush i f b) a = refl
   found-itself (Answer i f) a = refl
   found-itself Crash a = refl

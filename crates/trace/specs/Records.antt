@@ -88,10 +88,11 @@ unfoldable pub recordsOf : ℕ → Numbers → Bool → Reply → List ℕ → L
 recordsOf stations x itself reply calls grants =
     cond (namesStation stations x) (stationRecords x itself reply calls grants) []
 
--- whether the station needs no server for the step: a read from its copy, or a delayed write
+-- whether the station needs no server for the step itself: a read from its copy, or a delayed write; one that takes a
+-- place asks for it, and sends no block
 abbrev pub servesItself : Service → Step → Bool
 servesItself s x =
-    not (needsServer x (clientAt s (clientOf x) (fileOf x)) (heldAt s (clientOf x) (fileOf x) (blockOf x)))
+    not (needsServer x (clientAt s (clientOf x) (fileOf x)) (heldAt s (clientOf x) (fileOf x) (blockOf x)) false)
 
 -- the same, by the number of the step's kind, the client's side of the file and whether it holds the block
 abbrev pub itselfBy : ℕ → ClientFile → Bool → Bool

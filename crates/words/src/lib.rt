@@ -5,6 +5,7 @@ mod saying;
 mod words;
 
 pub use rows::ROW;
+pub use rows::ROWS;
 pub use rows::WORDS;
 pub use rows::entry_at;
 pub use rows::put_file;

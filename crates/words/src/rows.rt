@@ -21,10 +21,12 @@ use protocol::Sides;
 use sizes::MAX_CLIENTS;
 use sizes::MAX_FILES;
 
-// How many words a row has, and the table.
+// How many words a row has, where the rows end, and how many words the table has: one stands after the rows.
 pub const ROW: usize = 24;
 
-pub const WORDS: usize = MAX_FILES * ROW;
+pub const ROWS: usize = MAX_FILES * ROW;
+
+pub const WORDS: usize = ROWS + 1;
 
 pub fn entry_at(table: &[u64; WORDS], f: usize) -> Entry
     requires { ⌜ f < maxFiles ⌝ }

@@ -1,5 +1,6 @@
 //! Who can cause a refusal: for each step the tests that document 01 lists for it, in the order of their numbers; 20
-//! comes after 4, and 21 after 20 (document 02, Wish 9); 22 comes after 7 (Wish 10).
+//! comes after 4, and 21 after 20 (document 02, Wish 9); 22 comes after 7 (Wish 10);
+//! 23 comes last (Wish 13).
 
 use crate::{ClientFile, Entry, Kind, Mode, Refusal, Service, Step};
 
@@ -14,9 +15,9 @@ fn read_needs_server(file: &ClientFile, block: u64) -> bool {
     !(file.record.is_open() && file.record.may_cache && file.copies.held[block as usize])
 }
 
-/// "A write unless it has writers and may cache."
-fn write_needs_server(file: &ClientFile) -> bool {
-    !(file.record.writers > 0 && file.record.may_cache)
+/// "A write unless it has writers and may cache"; one that takes a place does, "cached too" (Wish 13).
+fn write_needs_server(file: &ClientFile, takes_place: bool) -> bool {
+    !(file.record.writers > 0 && file.record.may_cache) || takes_place
 }
 
 impl Service {
@@ -60,13 +61,15 @@ impl Service {
         self.file_exists(file)?;
         self.block_exists(block)?;
         let copy = self.at_client(client, file);
+        let takes_place = self.takes_place(client as usize, file as usize, block as usize);
         if self.is_embargoed(client) {
-            unless(write_needs_server(copy), Refusal::UnderEmbargo)?;
+            unless(write_needs_server(copy, takes_place), Refusal::UnderEmbargo)?;
         }
         if self.server.recovering {
-            unless(self.has_reported(client) || write_needs_server(copy), Refusal::Recovering)?;
+            unless(self.has_reported(client) || write_needs_server(copy, takes_place), Refusal::Recovering)?;
         }
-        unless(copy.record.writers == 0, Refusal::NotOpen)
+        unless(copy.record.writers == 0, Refusal::NotOpen)?;
+        unless(takes_place && self.server.free_places(self.sizes()) == 0, Refusal::NoPlace)
     }
 
     pub fn may_flush(&self, client: u64, file: u64, block: u64) -> Admission {

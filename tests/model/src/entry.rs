@@ -12,6 +12,8 @@ pub struct Entry {
     pub last_writer: ClientField,
     pub waiting: WaitField,
     pub blocks: [u64; BLOCKS],
+    /// "Blocks some write has reached at the server" (document 02, Wish 13).
+    pub used: [bool; BLOCKS],
 }
 
 #[derive(Clone, Copy, PartialEq, Eq, Debug)]
@@ -30,6 +32,7 @@ impl Entry {
             last_writer: ClientField::NONE,
             waiting: WaitField::NONE,
             blocks: [0; BLOCKS],
+            used: [false; BLOCKS],
         }
     }
 
@@ -177,7 +180,7 @@ impl Entry {
         if self.count_as_answered(sizes, client) { self.open_due(sizes) } else { None }
     }
 
-    /// Versions and blocks survive; the rest does not.
+    /// Versions, blocks and which of them are used survive; the rest does not.
     pub fn crash(&mut self, sizes: Sizes) {
         self.records[..sizes.clients].fill(Record::default());
         self.last_writer = ClientField::NONE;

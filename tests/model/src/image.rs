@@ -1,15 +1,17 @@
 //! The image of the server (document 02, Wish 2), written into a lent buffer and read again. It begins with the sizes
-//! in force, one byte each (Wish 7); then come four sections, each after its count, the last of them of the clients
-//! under embargo (Wish 9).
+//! in force, one byte each (Wish 7), and the size of the store in two (Wish 13); then come four sections, each after its
+//! count, the last of them of the clients under embargo (Wish 9).
 
 use crate::{BLOCKS, CLIENTS, ClientSet, FILES, Record, Refusal, Service, Settings, Sizes};
 
+/// Bytes of the sizes: clients, files, blocks and the store.
+pub const SIZES_BYTES: usize = 5;
 /// Bytes of a count: "two bytes, low byte first".
 pub const COUNT_BYTES: usize = 2;
 /// Bytes of an entry of each section: files, opens, blocks, embargoes.
 pub const ENTRY_BYTES: [usize; 4] = [6, 5, 10, 1];
 /// With the largest sizes and every entry listed.
-pub const LONGEST_IMAGE: usize = 3
+pub const LONGEST_IMAGE: usize = SIZES_BYTES
     + ENTRY_BYTES.len() * COUNT_BYTES
     + FILES * ENTRY_BYTES[0]
     + FILES * CLIENTS * ENTRY_BYTES[1]
@@ -35,24 +37,28 @@ impl Service {
         Ok(image.len())
     }
 
-    /// "Reading tests 17 only." Takes versions, blocks and embargoes and is otherwise a crash.
+    /// "Reading tests 17 only." Takes versions, blocks, used ones and embargoes and is otherwise a crash.
     pub fn read_image(&mut self, bytes: &[u8]) -> Result<(), Refusal> {
         let sizes = self.sizes();
         let contents = Contents::read(sizes, bytes).ok_or(Refusal::NoImage)?;
-        self.server.crash(sizes);
         self.server.set_embargoes(sizes, contents.embargoed);
         for (file, entry) in self.server.entries[..sizes.files].iter_mut().enumerate() {
             entry.version.0 = contents.versions[file];
-            entry.blocks[..sizes.blocks].copy_from_slice(&contents.blocks[file][..sizes.blocks]);
+            for block in 0..sizes.blocks {
+                let value = contents.used[file][block];
+                (entry.blocks[block], entry.used[block]) = (value.unwrap_or(0), value.is_some());
+            }
         }
+        self.server.crash(sizes);
         Ok(())
     }
 
     /// The service on the standby machine: of the image's sizes, its clients fresh, the image just read.
     pub fn resumed(image: &[u8]) -> Result<Self, Refusal> {
-        let Some(&[clients, files, blocks]) = image.first_chunk() else { return Err(Refusal::NoImage) };
-        let settings = Settings { clients: clients.into(), files: files.into(), blocks: blocks.into() };
-        let mut service = Service::fresh_of(settings);
+        let Some(&[clients, files, blocks, low, high]) = image.first_chunk() else { return Err(Refusal::NoImage) };
+        let [clients, files, blocks] = [clients, files, blocks].map(u64::from);
+        let store = u16::from_le_bytes([low, high]).into();
+        let mut service = Service::fresh_of(Settings { clients, files, blocks, store });
         service.read_image(image)?;
         Ok(service)
     }
@@ -60,6 +66,7 @@ impl Service {
     fn image(&self) -> Vec<u8> {
         let sizes = self.sizes();
         let mut image = [sizes.clients, sizes.files, sizes.blocks].map(|size| size as u8).to_vec();
+        image.extend((sizes.store as u16).to_le_bytes());
         let sections = [
             self.listed_files(sizes),
             self.listed_opens(sizes),
@@ -101,12 +108,13 @@ impl Service {
         listed
     }
 
-    /// "Non-zero blocks: file, block, value in eight bytes low first."
+    /// "Non-zero blocks: file, block, value in eight bytes low first"; "the image lists used blocks in place of non-zero
+    /// ones" (document 02, Wish 13).
     fn listed_blocks(&self, sizes: Sizes) -> Vec<Vec<u8>> {
         let mut listed = Vec::new();
         for (file, entry) in self.server.entries[..sizes.files].iter().enumerate() {
             for (block, value) in entry.blocks[..sizes.blocks].iter().enumerate() {
-                if *value != 0 {
+                if entry.used[block] {
                     listed.push([&[file as u8, block as u8][..], &value.to_le_bytes()].concat());
                 }
             }
@@ -123,18 +131,20 @@ impl Service {
 /// What a reading takes from an image.
 struct Contents {
     versions: [u32; FILES],
-    blocks: [[u64; BLOCKS]; FILES],
+    /// The value of each used block.
+    used: [[Option<u64>; BLOCKS]; FILES],
     embargoed: ClientSet,
 }
 
 impl Contents {
     /// None if no service of these sizes is written as these bytes.
     fn read(sizes: Sizes, bytes: &[u8]) -> Option<Self> {
-        let mut contents = Contents { versions: [1; FILES], blocks: [[0; BLOCKS]; FILES], embargoed: ClientSet::NONE };
+        let mut contents = Contents { versions: [1; FILES], used: [[None; BLOCKS]; FILES], embargoed: ClientSet::NONE };
         let mut rest = Rest(bytes);
         for size in [sizes.clients, sizes.files, sizes.blocks] {
             holds(usize::from(rest.byte()?) == size)?;
         }
+        holds(rest.number::<2>()? == sizes.store as u64)?;
         contents.read_files(sizes, &mut rest)?;
         read_opens(sizes, &mut rest)?;
         contents.read_blocks(sizes, &mut rest)?;
@@ -163,9 +173,7 @@ impl Contents {
         for _ in 0..rest.count()? {
             let (file, block) = (rest.below(sizes.files)?, rest.below(sizes.blocks)?);
             ascent.goes_on((file, block))?;
-            let value = rest.number::<8>()?;
-            holds(value != 0)?;
-            self.blocks[file][block] = value;
+            self.used[file][block] = Some(rest.number::<8>()?);
         }
         Some(())
     }

@@ -20,6 +20,7 @@ mod fields;
 mod image;
 mod input;
 mod outcome;
+mod places;
 mod player;
 mod printer;
 mod reader;
@@ -40,7 +41,7 @@ pub use client_set::ClientSet;
 pub use door::Admission;
 pub use entry::{Entry, WaitingOpen};
 pub use fields::{ClientField, VersionField, WaitField};
-pub use image::{COUNT_BYTES, ENTRY_BYTES, LONGEST_IMAGE};
+pub use image::{COUNT_BYTES, ENTRY_BYTES, LONGEST_IMAGE, SIZES_BYTES};
 pub use outcome::{Grant, GrantedOpen, Outcome, Refusal};
 pub use player::{play, play_on, replay, replay_from};
 pub use reader::{LONGEST_STEP, read_line, read_settings};
@@ -59,3 +60,5 @@ pub const CLIENTS: usize = 8;
 pub const FILES: usize = 64;
 /// The most blocks in each file.
 pub const BLOCKS: usize = 8;
+/// The largest store, in blocks: its places (document 02, Wish 13).
+pub const PLACES: usize = 512;

@@ -71,12 +71,13 @@ pub enum Refusal {
     UnderEmbargo = 20,
     NotUnderEmbargo = 21,
     ReportsClash = 22,
+    NoPlace = 23,
 }
 
 impl Refusal {
     /// Those that a step or a line of a step file can get.
-    pub const NUMBERS: [usize; 18] = [1, 2, 3, 4, 5, 6, 7, 8, 9, 10, 11, 12, 13, 14, 19, 20, 21, 22];
-    pub const LAST_NUMBER: usize = 22;
+    pub const NUMBERS: [usize; 19] = [1, 2, 3, 4, 5, 6, 7, 8, 9, 10, 11, 12, 13, 14, 19, 20, 21, 22, 23];
+    pub const LAST_NUMBER: usize = 23;
 
     pub fn number(self) -> usize {
         self as usize

@@ -59,8 +59,10 @@ pub fn read_line(bytes: &[u8]) -> (Option<Step>, usize) {
 /// The settings of the first line, if it is a line SET, and how many bytes the line has.
 pub fn read_settings(bytes: &[u8]) -> Option<(Settings, usize)> {
     let mut line = Line { bytes, rest: bytes.strip_prefix(b"SET")? };
-    let settings = Settings { clients: line.number()?, files: line.number()?, blocks: line.number()? };
-    line.end().map(|length| (settings, length))
+    let (clients, files, blocks) = (line.number()?, line.number()?, line.number()?);
+    // "A fourth setting, 512 if not given."
+    let store = if line.end().is_some() { Settings::NOT_GIVEN.store } else { line.number()? };
+    line.end().map(|length| (Settings { clients, files, blocks, store }, length))
 }
 
 #[cold]

@@ -2,7 +2,7 @@
 
 use crate::{
     Admission, BLOCKS, Callbacks, ClientFile, Entry, Grant, GrantedOpen, Kind, Mode, Outcome, Refusal, Server, Service,
-    Settings, Sizes, WaitingOpen,
+    Settings, Sizes, Step, WaitingOpen,
 };
 
 pub trait Rules {
@@ -170,6 +170,35 @@ pub trait Rules {
     fn end_embargo(server: &mut Server, client: usize) {
         server.end_embargo(client);
     }
+
+    /// Of an accepted write (document 02, Wish 13).
+    fn takes_place(service: &Service, client: usize, file: usize, block: usize) -> bool {
+        service.takes_place(client, file, block)
+    }
+    fn take_place(sizes: Sizes, server: &mut Server) {
+        server.take_place(sizes);
+    }
+    fn used_by_write(entry: &mut Entry, block: usize) {
+        entry.used[block] = true;
+    }
+    fn used_by_flush(_sizes: Sizes, server: &mut Server, file: usize, block: usize) {
+        server.entries[file].used[block] = true;
+    }
+    fn used_by_reply(entry: &mut Entry, block: usize) {
+        entry.used[block] = true;
+    }
+    fn places_held(service: &Service) -> usize {
+        service.places_held()
+    }
+    fn places_held_in(service: &Service, file: usize) -> usize {
+        service.places_held_in(file)
+    }
+    /// After an open, a reply, a report, a restart and an embargo: the places held before the step, and after it.
+    fn settle(service: &mut Service, _step: &Step, before: usize, after: usize) {
+        service.server.settle(service.sizes(), before, after);
+    }
+    /// Its places were freed at the embargo.
+    fn freed_by_lift(_service: &mut Service, _client: usize) {}
 }
 
 /// The rules as document 01 and the wishes of document 02 that have landed give them.

@@ -1,6 +1,6 @@
 //! The server: an entry for each file, and how far a recovery has come.
 
-use crate::{ClientSet, Entry, FILES, Sizes};
+use crate::{ClientSet, Entry, FILES, PLACES, Sizes};
 
 #[derive(Clone, PartialEq, Eq, Debug)]
 pub struct Server {
@@ -10,6 +10,8 @@ pub struct Server {
     pub reported: ClientSet,
     /// The clients under embargo (document 02, Wish 9). A crash leaves them.
     pub embargoed: ClientSet,
+    /// The free places of the store (document 02, Wish 13), counted up and down. More than the store has read as all.
+    pub free: usize,
 }
 
 impl Server {
@@ -19,6 +21,7 @@ impl Server {
             recovering: false,
             reported: ClientSet::NONE,
             embargoed: ClientSet::NONE,
+            free: PLACES,
         }
     }
 
@@ -26,6 +29,7 @@ impl Server {
         self.entries[..sizes.files].iter_mut().for_each(|entry| entry.crash(sizes));
         self.recovering = true;
         self.forget_reports(sizes);
+        self.free_but_used(sizes);
     }
 
     pub fn end(&mut self, sizes: Sizes) {

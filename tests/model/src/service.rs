@@ -73,10 +73,22 @@ impl Service {
         let entry = &mut self.server.entries[file];
         let callbacks = R::callbacks_due(sizes, entry, opener, mode);
         if callbacks == Callbacks::NONE {
-            return Ok(Outcome::Granted(self.grant::<R>(opener, file, mode)));
+            return Ok(Outcome::Granted(self.grant_at_once::<R>(opener, file, mode)));
         }
         R::wait(sizes, entry, WaitingOpen { opener, mode, callbacks });
         Ok(Outcome::Waits(callbacks))
+    }
+
+    /// A grant that drops dirty blocks frees their places.
+    fn grant_at_once<R: Rules>(&mut self, opener: usize, file: usize, mode: Mode) -> Grant {
+        if !self.any_dirty(opener, file) {
+            return self.grant::<R>(opener, file, mode);
+        }
+        let before = R::places_held_in(self, file);
+        let grant = self.grant::<R>(opener, file, mode);
+        let after = R::places_held_in(self, file);
+        R::settle(self, &Step::Open { mode, client: opener as u64, file: file as u64 }, before, after);
+        grant
     }
 
     fn grant<R: Rules>(&mut self, opener: usize, file: usize, mode: Mode) -> Grant {
@@ -103,10 +115,16 @@ impl Service {
         let (client, file) = (client as usize, file as usize);
         let sizes = self.sizes();
         let sent = R::blocks_sent(self, client, file, kind);
+        let (before, dirty) = (R::places_held_in(self, file), self.clients[client].files[file].copies.dirty);
         let entry = &mut self.server.entries[file];
         R::answer_at_client(sizes, &mut self.clients[client].files[file], kind, &mut entry.blocks);
         R::answer_at_server(entry, client, kind);
+        for block in (0..sizes.blocks).filter(|&block| dirty[block] && kind.writes_back()) {
+            R::used_by_reply(entry, block);
+        }
         let granted = entry.open_due(sizes).map(|open| (open.opener, self.grant::<R>(open.opener, file, open.mode)));
+        let after = R::places_held_in(self, file);
+        R::settle(self, &Step::Reply { client: client as u64, file: file as u64 }, before, after);
         Ok(Outcome::Replied { sent, granted })
     }
 
@@ -119,11 +137,17 @@ impl Service {
 
     fn write<R: Rules>(&mut self, client: u64, file: u64, block: u64, value: u64) -> Answer {
         R::may_write(self, client, file, block)?;
-        let (client, file) = (client as usize, file as usize);
-        let server = &mut self.server.entries[file].blocks;
-        R::write(&mut self.clients[client].files[file], block as usize, value, server);
+        let (client, file, block) = (client as usize, file as usize, block as usize);
+        if R::takes_place(self, client, file, block) {
+            R::take_place(self.sizes(), &mut self.server);
+        }
+        let (entry, own) = (&mut self.server.entries[file], &mut self.clients[client].files[file]);
+        R::write(own, block, value, &mut entry.blocks);
+        if !own.record.may_cache {
+            R::used_by_write(entry, block);
+        }
         if self.server.embargoed.contains(client) {
-            R::wrote_under_embargo(server, block as usize, value);
+            R::wrote_under_embargo(&mut entry.blocks, block, value);
         }
         Ok(Outcome::Done)
     }
@@ -133,6 +157,7 @@ impl Service {
         let (client, file) = (client as usize, file as usize);
         let server = &mut self.server.entries[file].blocks;
         R::flush(&mut self.clients[client].files[file], block as usize, server);
+        R::used_by_flush(self.sizes(), &mut self.server, file, block as usize);
         let dirty = R::dirty_after_flush(self, client, file);
         R::flushed_at_server(&mut self.server.entries[file], client, dirty);
         R::flushed_at_client(&mut self.clients[client].files[file], dirty);
@@ -147,11 +172,13 @@ impl Service {
     fn report<R: Rules>(&mut self, client: u64) -> Answer {
         R::may_report(self, client).inspect_err(|refusal| R::report_refused(self, client, *refusal))?;
         let client = client as usize;
-        let files = self.sizes().files;
+        let (files, before) = (self.sizes().files, R::places_held(self));
         for (entry, file) in self.server.entries[..files].iter_mut().zip(&self.clients[client].files) {
             R::report(entry, client, file);
         }
         self.server.reported = self.server.reported.with(client);
+        let after = R::places_held(self);
+        R::settle(self, &Step::Report { client: client as u64 }, before, after);
         Ok(Outcome::Done)
     }
 
@@ -165,7 +192,7 @@ impl Service {
     fn restart<R: Rules>(&mut self, client: u64) -> Answer {
         R::may_restart(self, client)?;
         let client = client as usize;
-        let sizes = self.sizes();
+        let (sizes, before) = (self.sizes(), R::places_held(self));
         let mut granted = Vec::new();
         for file in 0..sizes.files {
             let due = R::restart_at_server(sizes, &mut self.server, file, client);
@@ -177,6 +204,8 @@ impl Service {
         }
         R::restart_reports(&mut self.server, client);
         R::restart_lifts(&mut self.server, client);
+        let after = R::places_held(self);
+        R::settle(self, &Step::Restart { client: client as u64 }, before, after);
         Ok(Outcome::Restarted { granted })
     }
 
@@ -184,7 +213,7 @@ impl Service {
     fn embargo<R: Rules>(&mut self, client: u64, of: u64) -> Answer {
         R::may_embargo(self, client, of)?;
         let client = client as usize;
-        let sizes = self.sizes();
+        let (sizes, before) = (self.sizes(), R::places_held(self));
         let mut granted = Vec::new();
         for file in 0..sizes.files {
             let due = R::embargo_at_server(sizes, &mut self.server, file, client, of as usize);
@@ -195,14 +224,17 @@ impl Service {
             R::embargo_at_client(sizes, &mut self.clients[client].files[file], blocks);
         }
         R::put_under_embargo(&mut self.server, client);
+        let after = R::places_held(self);
+        R::settle(self, &Step::Embargo { client: client as u64, file: of }, before, after);
         Ok(R::embargo_answer(granted))
     }
 
-    /// The server has nothing of the client.
+    /// The server has nothing of the client, and no place is reserved for it.
     fn lift<R: Rules>(&mut self, client: u64) -> Answer {
         R::may_lift(self, client)?;
         let client = client as usize;
         let sizes = self.sizes();
+        R::freed_by_lift(self, client);
         for file in 0..sizes.files {
             let blocks = &mut self.server.entries[file].blocks;
             R::lift_at_client(sizes, &mut self.clients[client].files[file], blocks);

@@ -1,7 +1,7 @@
-//! The settings of a service (document 02, Wish 7): how many clients, files and blocks it has. "What lies past them
+//! The settings of a service (document 02, Wishes 7 and 13): how many clients, files, blocks and places it has. "What lies past them
 //! isn't there": it is neither looked at nor changed.
 
-use crate::{BLOCKS, CLIENTS, ClientSet, FILES};
+use crate::{BLOCKS, CLIENTS, ClientSet, FILES, PLACES};
 
 /// The settings as they are stored. A line SET stores numbers in range; a hand-made service may hold any.
 #[derive(Clone, Copy, PartialEq, Eq, Debug)]
@@ -10,6 +10,8 @@ pub struct Settings {
     pub files: u64,
     /// Blocks in each file.
     pub blocks: u64,
+    /// The size of the store: how many blocks have a place in it.
+    pub store: u64,
 }
 
 /// The sizes in force.
@@ -18,6 +20,7 @@ pub struct Sizes {
     pub clients: usize,
     pub files: usize,
     pub blocks: usize,
+    pub store: usize,
 }
 
 fn in_range(setting: u64, largest: usize) -> bool {
@@ -26,11 +29,14 @@ fn in_range(setting: u64, largest: usize) -> bool {
 
 impl Settings {
     /// Stored where no line SET has given others.
-    pub const NOT_GIVEN: Settings = Settings { clients: 8, files: 32, blocks: 4 };
+    pub const NOT_GIVEN: Settings = Settings { clients: 8, files: 32, blocks: 4, store: 512 };
 
-    /// "Stations 1 to 8, files 1 to 64 and blocks 1 to 8."
+    /// "Stations 1 to 8, files 1 to 64 and blocks 1 to 8", and a store "of 0 to 512 blocks".
     pub fn are_in_range(self) -> bool {
-        in_range(self.clients, CLIENTS) && in_range(self.files, FILES) && in_range(self.blocks, BLOCKS)
+        in_range(self.clients, CLIENTS)
+            && in_range(self.files, FILES)
+            && in_range(self.blocks, BLOCKS)
+            && self.store <= PLACES as u64
     }
 
     /// "Hand-made ones out of range: each as not given."
@@ -41,12 +47,13 @@ impl Settings {
             clients: size(self.clients, CLIENTS, Settings::NOT_GIVEN.clients),
             files: size(self.files, FILES, Settings::NOT_GIVEN.files),
             blocks: size(self.blocks, BLOCKS, Settings::NOT_GIVEN.blocks),
+            store: if self.store <= PLACES as u64 { self.store } else { Settings::NOT_GIVEN.store } as usize,
         }
     }
 }
 
 impl Sizes {
-    pub const LARGEST: Sizes = Sizes { clients: CLIENTS, files: FILES, blocks: BLOCKS };
+    pub const LARGEST: Sizes = Sizes { clients: CLIENTS, files: FILES, blocks: BLOCKS, store: PLACES };
 
     /// The clients in force.
     pub fn client_set(self) -> ClientSet {

@@ -34,6 +34,7 @@ fn the_last_version_is_told() {
                     2 G 4294967295 4294967294 1    station 5 has file 3 open for read at version 4294967295 and may \
                     cache; it had no copy\n\
                     the server runs\n\
+                    places: 512; used: 0; reserved: 0; reserved by stations: none; free: 512\n\
                     file 3 is ONE_READER at version 4294967295; last writer: none\n  \
                     station 5: read opens 1, write opens 0, may cache; blocks held: none; dirty: none\n\
                     refused with 14: 1\n\
@@ -52,6 +53,7 @@ fn fields_are_told_as_they_read() {
     service.server.entries[1].waiting = open.into();
     let expected = "1 N 9    station 4 waits to open file 1 for write since line 0; stations still to answer: none\n\
                     the server runs\n\
+                    places: 512; used: 0; reserved: 0; reserved by stations: none; free: 512\n\
                     file 1 is CLOSED at version 7; last writer: none\n  \
                     station 4 waits to open file 1 for write since line 0; stations still to answer: none\n\
                     refused with 9: 1\n\
@@ -61,7 +63,7 @@ fn fields_are_told_as_they_read() {
 
 /// A recovery of three clients, four files and one block, in which each client says this of these files.
 fn recovery(says: &[(usize, usize, Record, bool)]) -> Service {
-    let mut service = Service::fresh_of(Settings { clients: 3, files: 4, blocks: 1 });
+    let mut service = Service::fresh_of(Settings { clients: 3, files: 4, blocks: 1, store: 512 });
     service.server.recovering = true;
     for &(client, file, record, flag) in says {
         let own = &mut service.clients[client].files[file];
@@ -84,6 +86,7 @@ fn a_report_that_cannot_be_true_is_told() {
                     3 N 22    the report on file 2 cannot be true: station 2 has readers 1, writers 255, may cache, a mark\n\
                     4 N 8    the recovery cannot end; stations still to report: 0 1 2\n\
                     the server recovers; stations still to report: 0 1 2\n\
+                    places: 512; used: 0; reserved: 0; reserved by stations: none; free: 512\n\
                     file 1 is CLOSED at version 1; last writer: none\n  \
                     station 1: read opens 2, write opens 0, may not cache; blocks held: none; dirty: none\n\
                     file 2 is CLOSED at version 1; last writer: none\n  \

@@ -47,15 +47,15 @@ fn wrapped_player(name: &str, script: &str) -> PathBuf {
 const WHOLE_CASE: &[u8] = b"OW 0 3\nWR 0 3 0 77\nCW 0 3\nOR 1 3\nRD 1 3 0\nAN 0 3\n";
 
 /// The image of document 01's whole case up to line 6.
-const IMAGE: [u8; 32] =
-    [8, 32, 4, 1, 0, 3, 2, 0, 0, 0, 255, 1, 0, 1, 3, 1, 0, 1, 1, 0, 3, 0, 77, 0, 0, 0, 0, 0, 0, 0, 0, 0];
+const IMAGE: [u8; 34] =
+    [8, 32, 4, 0, 2, 1, 0, 3, 2, 0, 0, 0, 255, 1, 0, 1, 3, 1, 0, 1, 1, 0, 3, 0, 77, 0, 0, 0, 0, 0, 0, 0, 0, 0];
 
 /// The protocol by one string: client 0 has file 0 open, and file 31 closed and dirty, at whatever version.
 #[test]
 fn a_judge_answers_by_the_protocol() {
-    let request = |before: u8, bytes: &[u8]| [&[8, 32, 4, before, bytes.len() as u8, 0][..], bytes].concat();
+    let request = |before: u8, bytes: &[u8]| [&[8, 32, 4, 0, 2, before, bytes.len() as u8, 0][..], bytes].concat();
     let read = [
-        &[b'1', 0, 38, 0, 8, 32, 4][..],
+        &[b'1', 0, 253, 1, 40, 0, 8, 32, 4, 0, 2][..],
         &[2, 0, 3, 2, 0, 0, 0, 255, 31, 1, 0, 0, 0, 0],
         &[1, 0, 0, 0, 0, 1, 1],
         &[1, 0, 3, 0, 77, 0, 0, 0, 0, 0, 0, 0],
@@ -64,17 +64,17 @@ fn a_judge_answers_by_the_protocol() {
     .concat();
     let stays = [b"0\x02", &read[2..]].concat();
     let fresh = [
-        &[b'0', 2, 28, 0, 8, 32, 4][..],
+        &[b'0', 2, 254, 1, 30, 0, 8, 32, 4, 0, 2][..],
         &[2, 0, 0, 2, 0, 0, 0, 255, 31, 2, 0, 0, 0, 0],
         &[1, 0, 0, 0, 0, 1, 1],
         &[0, 0, 0, 0],
     ]
     .concat();
-    let waits = [b'0', 2, 0, 0, 15];
+    let waits = [b'0', 2, 254, 1, 0, 0, 15];
     for (requests, answers) in [
         (vec![], vec![]),
         (vec![request(0, &IMAGE)], vec![&read[..]]),
-        (vec![request(0, &IMAGE[..31])], vec![&fresh]),
+        (vec![request(0, &IMAGE[..33])], vec![&fresh]),
         (vec![request(0, &IMAGE), request(0, b""), request(1, &IMAGE)], vec![&read, &stays, &read]),
         (vec![request(2, b"x"), request(0, b"x"), request(0, &IMAGE)], vec![&waits, &waits, &read]),
     ] {
@@ -91,7 +91,7 @@ fn the_model_passes_as_a_judge() {
 
 #[test]
 fn a_judge_with_a_fault_is_found() {
-    for fault in ["zero_block_accepted", "waits_kept", "version_high_byte_first"] {
+    for fault in ["zero_block_refused", "free_kept_by_the_reading", "waits_kept", "version_high_byte_first"] {
         let output = run(IMAGES, &["--seeds", "0..40", "--judge", IMAGES, "judge", fault]);
         assert_eq!(output.status.code(), Some(1), "{fault}");
         let parts = ["difference: seed ", "string ", "  model: [", "  judge: ["];
@@ -140,7 +140,7 @@ fn a_refused_image_is_told() {
         assert!(String::from_utf8_lossy(&output.stderr).ends_with(&format!("refused with {refusal}\n")));
         assert!(!output.status.success() && !image.exists());
     }
-    fs::write(&image, &IMAGE[..31]).expect("the file is written");
+    fs::write(&image, &IMAGE[..33]).expect("the file is written");
     let output = run(MODEL, &["--read-image", text(&image)]);
     assert!(String::from_utf8_lossy(&output.stderr).ends_with("refused with 17\n"));
     assert!(!output.status.success() && output.stdout.is_empty());
@@ -163,7 +163,7 @@ fn joined_runs_find_a_player_that_spoils_the_image() {
         ("image_not_read", r#"[ "$1" != --read-image ] || shift 2; exec "$model" "$@""#),
         (
             "empty_image_read",
-            r#"[ "$1" != --read-image ] || { head -c 3 "$2"; printf '\0\0\0\0\0\0\0\0'; } >"$2.empty"
+            r#"[ "$1" != --read-image ] || { head -c 5 "$2"; printf '\0\0\0\0\0\0\0\0'; } >"$2.empty"
             [ "$1" != --read-image ] || { exec "$model" --read-image "$2.empty"; }; exec "$model" "$@""#,
         ),
     ] {

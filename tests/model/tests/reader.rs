@@ -28,8 +28,12 @@ fn plainly_read(line: &[u8]) -> Option<Step> {
 
 fn plainly_read_settings(line: &[u8]) -> Option<Settings> {
     let fields: Vec<&str> = str::from_utf8(line).ok()?.split(' ').collect();
-    let ["SET", clients, files, blocks] = fields[..] else { return None };
-    Some(Settings { clients: number(clients)?, files: number(files)?, blocks: number(blocks)? })
+    let (clients, files, blocks, store) = match fields[..] {
+        ["SET", clients, files, blocks] => (clients, files, blocks, "512"),
+        ["SET", clients, files, blocks, store] => (clients, files, blocks, store),
+        _ => return None,
+    };
+    Some(Settings { clients: number(clients)?, files: number(files)?, blocks: number(blocks)?, store: number(store)? })
 }
 
 fn number(field: &str) -> Option<u64> {
@@ -51,7 +55,8 @@ fn assert_read_alike(line: &[u8]) {
 fn generated_lines_are_read_alike() {
     let mut steps = 0;
     let malformed = (0..20).map(|seed| (FileKind::Malformed, seed));
-    let spoilt = [FileKind::Restart, FileKind::Embargo].map(|kind| (0..10).map(move |seed| (kind, 4 * seed + 3)));
+    let spoilt = [FileKind::Restart, FileKind::Embargo, FileKind::Space]
+        .map(|kind| (0..10).map(move |seed| (kind, 4 * seed + 3)));
     for (kind, seed) in malformed.chain(spoilt.into_iter().flatten()) {
         for line in step_file(kind, seed, 2000).split(|&byte| byte == b'\n') {
             assert_read_alike(line);
@@ -115,7 +120,11 @@ fn settings_are_read_alike() {
         "SET 1 2",
         "SET 1 2 ",
         "SET 1 2 3 ",
-        "SET 1 2 3 4",
+        "SET 1 2 3 4 5",
+        "SET 1 2 3 4 ",
+        "SET 1 2 3 04",
+        "SET 1 2 3  4",
+        "SET 1 2 3 18446744073709551616",
         " SET 1 2 3",
         "SET  1 2 3",
         "SET 1  2 3",

@@ -51,9 +51,10 @@ fn every_choice_of_sizes_is_in_force() {
 fn a_setting_out_of_range_gets_19() {
     let out =
         ["SET 0 1 1", "SET 9 1 1", "SET 1 0 1", "SET 1 65 1", "SET 1 1 0", "SET 1 1 9", "SET 0 0 0", "SET 9 65 9"];
+    let places = ["SET 1 1 1 513", "SET 1 1 1 65537", "SET 1 1 1 18446744073709551615", "SET 0 1 1 0"];
     let huge = ["SET 18446744073709551615 1 1", "SET 1 18446744073709551615 1", "SET 1 1 18446744073709551615"];
     let wrapping = ["SET 257 1 1", "SET 1 257 1", "SET 1 1 257", "SET 4294967297 1 1"];
-    for line in out.into_iter().chain(huge).chain(wrapping) {
+    for line in out.into_iter().chain(places).chain(huge).chain(wrapping) {
         check(
             &[
                 (line, "N 19"),

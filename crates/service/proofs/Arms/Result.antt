@@ -1,4 +1,5 @@
--- What is put together from what the part of a step leaves is the outcome that the definition of the step gives.
+-- What is put together from what the part of a step leaves is the outcome that the definition of the step gives, but for
+-- the store.
 -- Assumes nothing.
 use Prim.Native.Nat.{ℕ, _%_}
 use mathlib.Core.Path.{_≡_, sym, ap, ap₂, _∙_}
@@ -23,23 +24,23 @@ use Rattle.table.proofs.Steps.{recoveryIn, reporter, as-taken}
 use Rattle.service.specs.declared.service.Service.{Service}
 use Rattle.service.specs.declared.outcome.Outcome.{Outcome}
 use Rattle.service.specs.Contents.{sizesOf, tableIn, reportedAt, embargoedAt, clientAt, fileAt, storesOf, withStores}
-use Rattle.service.specs.Step.{fileOutcome, blockOutcome, tableOutcome, stepOf}
+use Rattle.service.specs.Step.{fileOutcome, blockOutcome, tableOutcome, moved}
 use Rattle.service.proofs.Arms.{file-arm, block-arm, table-arm}
 
-module _ (s : Service) (x : Step) (z : Sizes) (inForce : z ≡ sizesOf s) where
+module _ (takes full : Bool) (s : Service) (x : Step) (z : Sizes) (inForce : z ≡ sizesOf s) where
   pub file-result :
       (f : ℕ)
       → classOf x ≡ OnFile f
       → fileOutcome s (f % maxFiles)
       (fileStep z (embargoedAt s (clientOf x % maxClients)) (tableIn s .recovering) (fileAt s (f % maxFiles)) (storesOf s) x)
-      ≡ stepOf s x
+      ≡ moved takes full s x
   file-result f class =
       ap
       (λ (z : Sizes).
       fileOutcome s (f % maxFiles)
       (fileStep z (embargoedAt s (clientOf x % maxClients)) (tableIn s .recovering) (fileAt s (f % maxFiles)) (storesOf s) x))
       inForce
-      ∙ sym (file-arm s x f class)
+      ∙ sym (file-arm takes full s x f class)
 
   pub block-result :
       (i f : ℕ) (reply : Reply) (b c : List ℕ) (h d : List Bool)
@@ -47,10 +48,12 @@ module _ (s : Service) (x : Step) (z : Sizes) (inForce : z ≡ sizesOf s) where
       → LeavesBlock
       (blockStep z (embargoedAt s (i % maxClients)) (tableIn s .recovering) (reportedAt s (i % maxClients))
       (clientAt s (i % maxClients) (f % maxFiles))
+      takes
+      full
       (storesOf s)
       x)
       reply b c h d
-      → record { service = withStores s (lent b c h d); reply = reply; calls = noCalls; grants = noGrants } ≡ stepOf s x
+      → record { service = withStores s (lent b c h d); reply = reply; calls = noCalls; grants = noGrants } ≡ moved takes full s x
   block-result i f reply b c h d class l =
       ap₂ (λ (r : Reply) (a : Stores). record { service = withStores s a; reply = r; calls = noCalls; grants = noGrants })
       (l .replyAfter)
@@ -60,10 +63,12 @@ module _ (s : Service) (x : Step) (z : Sizes) (inForce : z ≡ sizesOf s) where
       blockOutcome s
       (blockStep z (embargoedAt s (i % maxClients)) (tableIn s .recovering) (reportedAt s (i % maxClients))
       (clientAt s (i % maxClients) (f % maxFiles))
+      takes
+      full
       (storesOf s)
       x))
       inForce
-      ∙ sym (block-arm s x i f class)
+      ∙ sym (block-arm takes full s x i f class)
 
   -- the state of the recovery, and the entries
   abbrev recovered : List Entry → RecoveryOutcome → Outcome
@@ -85,10 +90,10 @@ module _ (s : Service) (x : Step) (z : Sizes) (inForce : z ≡ sizesOf s) where
       → classOf x ≡ OnTable
       → o ≡ recoveryStep z (recoveryIn (tableIn s)) (clashing z (tableIn s) (s .clients) (reporter x)) x
       → entries ≡ filesAfter z (o .sweep) (tableIn s .files) (s .clients)
-      → recovered entries o ≡ stepOf s x
+      → recovered entries o ≡ moved takes full s x
   table-result o entries class is done =
       ap (λ (l : List Entry). recovered l o) done
       ∙ ap (λ (r : RecoveryOutcome). tableOutcome s (tableAfter z (tableIn s .files) (s .clients) r)) is
       ∙ ap (tableOutcome s) (sym (as-taken z (tableIn s) (s .clients) x))
       ∙ ap (λ (z : Sizes). tableOutcome s (tableStep z (tableIn s) (s .clients) x)) inForce
-      ∙ sym (table-arm s x class)
+      ∙ sym (table-arm takes full s x class)

@@ -1,5 +1,5 @@
-//! What is checked beside a run: Demand 3, the invariant that carries it, the counts of the summary, and what an
-//! explainer says of reads.
+//! What is checked beside a run: Demand 3, the invariant that carries it, the places of the store, the counts of the
+//! summary, and what an explainer says of reads.
 
 mod behind;
 mod cuts;
@@ -8,6 +8,7 @@ mod difference;
 mod embargoes;
 mod invariant;
 mod memory;
+mod places;
 mod provenance;
 mod restarts;
 mod table;
@@ -22,6 +23,7 @@ pub use difference::{Difference, shown};
 pub use embargoes::Embargoes;
 pub use invariant::{BrokenClause, CLAUSES, Invariant, broken_clauses};
 pub use memory::{BlockWrites, KeptWrite, ReferenceMemory};
+pub use places::{PlacesBreach, PlacesCheck, PlacesMet};
 pub use provenance::{Provenance, Unfounded};
 pub use restarts::Restarts;
 pub use table::{StateTable, TableEntry};

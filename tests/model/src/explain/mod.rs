@@ -4,6 +4,7 @@
 mod book;
 mod explainer;
 mod picture;
+mod places;
 mod reason;
 mod taken;
 mod told;
@@ -12,5 +13,6 @@ mod words;
 pub use book::{Book, LostAt, Origin, WrittenAt};
 pub use explainer::{Distortion, distorted, explain, explain_on, explained, explained_from};
 pub use picture::{ClientPicture, EmbargoPicture, FilePicture, Picture};
+pub use places::Places;
 pub use reason::{Reason, Waiting};
 pub use told::{CopyAtGrant, Granted, Opening, Place, Reading, Source, Told};

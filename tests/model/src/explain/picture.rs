@@ -2,7 +2,7 @@
 
 use std::io::{Result, Write};
 
-use super::{Book, LostAt, Place, Waiting};
+use super::{Book, LostAt, Place, Places, Waiting};
 use crate::printer::Printer;
 use crate::text::Text;
 use crate::{BLOCKS, ClientFile, ClientSet, Record, Refusal, Service, Sizes, State};
@@ -11,6 +11,9 @@ use crate::{BLOCKS, ClientFile, ClientSet, Record, Refusal, Service, Sizes, Stat
 pub struct Picture {
     /// In a recovery: the clients still to report.
     pub recovering: Option<ClientSet>,
+    pub places: Places,
+    /// As it is read.
+    pub free: usize,
     /// The clients under embargo, ascending.
     pub embargoed: Vec<EmbargoPicture>,
     /// Those that are told, ascending.
@@ -56,6 +59,8 @@ impl Picture {
         let embargoed = server.embargoed.and(sizes.client_set());
         Picture {
             recovering: server.recovering.then(|| server.reports_missing(sizes)),
+            places: Places::of(service),
+            free: server.free_places(sizes),
             embargoed: embargoed.members().map(|client| EmbargoPicture::of(service, book, client)).collect(),
             files: (0..sizes.files).filter_map(|file| FilePicture::of(service, book, file)).collect(),
             refusals,
@@ -67,6 +72,7 @@ impl Picture {
             None => printer.line(|text| text.words("the server runs"))?,
             Some(to_report) => printer.line(|text| text.recovers(to_report))?,
         }
+        printer.line(|text| text.places_told(&self.places, self.free))?;
         for embargoed in &self.embargoed {
             printer.long_line(|text| text.embargo_told(embargoed))?;
         }
@@ -136,6 +142,12 @@ impl ClientPicture {
 }
 
 impl Text<'_> {
+    fn places_told(&mut self, places: &Places, free: usize) {
+        self.places(places);
+        self.words("; free: ");
+        self.count(free);
+    }
+
     fn embargo_told(&mut self, told: &EmbargoPicture) {
         self.station(told.client);
         self.is_under_embargo(told.since);

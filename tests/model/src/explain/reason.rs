@@ -1,6 +1,6 @@
 //! What stands behind a refusal.
 
-use super::{Book, Opening, Place};
+use super::{Book, Opening, Place, Places};
 use crate::{Clash, ClientSet, Mode, Refusal, Service, Step};
 
 #[derive(Clone, Copy, PartialEq, Eq, Debug)]
@@ -48,6 +48,10 @@ pub enum Reason {
     ReportsClash {
         client: usize,
         clash: Clash,
+    },
+    NoPlace {
+        place: Place,
+        places: Places,
     },
 }
 
@@ -101,6 +105,10 @@ impl Reason {
             Refusal::ReportsClash => {
                 let clash = service.first_clash(at_client).expect("the report clashes on some file");
                 Reason::ReportsClash { client: at_client, clash }
+            }
+            Refusal::NoPlace => {
+                let place = Place { client: at_client, file: at_file, block: at_block };
+                Reason::NoPlace { place, places: Places::of(service) }
             }
             Refusal::NotAStep
             | Refusal::OpenWaitsAtWriting

@@ -68,14 +68,15 @@ impl Text<'_> {
                 self.words(" is told of its embargo");
                 self.had_open(opened);
             }
-            Told::Set(Sizes { clients, files, blocks }) => {
+            Told::Set(Sizes { clients, files, blocks, store }) => {
                 self.words("the service has ");
                 self.count(*clients);
                 self.words(" stations, ");
                 self.count(*files);
                 self.words(" files of ");
                 self.count(*blocks);
-                self.words(" blocks");
+                self.words(" blocks; places: ");
+                self.count(*store);
             }
             Told::Refused(reason) => self.reason(reason),
         }
@@ -254,8 +255,15 @@ impl Text<'_> {
                 self.words(" is not under embargo");
             }
             Reason::ReportsClash { client, clash } => self.clash(client, &clash),
+            Reason::NoPlace { place, places } => {
+                self.words("no place is free for");
+                self.block(place);
+                self.words("; ");
+                self.places(&places);
+            }
             Reason::SettingOutOfRange => {
-                self.words("a setting lies outside its range: 1 to 8 stations, 1 to 64 files, 1 to 8 blocks");
+                self.words("a setting lies outside its range: 1 to 8 stations, 1 to 64 files, 1 to 8 blocks, ");
+                self.words("0 to 512 places");
             }
         }
     }

@@ -24,6 +24,10 @@ pub enum Aim {
     Lift,
     /// A read or a write of a client under embargo.
     AccessUnderEmbargo,
+    /// A write that takes a place.
+    TakePlace,
+    /// A restart of a client that has a place reserved.
+    FreePlaces,
     Refused(Refusal),
 }
 
@@ -158,6 +162,33 @@ pub fn embargo_aims_for(stage: &Stage) -> &'static Aims {
     }
 }
 
+/// With no place free.
+const FULL: [(usize, Aim); 5] =
+    [(30, Aim::Refused(Refusal::NoPlace)), (12, Aim::FreePlaces), (8, Aim::Access), (2, Aim::Crash), (8, Aim::Embargo)];
+
+/// With some.
+const ROOM: [(usize, Aim); 5] =
+    [(40, Aim::TakePlace), (4, Aim::FreePlaces), (8, Aim::Flush), (8, Aim::Access), (4, Aim::Embargo)];
+
+/// In a recovery, where a write that takes a place gets 5.
+const ROOM_LATER: [(usize, Aim); 5] = [
+    (20, Aim::Access),
+    (10, Aim::Refused(Refusal::Recovering)),
+    (20, Aim::Report),
+    (12, Aim::FreePlaces),
+    (4, Aim::Lift),
+];
+
+/// What is aimed at now and then where the store is small.
+pub fn space_aims_for(stage: &Stage) -> &'static Aims {
+    let server = &stage.service.server;
+    match server.free_places(stage.sizes()) {
+        _ if server.recovering => &ROOM_LATER,
+        0 => &FULL,
+        _ => &ROOM,
+    }
+}
+
 /// What is aimed at, by what goes on at the server.
 pub fn aims_for(stage: &Stage, turns: bool) -> &'static Aims {
     let (server, sizes) = (&stage.service.server, stage.sizes());
@@ -216,6 +247,8 @@ impl Stage {
             Aim::Report => self.step(StepKind::Report),
             Aim::End => Step::End,
             Aim::Restart => self.restart(),
+            Aim::FreePlaces => self.freeing_restart(),
+            Aim::TakePlace | Aim::Refused(Refusal::NoPlace) => self.write_where_open(),
             Aim::Embargo => self.embargo(),
             Aim::Lift | Aim::Refused(Refusal::NotUnderEmbargo) => self.lift(),
             Aim::AccessUnderEmbargo => self.access_under_embargo(),
@@ -231,8 +264,14 @@ impl Stage {
             Aim::Anything => true,
             Aim::Refused(wanted) => refusal == Some(wanted),
             Aim::Wait => refusal.is_none() && self.calls_somebody(step),
+            Aim::TakePlace => refusal.is_none() && self.takes_place(step),
             _ => refusal.is_none(),
         }
+    }
+
+    fn takes_place(&self, step: &Step) -> bool {
+        let Step::Write { client, file, block, .. } = *step else { return false };
+        self.service.takes_place(client as usize, file as usize, block as usize)
     }
 
     fn calls_somebody(&self, step: &Step) -> bool {

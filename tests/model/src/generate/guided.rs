@@ -4,11 +4,12 @@
 use std::collections::VecDeque;
 
 use super::Author;
-use super::aim::{Aims, aims_for, embargo_aims_for};
+use super::aim::{Aims, aims_for, embargo_aims_for, space_aims_for};
 use super::embargo::embargo_scene;
 use super::restart::restart_scene;
 use super::rng::Rng;
 use super::scene::scene;
+use super::space::space_scene;
 use super::stage::{Scope, Stage};
 use super::text::write_step;
 use super::tide::Tide;
@@ -25,6 +26,10 @@ const RESTART_HALFWAY: usize = 12;
 /// Where clients are put under embargo, one step in so many is about that.
 const EMBARGO: usize = 5;
 
+/// Where the store is small, one step in so many is about its places, and one scene in so many.
+const SPACE: usize = 3;
+const SPACE_SCENE: usize = 2;
+
 pub struct Guided {
     stage: Stage,
     /// Whether clients mostly take turns.
@@ -36,6 +41,8 @@ pub struct Guided {
     restarts: bool,
     /// Whether they are put under embargo.
     embargoes: bool,
+    /// Whether the store is small.
+    small_store: bool,
 }
 
 impl Guided {
@@ -61,7 +68,8 @@ impl Guided {
 
     fn on(stage: Stage, seed: u64) -> Self {
         let turns = seed.is_multiple_of(2);
-        Guided { stage, turns, tide: None, scene: VecDeque::new(), restarts: false, embargoes: false }
+        let scene = VecDeque::new();
+        Guided { stage, turns, tide: None, scene, restarts: false, embargoes: false, small_store: false }
     }
 
     pub fn with_restarts(self) -> Self {
@@ -71,6 +79,11 @@ impl Guided {
     /// And with restarts.
     pub fn with_embargoes(self) -> Self {
         Guided { restarts: true, embargoes: true, ..self }
+    }
+
+    /// With restarts and embargoes.
+    pub fn with_small_store(self) -> Self {
+        Guided { small_store: true, ..self.with_embargoes() }
     }
 
     /// The next step, not yet taken.
@@ -83,7 +96,9 @@ impl Guided {
         }
         let at_rest = !self.stage.service.server.recovering && !self.stage.any_open_waits();
         if at_rest && self.stage.rng.one_in(SCENE) {
-            let steps = if self.embargoes && !self.stage.rng.one_in(3) {
+            let steps = if self.small_store && self.stage.rng.one_in(SPACE_SCENE) {
+                space_scene(&mut self.stage)
+            } else if self.embargoes && !self.stage.rng.one_in(3) {
                 embargo_scene(&mut self.stage)
             } else if self.restarts && self.stage.rng.one_in(2) {
                 restart_scene(&mut self.stage)
@@ -92,6 +107,10 @@ impl Guided {
             };
             self.scene.extend(steps);
             return self.choose();
+        }
+        if self.small_store && self.stage.rng.one_in(SPACE) {
+            let aim = self.stage.rng.weighted(space_aims_for(&self.stage));
+            return self.stage.aimed(aim);
         }
         if self.embargoes && self.stage.rng.one_in(EMBARGO) {
             let aim = self.stage.rng.weighted(embargo_aims_for(&self.stage));

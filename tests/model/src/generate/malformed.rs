@@ -146,6 +146,11 @@ impl Malformed {
         self
     }
 
+    pub fn with_small_store(mut self) -> Self {
+        self.steps = self.steps.with_small_store();
+        self
+    }
+
     fn spoil(&mut self, offset: usize, line: &mut Vec<u8>) {
         match self.rng.below(400) {
             0 => self.lengthen(line),

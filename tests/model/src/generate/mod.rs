@@ -12,6 +12,7 @@ mod rng;
 mod scene;
 mod session;
 mod settings;
+mod space;
 mod stage;
 mod text;
 mod tide;
@@ -45,11 +46,21 @@ pub enum FileKind {
     Restart,
     /// The same with clients under embargo too. The kinds above have no embargo.
     Embargo,
+    /// Hot, wide and malformed files with restarts and embargoes, of a service whose store is small: its places are
+    /// taken and freed in every way, and 23 is frequent.
+    Space,
 }
 
 impl FileKind {
-    pub const ALL: [FileKind; 6] =
-        [FileKind::Hot, FileKind::Wide, FileKind::Malformed, FileKind::Session, FileKind::Restart, FileKind::Embargo];
+    pub const ALL: [FileKind; 7] = [
+        FileKind::Hot,
+        FileKind::Wide,
+        FileKind::Malformed,
+        FileKind::Session,
+        FileKind::Restart,
+        FileKind::Embargo,
+        FileKind::Space,
+    ];
 
     pub fn name(self) -> &'static str {
         match self {
@@ -59,6 +70,7 @@ impl FileKind {
             FileKind::Session => "session",
             FileKind::Restart => "restart",
             FileKind::Embargo => "embargo",
+            FileKind::Space => "space",
         }
     }
 
@@ -88,6 +100,7 @@ pub fn generate(kind: FileKind, seed: u64, lines: usize, output: &mut impl Write
         FileKind::Session => Box::new(Session::new(seed, settings)),
         FileKind::Restart => restarting(seed, settings),
         FileKind::Embargo => embargoing(seed, settings),
+        FileKind::Space => spacing(seed, settings),
     };
     match settings_lines {
         Some(settings_lines) => write_lines(&mut WithSettings::new(settings_lines, author), lines, output),
@@ -110,6 +123,15 @@ fn embargoing(seed: u64, settings: Settings) -> Box<dyn Author> {
         0 => Box::new(Guided::hot(seed, settings).with_embargoes()),
         1 | 2 => Box::new(Guided::wide(seed, settings).with_embargoes()),
         _ => Box::new(Malformed::new(seed, settings).with_embargoes()),
+    }
+}
+
+/// Of eight seeds, five have hot files, two have wide ones and one has malformed ones.
+fn spacing(seed: u64, settings: Settings) -> Box<dyn Author> {
+    match seed % 8 {
+        0..5 => Box::new(Guided::hot(seed, settings).with_small_store()),
+        5 | 6 => Box::new(Guided::wide(seed, settings).with_small_store()),
+        _ => Box::new(Malformed::new(seed, settings).with_small_store()),
     }
 }
 

@@ -77,6 +77,7 @@ impl Recovery {
             clients: *self.rng.pick(&[1, 2, 2, 3, 3, 4, 6, 8, 0]),
             files: *self.rng.pick(&[1, 1, 2, 2, 3, 5, 64, 65]),
             blocks: *self.rng.pick(&[1, 2, 8]),
+            store: *self.rng.pick(&[0, 1, 2, 5, 512, 513]),
         }
     }
 

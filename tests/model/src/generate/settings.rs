@@ -7,7 +7,7 @@ use super::malformed::spoil_once;
 use super::rng::Rng;
 use super::text::write_step;
 use super::{Author, FileKind};
-use crate::{BLOCKS, CLIENTS, FILES, Mode, Settings, Sizes, Step, read_settings};
+use crate::{BLOCKS, CLIENTS, FILES, Mode, PLACES, Settings, Sizes, Step, read_settings};
 
 /// Of so many seeds, these have files about settings; the other files have no line SET.
 const SEEDS: u64 = 11;
@@ -53,11 +53,12 @@ pub struct SettingsLines {
 impl SettingsLines {
     /// None if the file of this seed has no such lines.
     pub fn of(kind: FileKind, seed: u64) -> Option<Self> {
-        if !WITH_SETTINGS.contains(&(seed % SEEDS)) {
+        if kind != FileKind::Space && !WITH_SETTINGS.contains(&(seed % SEEDS)) {
             return None;
         }
         let mut rng = Rng::new(seed ^ (kind as u64) << 32 ^ 0x05e7_71e5);
         let first = match rng.below(20) {
+            _ if kind == FileKind::Space => Some(line_of(in_range(&mut rng, kind))),
             0..12 => Some(right_line(&mut rng, kind)),
             12..19 => Some(wrong_line(&mut rng, kind)),
             _ => None,
@@ -88,7 +89,7 @@ impl SettingsLines {
 
     /// A step with a number just past the sizes: it is refused, whatever the state.
     fn line_past(&mut self) -> Vec<u8> {
-        let Sizes { clients, files, blocks } = self.left().read();
+        let Sizes { clients, files, blocks, .. } = self.left().read();
         let past = |size: usize, rng: &mut Rng| (size + *rng.pick(&[0, 0, 0, 1])) as u64;
         let mode = *self.rng.pick(&[Mode::Read, Mode::Write]);
         let (client, file, block) =
@@ -108,7 +109,7 @@ impl SettingsLines {
         ];
         let more: &[Step] = match self.kind {
             FileKind::Restart => &[Step::Restart { client }],
-            FileKind::Embargo => &[
+            FileKind::Embargo | FileKind::Space => &[
                 Step::Restart { client },
                 Step::Embargo { client, file: 0 },
                 Step::Embargo { client: there, file },
@@ -133,23 +134,42 @@ fn right_line(rng: &mut Rng, kind: FileKind) -> Vec<u8> {
     line_of(in_range(rng, kind))
 }
 
-fn line_of(numbers: [u64; 3]) -> Vec<u8> {
-    let [clients, files, blocks] = numbers;
-    let mut line = Vec::new();
-    write!(line, "SET {clients} {files} {blocks}").expect("a vector takes every byte");
+/// Three numbers or four.
+fn line_of(numbers: Vec<u64>) -> Vec<u8> {
+    let mut line = b"SET".to_vec();
+    for number in numbers {
+        write!(line, " {number}").expect("a vector takes every byte");
+    }
     line
 }
 
-fn in_range(rng: &mut Rng, kind: FileKind) -> [u64; 3] {
+/// The clients, files and blocks, and sometimes the size of the store.
+fn in_range(rng: &mut Rng, kind: FileKind) -> Vec<u64> {
     let clients = *rng.pick(&[1, 2, 2, 3, 3, 4, 5, 6, 7, 8]);
     let any_file = 1 + rng.below(FILES);
     let files = match kind {
         FileKind::Hot | FileKind::Malformed => *rng.pick(&[1, 1, 2, 2, 3, FILES]),
+        FileKind::Space => *rng.pick(&[1, 2, 2, 3, 4, 8, any_file]),
         FileKind::Restart | FileKind::Embargo => *rng.pick(&[1, 2, 3, any_file, FILES, FILES]),
         FileKind::Wide | FileKind::Session => *rng.pick(&[any_file, any_file, any_file, FILES]),
     };
     let any_block = 1 + rng.below(BLOCKS);
-    [clients, files, *rng.pick(&[any_block, any_block, any_block, BLOCKS])].map(|size| size as u64)
+    let blocks = *rng.pick(&[any_block, any_block, any_block, BLOCKS]);
+    let mut numbers = vec![clients, files, blocks];
+    if kind == FileKind::Space || rng.one_in(3) {
+        numbers.push(store(rng, kind, files * blocks));
+    }
+    numbers.into_iter().map(|size| size as u64).collect()
+}
+
+/// None, few or about as many places as there are blocks, or all; small where places shall run out.
+fn store(rng: &mut Rng, kind: FileKind, blocks: usize) -> usize {
+    let (few, some) = (1 + rng.below(4), 4 + rng.below(8));
+    let (part, about) = (rng.below(blocks + 1), (blocks - 1 + rng.below(3)).min(PLACES));
+    match kind {
+        FileKind::Space => *rng.pick(&[0, few, few, few, some, some, some, part, part, about, PLACES]),
+        _ => *rng.pick(&[0, few, part, about, about, PLACES, PLACES]),
+    }
 }
 
 /// A line SET with one number or all out of range, or spoilt in one place.
@@ -162,9 +182,11 @@ fn wrong_line(rng: &mut Rng, kind: FileKind) -> Vec<u8> {
     }
     let all = rng.one_in(4);
     let one = rng.below(numbers.len());
-    for (at, largest) in [CLIENTS, FILES, BLOCKS].into_iter().enumerate() {
+    for (at, (number, largest)) in numbers.iter_mut().zip([CLIENTS, FILES, BLOCKS, PLACES]).enumerate() {
         if all || at == one {
-            numbers[at] = out_of_range(rng, largest as u64);
+            *number = out_of_range(rng, largest as u64);
+            // A store may have no place.
+            *number = if largest == PLACES && *number == 0 { PLACES as u64 + 1 } else { *number };
         }
     }
     line_of(numbers)

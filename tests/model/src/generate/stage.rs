@@ -166,6 +166,30 @@ impl Stage {
         Step::Read { client, file, block }
     }
 
+    /// A write by a client that has the file open for write; by any, if none has.
+    pub fn write_where_open(&mut self) -> Step {
+        let files = 0..self.scope.files;
+        let open: Vec<(usize, usize)> = (0..self.scope.clients)
+            .flat_map(|client| files.clone().map(move |file| (client, file)))
+            .filter(|&(client, file)| self.service.clients[client].files[file].record.writers > 0)
+            .collect();
+        if open.is_empty() || self.rng.one_in(20) {
+            return self.step(StepKind::Write);
+        }
+        let (client, file) = *self.rng.pick(&open);
+        let (client, file, block) = (client as u64, file as u64, self.block());
+        Step::Write { client, file, block, value: self.value() }
+    }
+
+    /// A restart of a client that has a dirty block; of any, if none has.
+    pub fn freeing_restart(&mut self) -> Step {
+        let files = 0..self.scope.files;
+        let dirty = ClientSet::of(|client| files.clone().any(|file| self.service.any_dirty(client, file)));
+        let choices: Vec<usize> = dirty.and(self.sizes().client_set()).members().collect();
+        let client = if choices.is_empty() { self.client() } else { *self.rng.pick(&choices) as u64 };
+        Step::Restart { client }
+    }
+
     pub fn step(&mut self, kind: StepKind) -> Step {
         match kind {
             StepKind::Open => Step::Open { mode: self.mode(), client: self.client(), file: self.file() },

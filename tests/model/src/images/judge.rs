@@ -1,18 +1,19 @@
 //! The judge's side of the protocol that src/bin/images/main.rs tells: strings in, answers out.
 
 use super::sections::written;
-use crate::{Document01, Mode, Outcome, Refusal, Service, Settings, State, Step};
+use crate::{Document01, Mode, Outcome, Refusal, SIZES_BYTES, Service, Settings, State, Step};
 
 /// The most bytes of a string, and of the input of one run.
 pub const LONGEST_STRING: usize = 8_192;
 pub const LONGEST_INPUT: usize = 65_536;
 
-const HEAD: usize = 6;
+const HEAD: usize = 8;
 
 /// A string, the sizes of the service that reads it, and which steps come before the reading.
 #[derive(Clone, Debug)]
 pub struct Request {
-    pub sizes: [u8; 3],
+    /// As an image has them.
+    pub sizes: [u8; SIZES_BYTES],
     pub before: u8,
     pub bytes: Vec<u8>,
 }
@@ -32,14 +33,14 @@ impl Request {
 
     /// The first request of an input, and what follows.
     fn read(input: &[u8]) -> Option<(Request, &[u8])> {
-        let (&[clients, files, blocks, before, low, high], rest) = input.split_first_chunk::<HEAD>()?;
+        let (&[clients, files, blocks, store, more, before, low, high], rest) = input.split_first_chunk::<HEAD>()?;
         let (bytes, rest) = rest.split_at_checked(u16::from_le_bytes([low, high]).into())?;
-        Some((Request { sizes: [clients, files, blocks], before, bytes: bytes.to_vec() }, rest))
+        Some((Request { sizes: [clients, files, blocks, store, more], before, bytes: bytes.to_vec() }, rest))
     }
 
     pub fn settings(&self) -> Settings {
-        let [clients, files, blocks] = self.sizes.map(u64::from);
-        Settings { clients, files, blocks }
+        let [clients, files, blocks, low, high] = self.sizes.map(u64::from);
+        Settings { clients, files, blocks, store: low + 256 * high }
     }
 }
 
@@ -70,7 +71,7 @@ pub type WriteImage<'a> = dyn Fn(&Service) -> Result<Vec<u8>, Refusal> + 'a;
 pub struct Judge<'a> {
     read_image: &'a ReadImage<'a>,
     write_image: &'a WriteImage<'a>,
-    sizes: Option<[u8; 3]>,
+    sizes: Option<[u8; SIZES_BYTES]>,
     service: Service,
     /// Reports refused with 22.
     clashes: usize,
@@ -108,6 +109,7 @@ impl<'a> Judge<'a> {
         let mut answer = vec![if accepted { b'1' } else { b'0' }, self.files_not_closed()];
         let reports = (0..self.service.sizes().clients as u64).map(|client| Step::Report { client });
         self.take(&reports.chain([Step::End]).collect::<Vec<Step>>());
+        answer.extend((self.service.server.free_places(self.service.sizes()) as u16).to_le_bytes());
         answer.extend(self.image());
         answer
     }

@@ -2,8 +2,8 @@
 //! service that has these entries must be the same bytes.
 
 use crate::{
-    CLIENTS, COUNT_BYTES, ClientField, ENTRY_BYTES, LONGEST_IMAGE, Record, Refusal, Service, Settings, Sizes,
-    VersionField,
+    CLIENTS, COUNT_BYTES, ClientField, ENTRY_BYTES, LONGEST_IMAGE, Record, Refusal, SIZES_BYTES, Service, Settings,
+    Sizes, VersionField,
 };
 
 /// The bytes of each entry, in the four sections.
@@ -40,7 +40,7 @@ impl Sections {
     }
 
     fn fill(&mut self, take: &mut impl FnMut(usize) -> Option<Vec<u8>>, count: fn(&[u8]) -> u64) -> Option<()> {
-        self.front = take(3)?;
+        self.front = take(SIZES_BYTES)?;
         for (entries, length) in self.entries.iter_mut().zip(ENTRY_BYTES) {
             for _ in 0..count(&take(COUNT_BYTES)?) {
                 entries.push(take(length)?);
@@ -91,8 +91,9 @@ impl Sections {
 
     /// A service of these sizes that has the entries, as far as there is a place for them.
     pub fn service(&self, sizes: Sizes) -> Service {
-        let [clients, files, blocks] = [sizes.clients, sizes.files, sizes.blocks].map(|size| size as u64);
-        let mut service = Service::fresh_of(Settings { clients, files, blocks });
+        let [clients, files, blocks, store] =
+            [sizes.clients, sizes.files, sizes.blocks, sizes.store].map(|size| size as u64);
+        let mut service = Service::fresh_of(Settings { clients, files, blocks, store });
         let entries = &mut service.server.entries[..sizes.files];
         for (file, version, last_writer) in self.files() {
             if let Some(entry) = entries.get_mut(usize::from(file)) {
@@ -106,9 +107,9 @@ impl Sections {
             }
         }
         for (file, block, value) in self.blocks() {
-            let blocks = entries.get_mut(usize::from(file)).map(|entry| &mut entry.blocks);
-            if let Some(place) = blocks.and_then(|blocks| blocks.get_mut(usize::from(block))) {
-                *place = value;
+            let block = usize::from(block);
+            if let Some(entry) = entries.get_mut(usize::from(file)).filter(|entry| block < entry.blocks.len()) {
+                (entry.blocks[block], entry.used[block]) = (value, true);
             }
         }
         for client in self.embargoes().map(usize::from).filter(|&client| client < CLIENTS) {

@@ -3,8 +3,8 @@
 
 use crate::generate::Rng;
 use crate::{
-    BLOCKS, CLIENTS, Callbacks, ClientField, ClientSet, Entry, FILES, Mode, Record, Service, Settings, VersionField,
-    WaitField,
+    BLOCKS, CLIENTS, Callbacks, ClientField, ClientSet, Entry, FILES, Mode, PLACES, Record, Service, Settings,
+    VersionField, WaitField,
 };
 
 /// Small ones and large ones, in range.
@@ -14,8 +14,15 @@ pub fn any_sizes(rng: &mut Rng) -> Settings {
         let any = 1 + rng.below(if few { largest.min(4) } else { largest });
         *rng.pick(&[any, any, any, largest]) as u64
     };
-    let settings = Settings { clients: size(CLIENTS), files: size(FILES), blocks: size(BLOCKS) };
+    let (clients, files, blocks) = (size(CLIENTS), size(FILES), size(BLOCKS));
+    let settings = Settings { clients, files, blocks, store: any_store(rng, (files * blocks) as usize) };
     if rng.one_in(6) { Settings::NOT_GIVEN } else { settings }
+}
+
+/// None, few, about as many as there are blocks, or all places.
+fn any_store(rng: &mut Rng, blocks: usize) -> u64 {
+    let (few, any, about) = (rng.below(8), rng.below(PLACES + 1), blocks - 1 + rng.below(3));
+    *rng.pick(&[0, few, few, any, about.min(PLACES), 255, 256, PLACES, PLACES]) as u64
 }
 
 /// Of so many files one is made; the others are fresh.
@@ -33,18 +40,19 @@ pub fn hand_made(rng: &mut Rng, settings: Settings) -> Service {
     let last = service.sizes().files - 1;
     make(rng, &mut service.server.entries[last]);
     service.server.embargoed = embargoes(rng);
+    service.server.free = *rng.pick(&[0, 1, 2, PLACES, usize::MAX]);
     service
 }
 
 /// The server of the largest sizes that has all entries an image can list.
 pub fn full(rng: &mut Rng) -> Service {
-    let mut service =
-        Service::fresh_of(Settings { clients: CLIENTS as u64, files: FILES as u64, blocks: BLOCKS as u64 });
+    let [clients, files, blocks] = [CLIENTS, FILES, BLOCKS].map(|size| size as u64);
+    let mut service = Service::fresh_of(Settings { clients, files, blocks, store: *rng.pick(&[0, 511, 512]) });
     for entry in &mut service.server.entries {
         make(rng, entry);
         entry.version.0 = entry.version.0.max(2);
         entry.records.iter_mut().for_each(|record| record.readers = record.readers.max(1));
-        entry.blocks.iter_mut().for_each(|value| *value = (*value).max(1));
+        entry.used = [true; BLOCKS];
     }
     service.server.embargoed = ClientSet::ALL;
     service
@@ -69,6 +77,9 @@ fn make(rng: &mut Rng, entry: &mut Entry) {
     entry.records = std::array::from_fn(|_| record(rng, open));
     let written = *rng.pick(&[1, 2, 4, 8]);
     entry.blocks = std::array::from_fn(|_| if rng.one_in(written) { value(rng) } else { 0 });
+    // Mostly those that are not zero, and some that are.
+    let (zero_used, unused) = (*rng.pick(&[1, 3, 30]), *rng.pick(&[2, 30]));
+    entry.used = entry.blocks.map(|value| if value == 0 { rng.one_in(zero_used) } else { !rng.one_in(unused) });
 }
 
 /// One in so many is open; a closed one may have permission all the same.

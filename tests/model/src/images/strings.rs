@@ -6,7 +6,7 @@ use super::sections::{Sections, written};
 use super::servers::{any_sizes, full, hand_made};
 use crate::check::Witness;
 use crate::generate::{FileKind, Rng, step_file};
-use crate::{COUNT_BYTES, Document01, Outcome, Service, Settings, Sizes, Step, replay};
+use crate::{COUNT_BYTES, Document01, Outcome, SIZES_BYTES, Service, Settings, Sizes, Step, replay};
 
 #[derive(Clone, Copy, PartialEq, Eq, Debug)]
 pub enum Sort {
@@ -89,7 +89,8 @@ impl Witness for LatestImage {
 }
 
 fn of_session(rng: &mut Rng) -> (Sort, Settings, Vec<u8>) {
-    let kind = *rng.pick(&[FileKind::Hot, FileKind::Hot, FileKind::Wide, FileKind::Session, FileKind::Embargo]);
+    let kinds = [FileKind::Hot, FileKind::Space, FileKind::Wide, FileKind::Session, FileKind::Embargo];
+    let kind = *rng.pick(&kinds);
     let lines = *rng.pick(&[10, 30, 100, 400]);
     let mut latest = LatestImage::default();
     replay::<Document01>(&step_file(kind, rng.draw(), lines), &mut latest);
@@ -107,9 +108,11 @@ fn of_hand_made(rng: &mut Rng) -> (Sort, Settings, Vec<u8>) {
     (Sort::HandMade, service.settings, written(&service).expect("it neither recovers nor has a wait"))
 }
 
-fn sizes_of(settings: Settings) -> [u8; 3] {
-    let Sizes { clients, files, blocks } = settings.read();
-    [clients as u8, files as u8, blocks as u8]
+/// As an image has them.
+fn sizes_of(settings: Settings) -> [u8; SIZES_BYTES] {
+    let Sizes { clients, files, blocks, store } = settings.read();
+    let [low, high] = (store as u16).to_le_bytes();
+    [clients as u8, files as u8, blocks as u8, low, high]
 }
 
 struct Group {
@@ -231,20 +234,31 @@ impl Group {
 
     /// Read by services of other sizes, as it is and with these sizes in front; and other sizes in front of it.
     fn sizes(&mut self) {
-        let Settings { clients, files, blocks } = self.settings;
+        let Settings { clients, files, blocks, store } = self.settings;
         let any = any_sizes(&mut self.rng);
+        let as_is = self.settings;
         let others = [
             any,
-            Settings { clients: clients + 1, files, blocks },
-            Settings { clients: clients - 1, files, blocks },
-            Settings { clients, files: files + 1, blocks },
-            Settings { clients, files: files - 1, blocks },
-            Settings { clients, files, blocks: blocks + 1 },
-            Settings { clients, files, blocks: blocks - 1 },
+            Settings { clients: clients + 1, ..as_is },
+            Settings { clients: clients - 1, ..as_is },
+            Settings { files: files + 1, ..as_is },
+            Settings { files: files - 1, ..as_is },
+            Settings { blocks: blocks + 1, ..as_is },
+            Settings { blocks: blocks - 1, ..as_is },
+            Settings { store: store + 1, ..as_is },
+            Settings { store: store.saturating_sub(1), ..as_is },
+            Settings { store: store ^ 256, ..as_is },
+            Settings { store: store.swap_bytes() >> 48, ..as_is },
         ];
+        // Sizes that no service has.
+        for store in [513u16, 768, u16::MAX] {
+            let mut other = self.image.clone();
+            other[3..SIZES_BYTES].copy_from_slice(&store.to_le_bytes());
+            self.add(Sort::Sizes, other);
+        }
         for settings in others.into_iter().filter(|settings| settings.are_in_range()) {
             let mut other = self.image.clone();
-            other[..3].copy_from_slice(&sizes_of(settings));
+            other[..SIZES_BYTES].copy_from_slice(&sizes_of(settings));
             self.add(Sort::Sizes, other.clone());
             self.add_for(Sort::Sizes, settings, self.image.clone());
             self.add_for(Sort::Sizes, settings, other.clone());

@@ -25,13 +25,14 @@ pub enum Kind {
 }
 
 impl Kind {
-    pub const ALL: [Kind; 9] = [
+    pub const ALL: [Kind; 10] = [
         Kind::Fresh(FileKind::Hot),
         Kind::Fresh(FileKind::Wide),
         Kind::Fresh(FileKind::Malformed),
         Kind::Fresh(FileKind::Session),
         Kind::Fresh(FileKind::Restart),
         Kind::Fresh(FileKind::Embargo),
+        Kind::Fresh(FileKind::Space),
         Kind::Resumed,
         Kind::ResumedRestart,
         Kind::ResumedEmbargo,
@@ -71,7 +72,7 @@ impl Sample {
         }
     }
 
-    /// The image that a session, hot or wide file leaves once every client has closed and flushed and this is done, and
+    /// The image that a session, hot, wide or space file leaves once every client has closed and flushed and this is done, and
     /// the next run.
     fn resumed(
         name: String,
@@ -80,7 +81,7 @@ impl Sample {
         leave: fn(&mut Service, u64) -> Vec<u8>,
         run: fn(&mut Service, u64, usize) -> Vec<u8>,
     ) -> Self {
-        let kind = [FileKind::Session, FileKind::Hot, FileKind::Wide][seed as usize % 3];
+        let kind = [FileKind::Session, FileKind::Hot, FileKind::Wide, FileKind::Space][seed as usize % 4];
         let mut service = Service::fresh();
         replay_from::<Document01>(&mut service, &step_file(kind, seed, lines), &mut ());
         closing_time(&mut service);

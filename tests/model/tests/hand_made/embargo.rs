@@ -29,8 +29,8 @@ fn under_embargo_it_goes_on_with_its_copy() {
             ("EM 0 0", "A 0 2 1 0 1"),
             ("RD 0 0 0", "V 9"),
             ("WR 0 0 0 7", "K"),
-            ("WR 0 0 1 8", "K"),
-            ("RD 0 0 1", "V 8"),
+            ("RD 0 0 0", "V 7"),
+            ("WR 0 0 1 8", "N 20"),
         ],
         &["files 1", "0 2 1 -"],
     );
@@ -41,10 +41,11 @@ fn under_embargo_it_goes_on_with_its_copy() {
 }
 
 /// "20 when an embargoed station's step other than BT or LF needs the server (any but a read or write does), after 4":
-/// a read unless the client is open, may cache and holds the block, and a write unless it has writers and may cache.
+/// a read unless the client is open, may cache and holds the block, and a write unless it has writers and may cache. The
+/// block is used, so that no write takes a place.
 #[test]
 fn a_read_or_write_that_needs_the_server_gets_20() {
-    let embargoed = HandMade::fresh().embargoed(ClientSet::only(0));
+    let embargoed = HandMade::fresh().used().embargoed(ClientSet::only(0));
     let held = block_0(9, true, false);
     for (record, read, write) in [
         (CLOSED, "N 20", "N 20"),
@@ -85,7 +86,7 @@ fn the_place_of_20() {
 /// In recovery 5 follows: of one that has reported, which no steps lead to, a read that needs no server gets it.
 #[test]
 fn a_report_of_a_client_under_embargo_is_one_all_the_same() {
-    let made = HandMade::fresh().at_client(0, WRITER).copy(0, 1, block_0(9, true, false));
+    let made = HandMade::fresh().used().at_client(0, WRITER).copy(0, 1, block_0(9, true, false));
     let made = made.embargoed(ClientSet::only(0)).recovering(ClientSet::only(0));
     made.clone().plays(&[("RD 0 0 0", "N 5"), ("WR 0 0 0 1", "N 5"), ("RD 0 0 1", "N 20")], &["files 0"]);
     made.recovering(ClientSet::NONE).plays(&[("RD 0 0 0", "V 9"), ("WR 0 0 0 1", "K")], &["files 0"]);

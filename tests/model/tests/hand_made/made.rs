@@ -54,8 +54,19 @@ impl HandMade {
 
     /// The settings as they are stored, in range or not.
     pub fn settings(mut self, clients: u64, files: u64, blocks: u64) -> Self {
-        self.service.settings = Settings { clients, files, blocks };
+        self.service.settings = Settings { clients, files, blocks, ..self.service.settings };
         self
+    }
+
+    /// The size of the store and the free places, as they are stored.
+    pub fn places(mut self, store: u64, free: usize) -> Self {
+        (self.service.settings.store, self.service.server.free) = (store, free);
+        self
+    }
+
+    /// Block 0 is used.
+    pub fn used(self) -> Self {
+        self.with_entry(|entry| entry.used[0] = true)
     }
 
     fn with_entry(mut self, change: impl FnOnce(&mut Entry)) -> Self {

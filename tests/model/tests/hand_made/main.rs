@@ -13,6 +13,7 @@ mod limits;
 mod listing;
 mod made;
 mod names;
+mod places;
 mod plain;
 mod promises;
 mod random;

@@ -8,8 +8,70 @@ use model::{
 
 use crate::sizes::in_force;
 
-/// Takes a step that is not refused.
+/// Takes a step that is not refused. "Free places, kept within 0 and the size, are counted up and down by history", and
+/// "a crash keeps used blocks and makes free the size less them" (Wish 13): by how many blocks have a place before the
+/// step and after it.
 pub fn accept(service: &mut Service, step: &Step) -> Outcome {
+    let (before, reached) = (with_a_place(service), reached_by(service, step));
+    let outcome = act(service, step);
+    for (file, block) in reached {
+        service.server.entries[file].used[block] = true;
+    }
+    let (store, after) = (in_force(service).store as i64, with_a_place(service));
+    let free = (service.server.free.min(store as usize)) as i64;
+    if *step == Step::Crash {
+        service.server.free = (store - count_used(service)).max(0) as usize;
+    } else if before != after {
+        service.server.free = (free + before - after).max(0).min(store) as usize;
+    }
+    outcome
+}
+
+/// The blocks that the step brings to the server: by a flush, by an answer that writes back, and by a write without
+/// permission.
+fn reached_by(service: &Service, step: &Step) -> Vec<(usize, usize)> {
+    match *step {
+        Step::Write { client, file, block, .. }
+            if !service.clients[client as usize].files[file as usize].record.may_cache =>
+        {
+            vec![(file as usize, block as usize)]
+        }
+        Step::Flush { file, block, .. } => vec![(file as usize, block as usize)],
+        Step::Reply { client, file }
+            if service.server.entries[file as usize].waiting.callbacks.0[client as usize] != 2 =>
+        {
+            let dirty = service.clients[client as usize].files[file as usize].copies.dirty;
+            (0..in_force(service).blocks).filter(|&block| dirty[block]).map(|block| (file as usize, block)).collect()
+        }
+        _ => vec![],
+    }
+}
+
+fn count_used(service: &Service) -> i64 {
+    let Sizes { files, blocks, .. } = in_force(service);
+    let used = |file: usize| service.server.entries[file].used[..blocks].iter().filter(|&&used| used).count();
+    (0..files).map(used).sum::<usize>() as i64
+}
+
+/// Blocks used, and blocks dirty at a station without embargo that has, in recovery, reported.
+fn with_a_place(service: &Service) -> i64 {
+    let Sizes { clients, files, blocks, .. } = in_force(service);
+    let server = &service.server;
+    let counts = |station: usize| {
+        !server.embargoed.contains(station) && !(server.recovering && !server.reported.contains(station))
+    };
+    let mut places = 0;
+    for file in 0..files {
+        for block in 0..blocks {
+            let dirty = |station: usize| service.clients[station].files[file].copies.dirty[block];
+            let reserved = (0..clients).any(|station| counts(station) && dirty(station));
+            places += i64::from(server.entries[file].used[block] || reserved);
+        }
+    }
+    places
+}
+
+fn act(service: &mut Service, step: &Step) -> Outcome {
     match *step {
         Step::Open { mode, client, file } => File::of(service, file).open(client as usize, mode),
         Step::Close { mode, client, file } => File::of(service, file).close(client as usize, mode),

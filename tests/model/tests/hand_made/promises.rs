@@ -90,7 +90,7 @@ pub fn broken(taken: &Taken) -> Option<&'static str> {
 
 type Promise = fn(&Taken) -> bool;
 
-const PROMISES: [(&str, Promise); 20] = [
+const PROMISES: [(&str, Promise); 23] = [
     ("refusals are tested in number order, lowest first", |taken| {
         taken.refusal() == refusals::lowest(&taken.before, &taken.step)
     }),
@@ -159,11 +159,11 @@ const PROMISES: [(&str, Promise); 20] = [
             })
         },
     ),
-    ("versions and blocks survive a crash; the rest does not", |taken| {
+    ("versions, blocks and which are used survive a crash; the rest does not", |taken| {
         let Sizes { clients, files, .. } = taken.sizes();
         let survives = |(after, before): (&Entry, &Entry)| {
             let lost = after.records[..clients].iter().all(|record| *record == Record::default());
-            let kept = (after.version, after.blocks) == (before.version, before.blocks);
+            let kept = (after.version, after.blocks, after.used) == (before.version, before.blocks, before.used);
             lost && kept && after.last_writer == ClientField::NONE && nothing_waits(clients, after)
         };
         let (server, before) = (&taken.after.server, &taken.before.server);
@@ -182,6 +182,23 @@ const PROMISES: [(&str, Promise); 20] = [
     ("after a grant no open waits and no callback is out", |taken| {
         let after = |file| nothing_waits(taken.sizes().clients, &taken.after.server.entries[file]);
         taken.granted().into_iter().all(|(_, file)| after(file))
+    }),
+    ("no block that was used is not used any more", |taken| {
+        let pairs = taken.before.server.entries.iter().zip(&taken.after.server.entries);
+        pairs.flat_map(|(before, after)| before.used.iter().zip(after.used)).all(|(&before, after)| !before || after)
+    }),
+    ("a closed, a read, a lift, an end and a wait leave the free places", |taken| {
+        let leaves = match taken.step {
+            Step::Close { .. } | Step::Read { .. } | Step::Lift { .. } | Step::End | Step::Flush { .. } => true,
+            Step::Open { .. } => matches!(taken.outcome, Outcome::Waits(_)),
+            _ => false,
+        };
+        !leaves || taken.after.server.free == taken.before.server.free
+    }),
+    ("a write takes one place or none", |taken| {
+        let store = taken.sizes().store;
+        let [before, after] = [&taken.before, &taken.after].map(|service| service.server.free.min(store));
+        !matches!(taken.step, Step::Write { .. }) || before == after || before == after + 1
     }),
     ("a client field past the clients reads as none, a version of 0 as 1, a kind above 3 as no callback", |taken| {
         let plain = Taken::from(as_read(&taken.before), taken.step);
@@ -206,7 +223,7 @@ fn nothing_waits(clients: usize, entry: &Entry) -> bool {
 /// by its station and its G fields; else K." With A comes the number of blocks that were sent, as many as there are at
 /// the most (Wishes 5 and 7).
 fn has_its_form(taken: &Taken) -> bool {
-    let Sizes { clients, files, blocks } = taken.sizes();
+    let Sizes { clients, files, blocks, .. } = taken.sizes();
     let granted_well = |opener: usize, grant: &Grant| opener < clients && grant.previous + 1 == grant.latest;
     match (taken.step, &taken.outcome) {
         (_, Outcome::Refused(_)) => taken.step != Step::Crash,
@@ -255,7 +272,7 @@ fn leaves_the_table(taken: &Taken) -> bool {
     let (before, after) = (&taken.before.server.entries[file], &taken.after.server.entries[file]);
     let flushed = matches!(taken.step, Step::Flush { .. }) && before.last_writer == ClientField(client as u8);
     let last_writer = if flushed { after.last_writer } else { before.last_writer };
-    *after == Entry { blocks: after.blocks, last_writer, ..before.clone() }
+    *after == Entry { blocks: after.blocks, used: after.used, last_writer, ..before.clone() }
 }
 
 /// Of the files and blocks in force.
@@ -294,8 +311,10 @@ fn sent_by(taken: &Taken) -> usize {
 /// The same service with every field stored as it reads.
 fn as_read(service: &Service) -> Service {
     let mut read = service.clone();
-    let Sizes { clients, files, blocks } = in_force(service);
-    read.settings = Settings { clients: clients as u64, files: files as u64, blocks: blocks as u64 };
+    let Sizes { clients, files, blocks, store } = in_force(service);
+    let [set_clients, set_files, set_blocks, set_store] = [clients, files, blocks, store].map(|size| size as u64);
+    read.settings = Settings { clients: set_clients, files: set_files, blocks: set_blocks, store: set_store };
+    read.server.free = read.server.free.min(store);
     for entry in &mut read.server.entries[..files] {
         entry.version = VersionField(entry.version.0.max(1));
         if usize::from(entry.last_writer.0) >= clients {

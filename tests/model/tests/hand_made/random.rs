@@ -44,9 +44,10 @@ fn random_services_keep_every_promise() {
     assert!([ReportsMissing, OpenWaits, NoCallback, NotOpen, CountAtLimit, NotDirty].into_iter().all(met));
     assert!(met(VersionAtLimit) && tally.waits() > 1000 && tally.grants_after_waits() > 500);
     assert!(tally.recoveries() > 100);
-    assert!(tally.behind().least() > 20, "{}", tally.behind());
-    assert!(tally.restarts().least() > 10, "{}", tally.restarts());
+    assert!(tally.behind().least() > 10, "{}", tally.behind());
+    assert!(tally.restarts().least() > 5, "{}", tally.restarts());
     assert!(met(UnderEmbargo) && met(NotUnderEmbargo) && met(ReportsClash));
+    assert!(met(NoPlace), "{tally}");
     assert!(tally.embargoes().least() > 5, "{}", tally.embargoes());
 }
 
@@ -75,6 +76,7 @@ impl Maker {
         service.server.recovering = self.rng.one_in(4);
         service.server.reported = self.some_clients();
         service.server.embargoed = if self.rng.one_in(3) { self.some_clients() } else { ClientSet::NONE };
+        service.server.free = *self.rng.pick(&[0, 0, 0, 0, 1, 2, 40, 512, usize::MAX]);
         for file in made(&service) {
             self.make(&mut service, file);
         }
@@ -90,7 +92,9 @@ impl Maker {
             let beyond = [0, largest + 1, 255, 256 + largest, (1 << 32) + 1, u64::MAX];
             if self.rng.one_in(5) { *self.rng.pick(&beyond) } else { 1 + self.rng.below(largest as usize) as u64 }
         });
-        Settings { clients, files, blocks }
+        let any = self.rng.below(513) as u64;
+        let store = *self.rng.pick(&[0, 1, 2, 5, any, 512, 513, u64::MAX]);
+        Settings { clients, files, blocks, store }
     }
 
     fn some_clients(&mut self) -> ClientSet {
@@ -108,6 +112,8 @@ impl Maker {
         entry.last_writer = self.client_field();
         entry.waiting = self.wait();
         entry.blocks = std::array::from_fn(|_| self.value());
+        let spread_used = *self.rng.pick(&[1, 2, 6]);
+        entry.used = std::array::from_fn(|_| self.rng.one_in(spread_used));
         for client in 0..CLIENTS {
             let record = self.record(spread);
             entry.records[client] = record;
@@ -160,7 +166,9 @@ impl Maker {
             9..13 => Step::Close { mode, client, file },
             13..20 => Step::Reply { client: self.called(service, file).unwrap_or(client), file },
             20..23 => Step::Read { client, file, block },
-            23..26 => Step::Write { client, file, block, value: self.value() },
+            23..26 => {
+                Step::Write { client: self.writer(service, file).unwrap_or(client), file, block, value: self.value() }
+            }
             26..28 => self.flush(service, client, file, block),
             28 => Step::Crash,
             29 => Step::End,
@@ -184,6 +192,14 @@ impl Maker {
         let copies = &service.clients[client].files[file].copies;
         let dirty: Vec<usize> = (0..sizes.blocks).filter(|&block| copies.dirty[block]).collect();
         (!dirty.is_empty()).then(|| (client as u64, *self.rng.pick(&dirty) as u64))
+    }
+
+    /// Half of the time a client that has this file open for write, if any has.
+    fn writer(&mut self, service: &Service, file: u64) -> Option<u64> {
+        let has = |client: &usize| service.clients[*client].files[file as usize].record.writers > 0;
+        let clients = 0..in_force(service).clients;
+        let writers: Vec<usize> = clients.filter(|client| (file as usize) < FILES && has(client)).collect();
+        (self.coin() && !writers.is_empty()).then(|| *self.rng.pick(&writers) as u64)
     }
 
     /// Half of the time a client that is called on this file, if any is.

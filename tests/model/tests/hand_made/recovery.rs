@@ -12,7 +12,7 @@ fn while_recovering_a_stored_wait_is_not_looked_at() {
     let refused = ["OR 1 0", "OW 2 0", "CR 0 0", "CW 0 0", "AN 0 0", "AN 1 0", "FL 0 0 0"].map(|line| (line, "N 5"));
     made.clone().plays(&refused, &["files 1", "0 5 1 -"]);
     // Reads and writes go by the client's own record, called or not.
-    made.plays(
+    made.used().plays(
         &[("WR 0 0 0 9", "K"), ("RD 0 0 0", "V 9"), ("RD 1 0 0", "N 5"), ("EN", "N 8")],
         &["files 1", "0 5 1 -"],
     );

@@ -13,12 +13,14 @@ pub fn lowest(service: &Service, step: &Step) -> Option<usize> {
 /// "Open tests 2, 3, 5, 9, 12, 14; close 2, 3, 5, 9, 11; read and write 2, 3, 4, 5, 11; flush 2, 3, 4, 5, 13; reply 2,
 /// 3, 5, 10; report 2, 6, 7; end 6, 8; crash none." "BT tests 2 only" (Wish 8). "EM is tested as a reply is, never by
 /// 20 ..; LF tests 2 and 21. 20 when an embargoed station's step other than BT or LF needs the server (any but a read
-/// or write does), after 4" (Wish 9). "22 when a report .. breaks one of these, after 7" (Wish 10).
+/// or write does), after 4" (Wish 9). "22 when a report .. breaks one of these, after 7" (Wish 10). "23 when such a write
+/// finds nothing free, and only then, last of all" (Wish 13).
 fn tested(step: &Step) -> &'static [usize] {
     match step {
         Step::Open { .. } => &[2, 3, 20, 5, 9, 12, 14],
         Step::Close { .. } => &[2, 3, 20, 5, 9, 11],
-        Step::Read { .. } | Step::Write { .. } => &[2, 3, 4, 20, 5, 11],
+        Step::Read { .. } => &[2, 3, 4, 20, 5, 11],
+        Step::Write { .. } => &[2, 3, 4, 20, 5, 11, 23],
         Step::Flush { .. } => &[2, 3, 4, 20, 5, 13],
         Step::Reply { .. } => &[2, 3, 20, 5, 10],
         Step::Embargo { .. } => &[2, 3, 5, 10],
@@ -33,13 +35,13 @@ fn tested(step: &Step) -> &'static [usize] {
 /// A number above 4 is asked for only where 2, 3 and 4 do not hold.
 fn holds(number: usize, service: &Service, step: &Step) -> bool {
     let Numbers { client, file, block } = Numbers::of(step);
-    let Sizes { clients, files, blocks } = in_force(service);
+    let Sizes { clients, files, blocks, store } = in_force(service);
     let at = || Place::of(service, client as usize, file as usize);
     match number {
         2 => client >= clients as u64,
         3 => file >= files as u64,
         4 => block >= blocks as u64,
-        5 => service.server.recovering && recovery_stops(service, step, &at(), block as usize),
+        5 => service.server.recovering && recovery_stops(service, step),
         6 => !service.server.recovering,
         7 => service.server.reported.contains(client as usize),
         8 => (0..clients).any(|client| !service.server.reported.contains(client) && !is_embargoed(service, client)),
@@ -49,9 +51,10 @@ fn holds(number: usize, service: &Service, step: &Step) -> bool {
         12 => count(&at().own.record, mode(step)) == 255,
         13 => !at().own.copies.dirty[block as usize],
         14 => mode(step) == Mode::Write && at().entry.version.0 == 4_294_967_295,
-        20 => is_embargoed(service, client as usize) && needs_server(step, &at(), block as usize),
+        20 => is_embargoed(service, client as usize) && needs_server(service, step),
         21 => !is_embargoed(service, client as usize),
         22 => report_cannot_be_true(service, client as usize),
+        23 => takes_a_place(service, step) && service.server.free.min(store) == 0,
         _ => unreachable!("no step tests {number}"),
     }
 }
@@ -102,24 +105,43 @@ impl<'a> Place<'a> {
 /// "For reads and writes 5 holds during recovery if the station has reported, or if the step needs the server: a read
 /// unless the station is open, may cache and holds the block; a write unless it has writers and may cache. For the
 /// other steps 5 holds throughout recovery."
-fn recovery_stops(service: &Service, step: &Step, at: &Place, block: usize) -> bool {
+fn recovery_stops(service: &Service, step: &Step) -> bool {
     match *step {
         Step::Read { client, .. } | Step::Write { client, .. } => {
-            service.server.reported.contains(client as usize) || needs_server(step, at, block)
+            service.server.reported.contains(client as usize) || needs_server(service, step)
         }
         _ => true,
     }
 }
 
 /// "The step needs the server: a read unless the station is open, may cache and holds the block; a write unless it has
-/// writers and may cache", and "any but a read or write does" (Wish 9).
-fn needs_server(step: &Step, at: &Place, block: usize) -> bool {
-    let Record { readers, writers, may_cache } = at.own.record;
+/// writers and may cache", and "any but a read or write does" (Wish 9). A write that takes a place, "cached too, needs the
+/// server" (Wish 13).
+fn needs_server(service: &Service, step: &Step) -> bool {
+    let Numbers { client, file, block } = Numbers::of(step);
+    let own = || &service.clients[client as usize].files[file as usize];
     match step {
-        Step::Read { .. } => !((readers > 0 || writers > 0) && may_cache && at.own.copies.held[block]),
-        Step::Write { .. } => !(writers > 0 && may_cache),
+        Step::Read { .. } => {
+            let Record { readers, writers, may_cache } = own().record;
+            !((readers > 0 || writers > 0) && may_cache && own().copies.held[block as usize])
+        }
+        Step::Write { .. } => {
+            let in_its_copy = own().record.writers > 0 && own().record.may_cache;
+            !in_its_copy || takes_a_place(service, step)
+        }
         _ => true,
     }
+}
+
+/// "A write to a block neither used, reserved nor dirty there takes one free place." "Reserved: dirty blocks not used, at
+/// stations without embargo" (Wish 13).
+fn takes_a_place(service: &Service, step: &Step) -> bool {
+    let Numbers { client, file, block } = Numbers::of(step);
+    let (file, block) = (file as usize, block as usize);
+    let dirty = |station: usize| service.clients[station].files[file].copies.dirty[block];
+    let used = service.server.entries[file].used[block];
+    let reserved = !used && (0..in_force(service).clients).any(|other| dirty(other) && !is_embargoed(service, other));
+    !(used || reserved || dirty(client as usize))
 }
 
 fn is_embargoed(service: &Service, client: usize) -> bool {

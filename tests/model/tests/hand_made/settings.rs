@@ -6,12 +6,12 @@ use model::{ClientField, ClientSet, Copies, Mode, Settings, Sizes, State, Step};
 use crate::made::{HandMade, READER, WRITER, block_0, uncached};
 
 fn sizes(clients: usize, files: usize, blocks: usize) -> Sizes {
-    Sizes { clients, files, blocks }
+    Sizes { clients, files, blocks, store: 512 }
 }
 
 #[test]
 fn each_setting_out_of_range_is_as_not_given() {
-    let read = |clients, files, blocks| Settings { clients, files, blocks }.read();
+    let read = |clients, files, blocks| Settings { clients, files, blocks, ..Settings::NOT_GIVEN }.read();
     assert_eq!(read(8, 32, 4), sizes(8, 32, 4));
     assert_eq!(read(1, 1, 1), sizes(1, 1, 1));
     assert_eq!(read(8, 64, 8), sizes(8, 64, 8));
@@ -21,6 +21,18 @@ fn each_setting_out_of_range_is_as_not_given() {
         assert_eq!(read(1, 64, out), sizes(1, 64, 4), "{out}");
     }
     assert_eq!(read(9, 65, 9), sizes(8, 32, 4));
+}
+
+/// "The store has a size of 0 to 512 blocks, a fourth setting, 512 if not given" (Wish 13).
+#[test]
+fn a_store_out_of_range_is_as_not_given() {
+    let read = |store| Settings { store, ..Settings::NOT_GIVEN }.read().store;
+    for store in [0, 1, 256, 511, 512] {
+        assert_eq!(read(store), store as usize);
+    }
+    for store in [513, 1024, 1 << 16, (1 << 32) + 1, u64::MAX] {
+        assert_eq!(read(store), 512, "{store}");
+    }
 }
 
 /// "Refusals 2, 3 and 4 .. follow the settings."
@@ -142,7 +154,7 @@ fn the_summary_lists_the_files_in_force() {
 fn a_first_line_set_starts_afresh() {
     let made = HandMade::fresh().settings(5, 6, 7).version(9).copy(0, 1, block_0(7, true, true));
     let set = made.clone().plays(&[("SET 1 2 3", "K")], &["files 0"]);
-    assert_eq!(set.service, model::Service::fresh_of(Settings { clients: 1, files: 2, blocks: 3 }));
+    assert_eq!(set.service, model::Service::fresh_of(Settings { clients: 1, files: 2, blocks: 3, store: 512 }));
     let refused = made.clone().plays(&[("SET 0 2 3", "N 19")], &["files 1", "0 0 9 -"]);
     assert_eq!(refused.service, made.service);
 }

@@ -3,13 +3,14 @@
 use model::{BLOCKS, CLIENTS, ClientSet, FILES, Service, Settings, Sizes};
 
 /// "Stations 1 to 8, files 1 to 64 and blocks 1 to 8"; "without it 8, 32 and 4 hold"; "hand-made ones out of range: each
-/// as not given".
+/// as not given". "A size of 0 to 512 blocks, a fourth setting, 512 if not given."
 pub fn in_force(service: &Service) -> Sizes {
-    let Settings { clients, files, blocks } = service.settings;
+    let Settings { clients, files, blocks, store } = service.settings;
     Sizes {
         clients: if clients == 0 || clients > 8 { 8 } else { clients as usize },
         files: if files == 0 || files > 64 { 32 } else { files as usize },
         blocks: if blocks == 0 || blocks > 8 { 4 } else { blocks as usize },
+        store: if store > 512 { 512 } else { store as usize },
     }
 }
 
@@ -25,6 +26,7 @@ pub fn with_past_of(service: &Service, other: &Service) -> Service {
         entry.records[sizes.clients..].copy_from_slice(&past.records[sizes.clients..]);
         entry.waiting.callbacks.0[sizes.clients..].copy_from_slice(&past.waiting.callbacks.0[sizes.clients..]);
         entry.blocks[sizes.blocks..].copy_from_slice(&past.blocks[sizes.blocks..]);
+        entry.used[sizes.blocks..].copy_from_slice(&past.used[sizes.blocks..]);
         for client in 0..CLIENTS {
             let (own, past) = (&mut mixed.clients[client].files[file], &other.clients[client].files[file]);
             if file >= sizes.files || client >= sizes.clients {

@@ -6,6 +6,7 @@ use model::{Document01, Service, replay_from};
 #[derive(Clone)]
 pub struct Entries<'a> {
     pub sizes: [u8; 3],
+    pub store: u16,
     pub files: Vec<(u8, u32, u8)>,
     pub opens: Vec<[u8; 5]>,
     pub blocks: Vec<(u8, u8, u64)>,
@@ -13,14 +14,16 @@ pub struct Entries<'a> {
     pub more: &'a [u8],
 }
 
-/// Three clients, four files, two blocks.
+/// Three clients, four files, two blocks, and a store of five places.
 pub const SMALL: [u8; 3] = [3, 4, 2];
+pub const SMALL_STORE: u16 = 5;
 
 impl Entries<'_> {
     /// Accepted by a service of these sizes; no rule of document 01 leads to it.
     pub fn small() -> Self {
         Entries {
             sizes: SMALL,
+            store: SMALL_STORE,
             files: vec![(1, 2, 2), (3, 1, 0)],
             opens: vec![[0, 1, 1, 0, 1], [2, 1, 0, 1, 0], [1, 3, 255, 255, 1]],
             blocks: vec![(0, 1, 5), (1, 0, 1 << 63), (3, 1, u64::MAX)],
@@ -31,6 +34,7 @@ impl Entries<'_> {
 
     pub fn bytes(&self) -> Vec<u8> {
         let mut bytes = self.sizes.to_vec();
+        bytes.extend(self.store.to_le_bytes());
         bytes.extend((self.files.len() as u16).to_le_bytes());
         for (file, version, last_writer) in &self.files {
             bytes.push(*file);

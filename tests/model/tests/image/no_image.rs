@@ -3,11 +3,11 @@
 
 use model::{Refusal, Service, Settings};
 
-use crate::made::{Entries, SMALL};
+use crate::made::{Entries, SMALL, SMALL_STORE};
 
 fn read(bytes: &[u8]) -> Result<(), Refusal> {
     let [clients, files, blocks] = SMALL.map(u64::from);
-    Service::fresh_of(Settings { clients, files, blocks }).read_image(bytes)
+    Service::fresh_of(Settings { clients, files, blocks, store: SMALL_STORE.into() }).read_image(bytes)
 }
 
 /// The image with this change in its entries.
@@ -22,7 +22,7 @@ const NO_IMAGE: Result<(), Refusal> = Err(Refusal::NoImage);
 #[test]
 fn the_image_itself_is_accepted() {
     assert_eq!(with(|_| {}), Ok(()));
-    assert_eq!(read(&[3, 4, 2, 0, 0, 0, 0, 0, 0, 0, 0]), Ok(()));
+    assert_eq!(read(&[3, 4, 2, 5, 0, 0, 0, 0, 0, 0, 0, 0, 0]), Ok(()));
 }
 
 /// "Other sizes get 17", also where every entry would fit.
@@ -30,8 +30,26 @@ fn the_image_itself_is_accepted() {
 fn other_sizes() {
     for sizes in [[2, 4, 2], [4, 4, 2], [3, 3, 2], [3, 5, 2], [3, 4, 1], [3, 4, 3], [8, 32, 4], [0, 4, 2], [4, 3, 2]] {
         assert_eq!(with(|image| image.sizes = sizes), NO_IMAGE, "{sizes:?}");
-        assert_eq!(read(&[&sizes[..], &[0; 8]].concat()), NO_IMAGE, "{sizes:?}");
+        assert_eq!(read(&[&sizes[..], &[5, 0], &[0; 8]].concat()), NO_IMAGE, "{sizes:?}");
     }
+}
+
+/// Another size of the store, or one that no store has (Wish 13).
+#[test]
+fn another_store() {
+    for store in (0..=u16::MAX).filter(|&store| store != SMALL_STORE) {
+        assert_eq!(with(|image| image.store = store), NO_IMAGE, "{store}");
+    }
+    let usual = |store: u16| Service::fresh().read_image(&[&[8, 32, 4][..], &store.to_le_bytes(), &[0; 8]].concat());
+    assert_eq!((usual(512), usual(513), usual(2), usual(0)), (Ok(()), NO_IMAGE, NO_IMAGE, NO_IMAGE));
+}
+
+/// "The image lists used blocks in place of non-zero ones": a zero one is no reason, nor are more than the store has.
+#[test]
+fn zero_blocks_and_more_than_the_store() {
+    assert_eq!(with(|image| image.blocks[1].2 = 0), Ok(()));
+    let every = |image: &mut Entries| image.blocks = (0..8).map(|at| (at / 2, at % 2, u64::from(at % 3))).collect();
+    assert_eq!(with(every), Ok(()));
 }
 
 #[test]
@@ -108,8 +126,7 @@ fn an_open_twice_or_out_of_order() {
 }
 
 #[test]
-fn a_zero_block_or_one_out_of_order() {
-    assert_eq!(with(|image| image.blocks[1].2 = 0), NO_IMAGE);
+fn a_block_twice_or_out_of_order() {
     assert_eq!(with(|image| image.blocks.swap(0, 1)), NO_IMAGE);
     assert_eq!(with(|image| image.blocks[1] = image.blocks[0]), NO_IMAGE);
     assert_eq!(with(|image| image.blocks[1] = (0, 0, 1)), NO_IMAGE);
@@ -133,11 +150,19 @@ fn an_embargo_twice_or_descending() {
 fn an_image_without_its_last_section() {
     let bytes = Entries::small().bytes();
     assert_eq!(read(&bytes[..bytes.len() - 4]), NO_IMAGE);
-    assert_eq!(read(&[3, 4, 2, 0, 0, 0, 0, 0, 0]), NO_IMAGE);
+    assert_eq!(read(&[3, 4, 2, 5, 0, 0, 0, 0, 0, 0, 0]), NO_IMAGE);
+}
+
+/// The image as it was before Wish 13.
+#[test]
+fn an_image_without_its_store() {
+    let bytes = Entries::small().bytes();
+    assert_eq!(read(&[&bytes[..3], &bytes[5..]].concat()), NO_IMAGE);
+    assert_eq!(read(&[3, 4, 2, 0, 0, 0, 0, 0, 0, 0, 0]), NO_IMAGE);
 }
 
 /// The places of the four counts in the small image.
-const COUNTS: [usize; 4] = [3, 17, 34, 66];
+const COUNTS: [usize; 4] = [5, 19, 36, 68];
 
 #[test]
 fn a_count_that_the_bytes_do_not_bear_out() {

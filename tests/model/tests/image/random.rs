@@ -3,18 +3,19 @@
 
 use model::generate::Rng;
 use model::images::{Sections, Sort, any_sizes, full, hand_made, is_written, strings, written};
-use model::{ClientSet, Document01, Service, Step};
+use model::{ClientSet, Document01, Entry, Service, Step};
 
 /// A service of the same sizes that has nothing of the other but its clients.
 fn fresh_as(service: &Service) -> Service {
     Service::fresh_of(service.settings)
 }
 
-/// Versions as they read, blocks and embargoes, of what is in force.
-fn lasting(service: &Service) -> (Vec<(u32, Vec<u64>)>, ClientSet) {
+/// Versions as they read, the used blocks and embargoes, of what is in force.
+fn lasting(service: &Service) -> (Vec<(u32, Vec<Option<u64>>)>, ClientSet) {
     let sizes = service.sizes();
     let entries = service.server.entries[..sizes.files].iter();
-    let entries = entries.map(|entry| (entry.version.read(), entry.blocks[..sizes.blocks].to_vec())).collect();
+    let used = |entry: &Entry| (0..sizes.blocks).map(|b| entry.used[b].then_some(entry.blocks[b])).collect();
+    let entries = entries.map(|entry| (entry.version.read(), used(entry))).collect();
     (entries, service.server.embargoed.and(sizes.client_set()))
 }
 

@@ -13,7 +13,7 @@ use crate::made::{Entries, after, whole_case};
 /// A service of the small image's sizes in which everything goes on, with something past the sizes.
 fn busy() -> Service {
     let mut service = after(&[
-        "SET 3 4 2",
+        "SET 3 4 2 5",
         "OW 0 1",
         "WR 0 1 0 7",
         "FL 0 1 0",
@@ -38,7 +38,7 @@ fn crashed(mut service: Service) -> Service {
     service
 }
 
-/// A crash, but with the versions, blocks and embargoes of the small image.
+/// A crash, but with the versions, used blocks and embargoes of the small image: three of five places are used.
 fn as_read(service: Service) -> Service {
     let mut service = crashed(service);
     let entries = &mut service.server.entries;
@@ -47,7 +47,9 @@ fn as_read(service: Service) -> Service {
     {
         entry.version = VersionField(version);
         entry.blocks[..2].copy_from_slice(&[first, second]);
+        entry.used[..2].copy_from_slice(&[first != 0, second != 0]);
     }
+    service.server.free = 2;
     let past = service.server.embargoed.minus(ClientSet::first(3));
     service.server.embargoed = past.with(0).with(2);
     service
@@ -68,7 +70,7 @@ fn versions_and_blocks_are_taken_and_all_else_is_a_crash() {
 fn a_stored_version_of_0_is_read_over() {
     let mut service = Service::fresh();
     service.server.entries[5].version = VersionField(0);
-    assert_eq!(service.read_image(&[8, 32, 4, 0, 0, 0, 0, 0, 0, 0, 0]), Ok(()));
+    assert_eq!(service.read_image(&[8, 32, 4, 0, 2, 0, 0, 0, 0, 0, 0, 0, 0]), Ok(()));
     assert_eq!(service, crashed(Service::fresh()));
 }
 
@@ -100,7 +102,7 @@ fn a_refused_reading_changes_nothing() {
 #[test]
 fn the_sizes_are_those_in_force() {
     let image = written(&whole_case()).expect("it is written");
-    let mut service = Service::fresh_of(Settings { clients: 9, files: 0, blocks: u64::MAX });
+    let mut service = Service::fresh_of(Settings { clients: 9, files: 0, blocks: u64::MAX, store: 513 });
     assert_eq!(service.read_image(&image), Ok(()));
     assert_eq!(written(&service), Err(Refusal::Recovering));
     assert_eq!((service.server.entries[3].version, service.server.entries[3].blocks[0]), (VersionField(2), 77));
@@ -110,15 +112,28 @@ fn the_sizes_are_those_in_force() {
 #[test]
 fn a_session_is_resumed_from_an_image() {
     let service = Service::resumed(&Entries::small().bytes()).expect("it is an image");
-    let fresh = Service::fresh_of(Settings { clients: 3, files: 4, blocks: 2 });
+    let fresh = Service::fresh_of(Settings { clients: 3, files: 4, blocks: 2, store: 5 });
     assert_eq!(service, as_read(fresh));
-    let fronts = [&[][..], &[8], &[8, 32], &[8, 32, 4], &[0, 32, 4], &[8, 65, 4]];
+    let fronts = [&[][..], &[8], &[8, 32], &[8, 32, 4], &[8, 32, 4, 0], &[8, 32, 4, 0, 2], &[0, 32, 4], &[8, 65, 4]];
     for front in fronts {
         assert_eq!(Service::resumed(front), Err(Refusal::NoImage));
     }
-    for front in [&[0, 32, 4][..], &[8, 65, 4]] {
+    for front in [&[0, 32, 4, 0, 2][..], &[8, 65, 4, 0, 2], &[8, 32, 4, 1, 2], &[8, 32, 4, 255, 255]] {
         assert_eq!(Service::resumed(&[front, &[0; 8]].concat()), Err(Refusal::NoImage));
     }
+}
+
+/// "Past the reading of an image the sum holds": free is the store less the used blocks, zero ones too, and 0 if there are
+/// more of them than the store has (Wish 13).
+#[test]
+fn free_is_what_the_used_blocks_leave() {
+    let free = |store: u16, used: u8| {
+        let mut image = Entries::small();
+        (image.store, image.blocks) = (store, (0..used).map(|at| (at / 2, at % 2, u64::from(at % 2))).collect());
+        Service::resumed(&image.bytes()).expect("it is an image").server.free
+    };
+    assert_eq!((free(5, 0), free(5, 3), free(5, 5), free(5, 8)), (5, 2, 0, 0));
+    assert_eq!((free(0, 0), free(0, 1), free(512, 8)), (0, 0, 504));
 }
 
 /// The whole case goes on: client 1's report brings its open back.
@@ -152,10 +167,10 @@ fn the_embargoes_of_the_image_hold() {
 }
 
 /// What survives a crash, and what goes by the clients.
-type Lasting = (Vec<(VersionField, [u64; 8])>, ClientSet);
+type Lasting = (Vec<(VersionField, [u64; 8], [bool; 8])>, ClientSet);
 
 fn lasting(service: &Service) -> Lasting {
-    let entries = service.server.entries.iter().map(|entry| (entry.version, entry.blocks)).collect();
+    let entries = service.server.entries.iter().map(|entry| (entry.version, entry.blocks, entry.used)).collect();
     (entries, service.server.embargoed)
 }
 
@@ -195,7 +210,7 @@ impl Witness for Readings {
 fn on_the_premise_a_reading_is_a_crash() {
     let mut met = Readings::default();
     for seed in 0..40 {
-        for kind in [FileKind::Hot, FileKind::Wide, FileKind::Session, FileKind::Embargo] {
+        for kind in [FileKind::Hot, FileKind::Wide, FileKind::Session, FileKind::Embargo, FileKind::Space] {
             met.then = Lasting::default();
             replay::<Document01>(&step_file(kind, seed, 400), &mut met);
         }

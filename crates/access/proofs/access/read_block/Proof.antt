@@ -32,18 +32,18 @@ tests-of c =
     (rw (← c .before .before .cell-of .ensures .0) (c .read-refusal .ensures))
 
 returns : tie.Need-returns
-returns c =
+returns c takes full =
     let a = c .before .before .before .before .args in
     leaves-refused (readTests (a .sizes) (a .embargoed) (a .recovering) (a .reported) (a .own) (getD (now (a .held)) (cell (a .client) (a .file) (a .block)) false)
     (a .client) (a .file) (a .block))
     (now (a .blocks)) (now (a .copies)) (now (a .held)) (now (a .dirty)) _ _ _ _
-    (read-step (a .sizes) (a .embargoed) (a .recovering) (a .reported) (a .own) (lent (now (a .blocks)) (now (a .copies)) (now (a .held)) (now (a .dirty))) (a .client) (a .file) (a .block))
+    (read-step (a .sizes) (a .embargoed) (a .recovering) (a .reported) (a .own) takes full (lent (now (a .blocks)) (now (a .copies)) (now (a .held)) (now (a .dirty))) (a .client) (a .file) (a .block))
     (tests-of (c .before))
     (c .if1 .taken)
     refl
 
 returns-2 : tie.Need-returns-2
-returns-2 c =
+returns-2 c takes full =
     let read = c .before in
     let placed = read .before .before .before .before in
     let test = placed .before in
@@ -61,7 +61,7 @@ returns-2 c =
     let to : placed .place-of .result ≡ place (a .file) (a .block) =
     placed .place-of .ensures .0 ∙ wrapped-block (a .file) (a .block) hf hb in
     leaves-as _ _ _ _ _ _ _
-    (read-step (a .sizes) (a .embargoed) (a .recovering) (a .reported) (a .own) (lent (now (a .blocks)) (now (a .copies)) (now (a .held)) (now (a .dirty))) (a .client) (a .file) (a .block)
+    (read-step (a .sizes) (a .embargoed) (a .recovering) (a .reported) (a .own) takes full (lent (now (a .blocks)) (now (a .copies)) (now (a .held)) (now (a .dirty))) (a .client) (a .file) (a .block)
     ∙ when-accepted (readTests (a .sizes) (a .embargoed) (a .recovering) (a .reported) (a .own) (getD (now (a .held)) (cell (a .client) (a .file) (a .block)) false)
     (a .client) (a .file) (a .block)) (λ k. record { stores = lent (now (a .blocks)) (now (a .copies)) (now (a .held)) (now (a .dirty)); reply = Refused k })
     (afterRead (a .own) (lent (now (a .blocks)) (now (a .copies)) (now (a .held)) (now (a .dirty))) (a .client) (a .file) (a .block)) _

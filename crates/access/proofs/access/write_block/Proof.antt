@@ -18,9 +18,9 @@ use Rattle.access.proofs.access.write_block.Tie as tie
 returns : tie.Need-returns
 returns c =
     let a = c .before .before .args in
-    leaves-refused (writeTests (a .sizes) (a .embargoed) (a .recovering) (a .reported) (a .own) (a .client) (a .file) (a .block) (a .value))
+    leaves-refused (writeTests (a .sizes) (a .embargoed) (a .recovering) (a .reported) (a .own) (a .takes) (a .full) (a .client) (a .file) (a .block) (a .value))
     (now (a .blocks)) (now (a .copies)) (now (a .held)) (now (a .dirty)) _ _ _ _
-    (write-step (a .sizes) (a .embargoed) (a .recovering) (a .reported) (a .own) (lent (now (a .blocks)) (now (a .copies)) (now (a .held)) (now (a .dirty))) (a .client) (a .file) (a .block) (a .value))
+    (write-step (a .sizes) (a .embargoed) (a .recovering) (a .reported) (a .own) (a .takes) (a .full) (lent (now (a .blocks)) (now (a .copies)) (now (a .held)) (now (a .dirty))) (a .client) (a .file) (a .block) (a .value))
     (c .before .write-refusal .ensures (a .value))
     (c .if1 .taken)
     refl
@@ -44,8 +44,8 @@ returns-2 c =
     let to : placed .place-of .result ≡ place (a .file) (a .block) =
     placed .place-of .ensures .0 ∙ wrapped-block (a .file) (a .block) hf hb in
     leaves-as _ _ _ _ _ _ _
-    (write-step (a .sizes) (a .embargoed) (a .recovering) (a .reported) (a .own) (lent (now (a .blocks)) (now (a .copies)) (now (a .held)) (now (a .dirty))) (a .client) (a .file) (a .block) (a .value)
-    ∙ when-accepted (writeTests (a .sizes) (a .embargoed) (a .recovering) (a .reported) (a .own) (a .client) (a .file) (a .block) (a .value)) (λ k. record { stores = lent (now (a .blocks)) (now (a .copies)) (now (a .held)) (now (a .dirty)); reply = Refused k })
+    (write-step (a .sizes) (a .embargoed) (a .recovering) (a .reported) (a .own) (a .takes) (a .full) (lent (now (a .blocks)) (now (a .copies)) (now (a .held)) (now (a .dirty))) (a .client) (a .file) (a .block) (a .value)
+    ∙ when-accepted (writeTests (a .sizes) (a .embargoed) (a .recovering) (a .reported) (a .own) (a .takes) (a .full) (a .client) (a .file) (a .block) (a .value)) (λ k. record { stores = lent (now (a .blocks)) (now (a .copies)) (now (a .held)) (now (a .dirty)); reply = Refused k })
     (afterWrite (a .own) (lent (now (a .blocks)) (now (a .copies)) (now (a .held)) (now (a .dirty))) (a .client) (a .file) (a .block) (a .value)) _
     (refusal .write-refusal .ensures (a .value))
     (test .if1 .left))
@@ -54,6 +54,12 @@ returns-2 c =
 
 element-write-blocks : tie.Need-element-write-blocks
 element-write-blocks c = omega (arith, c .before .before .before .before .before .before .place-of .ensures .1)
+
+element-write-held : tie.Need-element-write-held
+element-write-held c = omega (arith, c .before .before .before .before .before .before .before .cell-of .ensures .1)
+
+element-write-dirty : tie.Need-element-write-dirty
+element-write-dirty c = omega (arith, c .before .before .before .before .before .before .before .cell-of .ensures .1)
 
 pub write-block-spec : {M : Type 1} → statement M
 write-block-spec =
@@ -72,8 +78,8 @@ write-block-spec =
     (search needs)
     (search needs)
     (search needs)
-    (search needs)
-    (search needs)
+    element-write-held
+    element-write-dirty
     (search needs)
     element-write-blocks
     returns-2)

@@ -13,4 +13,5 @@ write-refusal-spec =
     (search needs)
     (search needs)
     (search needs)
+    (search needs)
     (λ c v. cc))

@@ -232,7 +232,7 @@ take-step-requires c κs =
 
 tell-step-requires : tie.Need-tell-step-requires Inv-loop μ-loop
 tell-step-requires c κs =
-    let taken = c .before .before .before .before .before .before .before .before .before .before in
+    let taken = c .before .before .before .before .before .before .before .before .before .before .before in
     let at = at-line (line-of taken) in
     let steps = taken .take-step .ensures in (
       permitted at,
@@ -248,7 +248,7 @@ tell-step-requires c κs =
 loop-again-2 : tie.Need-loop-again-2 Inv-loop μ-loop
 loop-again-2 c =
     let told = c .before .before .tell-step in
-    let taken = c .before .before .before .before .before .before .before .before .before .before .before .before .before in
+    let taken = c .before .before .before .before .before .before .before .before .before .before .before .before .before .before in
     let seen = taken .before .before .before .before .before .before .before .before .look in
     let kept = kept-of taken in
     let asked = kept .before .before .before .asked in
@@ -332,7 +332,7 @@ explain-lines-spec =
     look-requires
     take-step-requires
     tell-step-requires
-    (λ c. fewer-left (line-of (c .before .before .before .before .before .before .before .before .before .before .before .before .before)))
+    (λ c. fewer-left (line-of (c .before .before .before .before .before .before .before .before .before .before .before .before .before .before)))
     loop-again-2
     (λ c. kept-length (c .before .before))
     returns

@@ -13,7 +13,7 @@ returns c =
     let count = c .before .before in
     let put = count .before .before .before .before in
     let a = put .before .before .before .args in (
-      counted 10 (lit< tt) (blockEntries (a .sizes) (now (a .blocks))) (wide-blocks (a .sizes) (now (a .blocks))) (put .put-blocks .ensures .0) (count .put-count .ensures),
+      counted 10 (lit< tt) (blockEntries (a .sizes) (now (a .used)) (now (a .blocks))) (wide-blocks (a .sizes) (now (a .used)) (now (a .blocks))) (put .put-blocks .ensures .0) (count .put-count .ensures),
       omega (arith, put .put-blocks .ensures .1),
     )
 

@@ -8,11 +8,11 @@ use Rattle.image.proofs.sections.put_blocks.Statement.{statement}
 use Rattle.image.proofs.sections.put_blocks.Tie as tie
 
 abbrev Inv-loop : tie.InvT-loop
-Inv-loop out₀ at sizes blocks next₀ file₀ out next file =
-    Listing 80 (λ f. fileBlocks (sizes .blocks) f blocks) (sizes .files) out₀ at out next file
+Inv-loop out₀ at sizes used blocks next₀ file₀ out next file =
+    Listing 80 (λ f. fileBlocks (sizes .blocks) f used blocks) (sizes .files) out₀ at out next file
 
 abbrev μ-loop : tie.MeasureT-loop
-μ-loop out₀ at sizes blocks next₀ file₀ out next file = sizes .files - file
+μ-loop out₀ at sizes used blocks next₀ file₀ out next file = sizes .files - file
 
 put-file-blocks-requires : tie.Need-put-file-blocks-requires Inv-loop μ-loop
 put-file-blocks-requires c κs =

@@ -1,4 +1,4 @@
--- `put_image` meets its contract: the three sizes, and then the four sections. Assumes nothing.
+-- `put_image` meets its contract: the four sizes, and then the four sections. Assumes nothing.
 use native.Mathlib.Omega.{arith}
 use borrow.Author.Needs.{needs}
 use Rattle.writer.proofs.Buffers.{wrote-then}

@@ -13,7 +13,7 @@ returns c =
     let waiting = third .before .before in
     let first = waiting .before in
     let put = first .before .before in
-    let force = put .before .before .before .before .before .before .before .before in
+    let force = put .before .before .before .before .before .before .before .before .before .before in
     let start = force .before .before .before in
     let a = start .args in
     let outcome = refused (a .service) (now (a .out)) (force .in-force .result) (force .in-force .ensures .0) _ _ _ (put .put-image .ensures .0) _ _ _ _ (first .refused-if .ensures) (waiting .count-waiting .ensures) (third .before .refused-if2 .ensures) (third .refused-if3 .ensures) (c .if1 .taken) in
@@ -26,7 +26,7 @@ copy-requires c κs =
     let waiting = third .before .before in
     let first = waiting .before in
     let put = first .before .before in
-    let force = put .before .before .before .before .before .before .before .before in
+    let force = put .before .before .before .before .before .before .before .before .before .before in
     let a = force .before .before .before .args in (
       room (a .service) (now (a .out)) (force .in-force .result) (force .in-force .ensures .0) _ _ _ (put .put-image .ensures .0) _ _ _ _ (first .refused-if .ensures) (waiting .count-waiting .ensures) (third .before .refused-if2 .ensures) (third .refused-if3 .ensures) (test .if1 .left),
       omega (arith, put .put-image .ensures .1, put .put-image .kept .0),
@@ -40,7 +40,7 @@ returns-2 c =
     let waiting = third .before .before in
     let first = waiting .before in
     let put = first .before .before in
-    let force = put .before .before .before .before .before .before .before .before in
+    let force = put .before .before .before .before .before .before .before .before .before .before in
     let start = force .before .before .before in
     let a = start .args in
     let outcome = accepted (a .service) (now (a .out)) (force .in-force .result) (force .in-force .ensures .0) _ _ _ (put .put-image .ensures .0) _ _ _ _ (first .refused-if .ensures) (waiting .count-waiting .ensures) (third .before .refused-if2 .ensures) (third .refused-if3 .ensures) (test .if1 .left) (copied .copy .ensures) in

@@ -22,7 +22,12 @@ tell-spec =
     (search needs)
     (search needs)
     (search needs)
+    (search needs)
+    (search needs)
+    (search needs)
     slice-aggregate-write-all-2
+    (search needs)
+    (search needs)
     (search needs)
     (search needs)
     (search needs)

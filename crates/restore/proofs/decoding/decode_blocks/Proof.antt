@@ -17,7 +17,7 @@ returns c =
     c .take-blocks .ensures
     ∙ ap (λ x. placed putBlock (sectionIn 10 x) (replicate 512 0))
     (past-at 5 l (first .past-section .result) (second .past-section2 .result) (second .past-section2 .ensures .0)
-    ∙ ap (pastSection 5) (past-at 6 l 3 (first .past-section .result) (first .past-section .ensures .0)))
+    ∙ ap (pastSection 5) (past-at 6 l 5 (first .past-section .result) (first .past-section .ensures .0)))
 
 pub decode-blocks-spec : {M : Type 1} → statement M
 decode-blocks-spec = tie.close (tie.spec (search needs) (search needs) (search needs) returns)

@@ -21,7 +21,7 @@ returns c =
     (past-at 10 l (second .past-section2 .result) (third .past-section3 .result) (third .past-section3 .ensures .0)
     ∙ ap (pastSection 10)
     (past-at 5 l (first .past-section .result) (second .past-section2 .result) (second .past-section2 .ensures .0)
-    ∙ ap (pastSection 5) (past-at 6 l 3 (first .past-section .result) (first .past-section .ensures .0))))
+    ∙ ap (pastSection 5) (past-at 6 l 5 (first .past-section .result) (first .past-section .ensures .0))))
 
 pub decode-embargoes-spec : {M : Type 1} → statement M
 decode-embargoes-spec = tie.close (tie.spec (search needs) (search needs) (search needs) (search needs) returns)

@@ -17,10 +17,10 @@ returns c =
     let l = now (fresh .before .before .args .bytes) in
     c .take-opens .ensures
     ∙ ap (λ x. placed putOpen (sectionIn 5 x) (files .take-files .result))
-    (past-at 6 l 3 (past .past-section .result) (past .past-section .ensures .0))
+    (past-at 6 l 5 (past .past-section .result) (past .past-section .ensures .0))
     ∙ ap (placed putOpen (sectionIn 5 (opensPart l)))
     (files .take-files .ensures
-    ∙ ap (λ e. placed putFile (sectionIn 6 (drop 3 l)) (replicate 64 e)) (fresh .fresh .ensures))
+    ∙ ap (λ e. placed putFile (sectionIn 6 (drop 5 l)) (replicate 64 e)) (fresh .fresh .ensures))
 
 pub decode-files-spec : {M : Type 1} → statement M
 decode-files-spec = tie.close (tie.spec (search needs) (search needs) (search needs) (search needs) returns)

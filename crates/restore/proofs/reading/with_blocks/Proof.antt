@@ -7,7 +7,7 @@ use lib.ListN.{getD}
 use denote.Ref.{now}
 use Rattle.sizes.specs.Sizes.{place}
 use Rattle.decision.specs.Lists.{stored}
-use Rattle.restore.specs.Reading.{withBlocks}
+use Rattle.restore.specs.Reading.{withPlaces, withBlocks}
 use borrow.Author.Needs.{needs}
 use Rattle.restore.proofs.reading.with_blocks.Statement.{statement}
 use Rattle.restore.proofs.reading.with_blocks.Tie as tie
@@ -19,7 +19,7 @@ abbrev μ-loop : tie.MeasureT-loop
 μ-loop others sizes blocks₀ f₀ blocks f = sizes .files - f
 
 loop-holds : tie.Need-loop-holds Inv-loop μ-loop
-unfolding withBlocks
+unfolding withPlaces
 loop-holds c = (omega arith, refl)
 
 take-file-blocks-requires : tie.Need-take-file-blocks-requires Inv-loop μ-loop
@@ -29,7 +29,7 @@ take-file-blocks-requires c κs =
     (omega (arith, c .before .if1 .taken, pre .files), pre .blocks)
 
 loop-again : tie.Need-loop-again Inv-loop μ-loop
-unfolding withBlocks
+unfolding withPlaces
 loop-again c =
     let turn = c .before .before .before .before in
     let a = turn .before .args in

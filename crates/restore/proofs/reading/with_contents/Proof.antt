@@ -1,7 +1,10 @@
--- `with_contents` meets its contract: the versions, blocks and embargoes change, and all else stays. Assumes nothing.
+-- `with_contents` meets its contract: the versions, used blocks, free places, blocks and embargoes change, and all else
+-- stays. Assumes nothing.
+use Prim.Native.Nat.{_-_}
 use mathlib.Core.Path.{_∙_, ap}
 use denote.Ref.{now}
-use Rattle.restore.specs.Reading.{withVersions, withBlocks, withEmbargoes}
+use Rattle.service.specs.Space.{usedIn}
+use Rattle.restore.specs.Reading.{withVersions, withBlocks, withUsed, withEmbargoes}
 use borrow.Author.Needs.{needs}
 use Rattle.restore.proofs.reading.with_contents.Statement.{statement}
 use Rattle.restore.proofs.reading.with_contents.Tie as tie
@@ -10,7 +13,10 @@ returns : tie.Need-returns
 returns c =
     let embargoes = c .before in
     let versions = embargoes .before in
-    let force = versions .before .before .before .before .before .before .before .before .before .before .before in
+    let left = versions .before in
+    let counted = left .before in
+    let marked = counted .before .before in
+    let force = marked .before .before .before .before .before .before .before .before .before .before .before .before in
     let a = force .before .before .args in
     let s = a .service in
     let files =
@@ -19,6 +25,13 @@ returns c =
     let blocks =
     c .with-blocks .ensures
     ∙ ap (λ z. withBlocks (z .files) (z .blocks) (now (a .blocks)) (s .server .blocks)) (force .in-force .ensures .0) in
+    let used =
+    marked .with-used .ensures
+    ∙ ap (λ z. withUsed (z .files) (z .blocks) (now (a .used)) (s .server .used)) (force .in-force .ensures .0) in
+    let free =
+    left .places-left .ensures
+    ∙ ap (λ n. force .in-force .result .store - n) (counted .count-used .ensures)
+    ∙ (λ k. let z = force .in-force .ensures .0 k in z .store - usedIn z (used k)) in
     let embargoed =
     embargoes .with-embargoes .ensures
     ∙ ap (λ z. withEmbargoes (z .clients) (a .embargoed) (s .server .table .embargoed)) (force .in-force .ensures .0) in
@@ -35,6 +48,8 @@ returns c =
                   embargoed = embargoed k;
                 };
             blocks = blocks k;
+            used = used k;
+            free = free k;
           };
       clients = s .clients;
       copies = s .copies;
@@ -43,4 +58,14 @@ returns c =
     }
 
 pub with-contents-spec : {M : Type 1} → statement M
-with-contents-spec = tie.close (tie.spec (search needs) (search needs) (search needs) (search needs) returns)
+with-contents-spec =
+    tie.close
+    (tie.spec
+    (search needs)
+    (search needs)
+    (search needs)
+    (search needs)
+    (search needs)
+    (search needs)
+    (search needs)
+    returns)

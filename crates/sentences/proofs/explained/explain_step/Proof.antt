@@ -31,7 +31,8 @@ returns-3 c =
     let sentence : List ℕ → Reply → List ℕ =
     λ calls reply.
     saidOf (a .fresh)
-    (sceneHeld (a .sizes) (a .step) (now (a .before)) (now (a .table)) (now (a .flags)) (now (a .since)) (a .told) (a .caching))
+    (sceneHeld (a .sizes) (a .step) (now (a .before)) (now (a .table)) (now (a .flags)) (now (a .dirty)) (now (a .since))
+    (a .told) (a .caching))
     (wholeHeld (now (a .before)) (now (a .table)) (linesAt (entered (now (a .written)) (now (a .writers)) [] [])))
     (a .step) calls reply in (
       λ reply calls granted says called.

@@ -31,11 +31,8 @@ put-text-requires-3 c κs = search needs
 put-argument-requires-3 : tie.Need-put-argument-requires-3
 put-argument-requires-3 c κs = search needs
 
-slice-aggregate-put-text-4 : tie.Need-slice-aggregate-put-text-4
-slice-aggregate-put-text-4 c = search needs
-
-put-text-requires-4 : tie.Need-put-text-requires-4
-put-text-requires-4 c κs = search needs
+put-room-requires : tie.Need-put-room-requires
+put-room-requires c κs = search needs
 
 same-length : tie.Need-same-length
 same-length c = search needs
@@ -43,7 +40,7 @@ same-length c = search needs
 returns : tie.Need-returns
 returns c =
     let seventh = c .before .before in
-    let sixth = seventh .before .before .before .before .before in
+    let sixth = seventh .before .before .before .before in
     let fifth = sixth .before .before .before .before in
     let fourth = fifth .before .before .before .before .before in
     let third = fourth .before .before .before .before in
@@ -55,7 +52,7 @@ returns c =
           (wrote-then (fourth .put-argument2 .ensures .0)
           (wrote-then (fifth .put-text3 .ensures .0)
           (wrote-then (sixth .put-argument3 .ensures .0)
-          (seventh .put-text4 .ensures .0)))))),
+          (seventh .put-room .ensures .0)))))),
       search needs,
     )
 
@@ -72,7 +69,6 @@ put-sizes-spec =
     slice-aggregate-put-text-3
     put-text-requires-3
     put-argument-requires-3
-    slice-aggregate-put-text-4
-    put-text-requires-4
+    put-room-requires
     same-length
     returns)

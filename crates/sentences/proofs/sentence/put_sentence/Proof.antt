@@ -15,7 +15,7 @@ use Rattle.protocol.specs.Client.{sideOf}
 use Rattle.protocol.specs.Step.{clientOf, fileOf, blockOf, modeOf}
 use Rattle.words.specs.Rows.{entryHeld, sidesHeld}
 use Rattle.table.specs.TableStep.{isReported}
-use Rattle.service.specs.Lent.{reportedHeld}
+use Rattle.service.specs.Lent.{reportedHeld, usedHeld}
 use Rattle.ledger.specs.Ledger.{entered, linesAt}
 use Rattle.stepfile.specs.Text.{bytes}
 use Rattle.phrases.specs.Phrase.{modeByKind}
@@ -25,7 +25,7 @@ use Rattle.sentences.specs.Explained.{clashText, saidOf}
 use Rattle.writer.proofs.Buffers.{wrote-as, wrote-then}
 use Rattle.phrases.proofs.Names.{mode-named}
 use Rattle.sentences.proofs.Names.{client-named, file-named, block-named}
-use Rattle.sentences.proofs.Names.{grant-as, wait-as, read-as, refusal-as, answer-as}
+use Rattle.sentences.proofs.Names.{grant-as, wait-as, read-as, refused-as, answer-as}
 use Rattle.sentences.proofs.Names.{done-as, an-embargo, no-embargo, a-clash, no-clash}
 use Rattle.sentences.proofs.sentence.put_sentence.Statement.{statement}
 use Rattle.sentences.proofs.sentence.put_sentence.Tie as tie
@@ -72,7 +72,8 @@ module _ (c : tie.After-asked) where
   said r =
       let a = c .before .before .args in
       saidOf (a .fresh)
-      (sceneHeld (a .sizes) (a .step) (now (a .before)) (now (a .table)) (now (a .flags)) (now (a .since)) (a .told) (a .caching))
+      (sceneHeld (a .sizes) (a .step) (now (a .before)) (now (a .table)) (now (a .flags)) (now (a .dirty)) (now (a .since))
+      (a .told) (a .caching))
       whole (a .step) (a .calls) r
 
   -- of a report that clashes
@@ -228,14 +229,15 @@ returns-7 c =
     let asked = is .before .before in
     let a = asked .before .before .args in (
       wrote-as
-          (refusal-as (a .sizes) (a .step) (is .reply2 .given .0 .0) (flags .before .reported-in .ensures)
+          (refused-as (a .sizes) (a .step) (is .reply2 .given .0 .0) (usedHeld (now (a .flags))) (now (a .dirty))
+          (flags .before .reported-in .ensures)
           (flags .embargoed-in .ensures)
           (entry .entry-at2 .ensures ∙ entry-named asked)
           (ap (λ (f : ℕ). getD (now (a .since)) (f % maxFiles) 0) (file-is asked))
           (embargo .embargo-since2 .ensures ∙ embargo-named asked)
           ∙ no-clash (is .reply2 .given .0 .0) (clash asked) _ (ne-eqb _ 22 (other .if1 .left))
           ∙ ap (said asked) (sym (is .reply2 .given .1)))
-          (put .put-refusal .ensures .0),
+          (put .put-refused .ensures .0),
       search needs,
     )
 
@@ -330,9 +332,10 @@ put-clash-requires c κs =
     let pre = c .before .before .before .before .before .before .before .pre in
     (pre .0, (search needs, (pre .1 .1 .1 .0, pre .1 .1 .1 .1)))
 
-put-refusal-requires : tie.Need-put-refusal-requires
-put-refusal-requires c κs =
-    (c .before .before .before .before .before .before .before .before .before .before .before .before .pre .0 .clients, search needs)
+put-refused-requires : tie.Need-put-refused-requires
+put-refused-requires c κs =
+    let pre = c .before .before .before .before .before .before .before .before .before .before .before .before .pre in
+    (pre .0, (search needs, pre .1 .1 .1 .1))
 
 put-embargoed-requires : tie.Need-put-embargoed-requires
 put-embargoed-requires c κs =
@@ -381,7 +384,7 @@ put-sentence-spec =
     (λ c κs. tt)
     (search needs)
     (search needs)
-    put-refusal-requires
+    put-refused-requires
     (search needs)
     put-embargoed-requires
     (search needs)

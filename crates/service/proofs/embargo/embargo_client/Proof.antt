@@ -18,7 +18,7 @@ use Rattle.blocks.specs.Stores.{lent}
 use Rattle.words.specs.Rows.{entryHeld}
 use Rattle.sizes.proofs.InForce.{client-fits}
 use Rattle.service.specs.Lent.{recoveringHeld}
-use Rattle.service.proofs.EmbargoServing.{begun-sent, refused-serves, embargo-tested, embargo-there, embargo-serves}
+use Rattle.service.proofs.EmbargoServing.{begun-sent, refused-moves, embargo-tested, embargo-there, embargo-moves}
 use Rattle.service.proofs.embargo.embargo_client.Statement.{statement}
 use Rattle.service.proofs.embargo.embargo_client.Tie as tie
 
@@ -43,7 +43,7 @@ returns c blocks =
     let start = refusal .before .before .before .before in
     let a = start .args in
     let stores = lent blocks (now (a .copies)) (now (a .held)) (now (a .dirty)) in
-    refused-serves (a .sizes) (Embargo (a .client) (a .file)) (refusal .embargo-refusal .result) (now (a .table)) (now (a .flags))
+    refused-moves (a .sizes) (Embargo (a .client) (a .file)) (refusal .embargo-refusal .result) (now (a .table)) (now (a .flags))
     stores (now (a .words)) _ _
     (λ given.
     embargo-tested (a .sizes) given (now (a .table)) (now (a .flags)) stores (a .client) (a .file) (start .pre .0) ∙ number refusal)
@@ -98,7 +98,7 @@ returns-2 c blocks =
     let else = c .before .before .before .before .before .before in
     let start = else .before .before .before .before .before in
     let words = now (start .args .words) in
-    embargo-serves (start .pre .0) (now (start .args .flags)) (start .pre .1 .1 .0) (number (else .before) ∙ else .if1 .left)
+    embargo-moves (start .pre .0) (now (start .args .flags)) (start .pre .1 .1 .0) (number (else .before) ∙ else .if1 .left)
     (c .forget-files .ensures blocks words (0 ∷ []) (begun-sent words (words-some start)) refl) _ refl
 
 pub embargo-client-spec : {M : Type 1} → statement M

@@ -11,7 +11,7 @@ use Rattle.blocks.specs.Stores.{lent}
 use Rattle.sizes.proofs.InForce.{client-fits}
 use Rattle.service.specs.Contents.{embargoedAt}
 use Rattle.service.specs.Lent.{serviceHeld}
-use Rattle.service.proofs.EmbargoServing.{refused-serves, absent-lift, lift-tested, lift-serves}
+use Rattle.service.proofs.EmbargoServing.{refused-moves, absent-lift, lift-tested, lift-moves}
 use Rattle.service.proofs.embargo.lift_embargo.Statement.{statement}
 use Rattle.service.proofs.embargo.lift_embargo.Tie as tie
 
@@ -20,7 +20,7 @@ returns c blocks =
     let then = c .before .before in
     let a = then .before .before .args in
     let stores = lent blocks (now (a .copies)) (now (a .held)) (now (a .dirty)) in
-    refused-serves (a .sizes) (Lift (a .client)) 2 (now (a .table)) (now (a .flags)) stores (now (a .words)) _ _
+    refused-moves (a .sizes) (Lift (a .client)) 2 (now (a .table)) (now (a .flags)) stores (now (a .words)) _ _
     (λ given.
     absent-lift (a .sizes) (embargoedAt (serviceHeld given (now (a .table)) (now (a .flags)) stores) (a .client)) (a .client)
     (then .if1 .taken))
@@ -46,7 +46,7 @@ returns-2 c blocks =
     let else = then .before .before in
     let a = else .before .before .args in
     let stores = lent blocks (now (a .copies)) (now (a .held)) (now (a .dirty)) in
-    refused-serves (a .sizes) (Lift (a .client)) 21 (now (a .table)) (now (a .flags)) stores (now (a .words)) _ _
+    refused-moves (a .sizes) (Lift (a .client)) 21 (now (a .table)) (now (a .flags)) stores (now (a .words)) _ _
     (λ given.
     lift-tested (a .sizes) given (now (a .table)) (now (a .flags)) stores (a .client) (there else) (fits else)
     ∙ ap (λ b. cond b 21 0) (then .if2 .taken))
@@ -71,7 +71,7 @@ returns-3 c blocks =
     let under = drop .before .before .before .before .before in
     let else = under .before .before in
     let start = else .before .before in
-    lift-serves (start .pre .0) (there else) (drop .drop-files .ensures blocks) (now (start .args .flags)) _ (start .pre .1 .1 .0)
+    lift-moves (start .pre .0) (there else) (drop .drop-files .ensures blocks) (now (start .args .flags)) _ (start .pre .1 .1 .0)
     (under .if2 .left) (tell .tell .ensures) (now (start .args .words)) _ _ (c .say3 .ensures)
 
 pub lift-embargo-spec : {M : Type 1} → statement M

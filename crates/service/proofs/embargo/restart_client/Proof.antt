@@ -8,7 +8,7 @@ use denote.Ref.{now}
 use Rattle.protocol.specs.declared.step.Step.the-variants.{Restart}
 use Rattle.blocks.specs.Stores.{lent}
 use Rattle.sizes.proofs.InForce.{client-fits}
-use Rattle.service.proofs.EmbargoServing.{begun-none, refused-serves, absent-restart, restart-serves}
+use Rattle.service.proofs.EmbargoServing.{begun-none, refused-moves, absent-restart, restart-moves}
 use Rattle.service.proofs.embargo.restart_client.Statement.{statement}
 use Rattle.service.proofs.embargo.restart_client.Tie as tie
 
@@ -16,7 +16,7 @@ returns : tie.Need-returns
 returns c blocks =
     let then = c .before .before in
     let a = then .before .before .args in
-    refused-serves (a .sizes) (Restart (a .client)) 2 (now (a .table)) (now (a .flags))
+    refused-moves (a .sizes) (Restart (a .client)) 2 (now (a .table)) (now (a .flags))
     (lent blocks (now (a .copies)) (now (a .held)) (now (a .dirty))) (now (a .words)) _ _
     (λ given. absent-restart (a .sizes) (a .client) (then .if1 .taken)) refl
     (c .say .ensures)
@@ -67,7 +67,7 @@ returns-2 c blocks =
     let else = forget .before .before .before .before .before .before in
     let start = else .before .before in
     let words = now (start .args .words) in
-    restart-serves (start .pre .0) (there else) (forget .forget-files .ensures blocks words [] (begun-none words) refl)
+    restart-moves (start .pre .0) (there else) (forget .forget-files .ensures blocks words [] (begun-none words) refl)
     (drop .drop-files .ensures blocks) (now (start .args .flags)) _ (start .pre .1 .1 .0) (c .tell .ensures) _ refl
 
 pub restart-client-spec : {M : Type 1} → statement M

@@ -5,8 +5,10 @@ use Rattle.service.proofs.holding.held_service.Tie as tie
 
 returns : tie.Need-returns
 returns c =
-    let sides = c .before .before .before .before in
-    rw (sides .held-sides .ensures, sides .before .held-table .ensures)
+    let used = c .before in
+    let sides = used .before .before .before .before .before in
+    rw (used .held-used .ensures, sides .held-sides .ensures, sides .before .held-table .ensures)
 
 pub held-service-spec : {M : Type 1} → statement M
-held-service-spec = tie.close (tie.spec (search needs) (search needs) returns)
+held-service-spec =
+    tie.close (tie.spec (search needs) (search needs) (search needs) (search needs) returns)

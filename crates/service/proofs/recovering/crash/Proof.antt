@@ -1,6 +1,7 @@
 -- `crash` meets its contract. Assumes nothing.
+use mathlib.Core.Bool.{false}
 use denote.Ref.{now}
-use Rattle.service.proofs.Serving.{crash-serves}
+use Rattle.service.proofs.Serving.{crash-moves}
 use Rattle.service.proofs.recovering.crash.Statement.{statement}
 use Rattle.service.proofs.recovering.crash.Tie as tie
 
@@ -12,7 +13,7 @@ returns c =
     let start = of .before .before in
     let a = start .args in
     λ stores.
-    crash-serves (a .sizes) (now (a .table)) _ (now (a .flags)) _ (of .recovery-of .result) (crash .crash .result) stores
+    crash-moves false false (a .sizes) (now (a .table)) _ (now (a .flags)) _ (of .recovery-of .result) (crash .crash .result) stores
     (start .pre .0)
     (crash .crash .ensures)
     (of .recovery-of .ensures .0)
@@ -24,6 +25,7 @@ returns c =
     (c .put-recovery .ensures .1)
     (c .put-recovery .ensures .2)
     (c .put-recovery .ensures .3)
+    (c .put-recovery .ensures .4)
 
 pub crash-spec : {M : Type 1} → statement M
 crash-spec =

@@ -1,6 +1,7 @@
 -- `end` meets its contract. Assumes nothing.
+use mathlib.Core.Bool.{false}
 use denote.Ref.{now}
-use Rattle.service.proofs.Serving.{end-serves}
+use Rattle.service.proofs.Serving.{end-moves}
 use Rattle.service.proofs.recovering.end.Statement.{statement}
 use Rattle.service.proofs.recovering.end.Tie as tie
 
@@ -12,7 +13,7 @@ returns c =
     let start = of .before .before in
     let a = start .args in
     λ t stores.
-    end-serves (a .sizes) t (now (a .flags)) _ (of .recovery-of .result) (end .end .result) stores (c .number-in .result)
+    end-moves false false (a .sizes) t (now (a .flags)) _ (of .recovery-of .result) (end .end .result) stores (c .number-in .result) (start .pre .0)
     (end .end .ensures)
     (of .recovery-of .ensures .0)
     (of .recovery-of .ensures .1)
@@ -22,6 +23,7 @@ returns c =
     (put .put-recovery .ensures .1)
     (put .put-recovery .ensures .2)
     (put .put-recovery .ensures .3)
+    (put .put-recovery .ensures .4)
     (c .number-in .ensures)
 
 pub end-spec : {M : Type 1} → statement M

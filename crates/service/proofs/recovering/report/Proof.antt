@@ -1,6 +1,6 @@
 -- `report` meets its contract: refused by a test that looks at no row, refused since it clashes, or taken. Assumes nothing.
 use Prim.Native.Nat.{ℕ, _<_}
-use mathlib.Core.Path.{_≡_, sym, ap, _∙_, subst⁻¹}
+use mathlib.Core.Path.{_≡_, refl, sym, ap, _∙_, subst⁻¹}
 use mathlib.Core.Bool.{Bool, true, false}
 use native.Mathlib.Omega.{arith}
 use denote.Ref.{now}
@@ -11,9 +11,12 @@ use Rattle.protocol.specs.declared.reply.Reply.{Reply}
 use Rattle.protocol.specs.declared.reply.Reply.the-variants.{Refused}
 use Rattle.protocol.specs.Reply.{noCalls}
 use Rattle.protocol.specs.declared.step.Step.the-variants.{Report}
+use Rattle.blocks.specs.Stores.{lent}
 use Rattle.service.specs.Served.{replyNumbered, Serves}
-use Rattle.service.proofs.Serving.{clashHeld, refused-serves, report-serves}
+use Rattle.service.proofs.Serving.{clashHeld, refused-moves, report-moves}
+use Rattle.service.proofs.TableStoring.{report-refused, report-serves}
 use Rattle.service.proofs.Reporting.{clash-held, early-refused, clash-refused, report-taken, reporter-there}
+use Rattle.service.proofs.Reporting.{reporter-below, reporter-within}
 use borrow.Author.Needs.{needs}
 use Rattle.service.proofs.recovering.report.Statement.{statement}
 use Rattle.service.proofs.recovering.report.Tie as tie
@@ -51,12 +54,15 @@ returns c =
     let start = refusal .before .before .before .before in
     let a = start .args in
     let k = refusal .report-refusal .result in
-    λ stores.
+    λ blocks copies held.
+    let stores = lent blocks copies held (now (a .dirty)) in
     subst⁻¹ (λ (r : Reply). Serves (a .sizes) (Report (a .client)) (now (a .table)) (now (a .flags)) stores (now (a .table)) (now (a .flags)) stores r noCalls)
     (numbered k (c .if1 .taken))
-    (refused-serves (a .sizes) (a .client) (now (a .table)) (now (a .flags)) stores k (start .pre .1 .1)
+    (report-refused
+    (refused-moves false false (a .sizes) (a .client) (now (a .table)) (now (a .flags)) stores k (start .pre .0) (start .pre .1 .1)
     (early-refused (a .sizes) (start .pre .0) (a .client) (now (a .flags)) k (refusal .report-refusal .ensures)
     (clashHeld (a .sizes) (now (a .table)) (now (a .flags)) (a .client)) (c .if1 .taken)))
+    refl)
 
 returns-2 : tie.Need-returns-2
 returns-2 c =
@@ -65,25 +71,48 @@ returns-2 c =
     let refusal = else .before in
     let start = refusal .before .before .before .before in
     let a = start .args in
-    λ stores.
-    refused-serves (a .sizes) (a .client) (now (a .table)) (now (a .flags)) stores 22 (start .pre .1 .1)
+    λ blocks copies held.
+    report-refused
+    (refused-moves false false (a .sizes) (a .client) (now (a .table)) (now (a .flags)) (lent blocks copies held (now (a .dirty))) 22
+    (start .pre .0) (start .pre .1 .1)
     (clash-refused (a .sizes) (start .pre .0) (a .client) (now (a .flags)) (refusal .report-refusal .result)
     (refusal .report-refusal .ensures) (clashHeld (a .sizes) (now (a .table)) (now (a .flags)) (a .client)) (else .if1 .left)
-    (clashes clash true (lt-ltb (clash .clash-file .result) (a .sizes .files) (c .if2 .taken))))
+    (clashes clash true (lt-ltb (clash .clash-file .result) (a .sizes .files) (c .if2 .taken)))))
+    refl
 
 returns-3 : tie.Need-returns-3
 returns-3 c =
-    let clash = c .before .before .before .before in
+    let rows = c .before .before in
+    let anew = rows .before .before in
+    let else₂ = anew .before .before in
+    let clash = else₂ .before .before in
     let else = clash .before .before .before in
     let refusal = else .before in
     let start = refusal .before .before .before .before in
     let a = start .args in
-    λ stores.
-    report-serves (a .sizes) (a .client) (now (a .table)) _ (now (a .flags)) stores (start .pre .0) (there else) (start .pre .1 .1)
-    (report-taken (a .sizes) (start .pre .0) (a .client) (now (a .flags)) (refusal .report-refusal .result)
-    (refusal .report-refusal .ensures) (clashHeld (a .sizes) (now (a .table)) (now (a .flags)) (a .client)) (else .if1 .left)
-    (clashes clash false (le-ltb (clash .clash-file .result) (a .sizes .files) (c .before .before .if2 .left))))
-    (c .report-rows .ensures)
+    λ blocks copies held.
+    let stores = lent blocks copies held (now (a .dirty)) in
+    let is = refusal .report-refusal .ensures in
+    report-serves (start .pre .0) (start .pre .1 .0) (start .pre .1 .1)
+    (reporter-below (a .sizes) (start .pre .0) (a .client) (now (a .flags)) (refusal .report-refusal .result) is (else .if1 .left))
+    (reporter-within (a .sizes) (start .pre .0) (a .client) (now (a .flags)) (refusal .report-refusal .result) is (else .if1 .left))
+    refl
+    (report-moves false false (a .sizes) (a .client) (now (a .table)) _ (now (a .flags)) stores (start .pre .0) (there else) (start .pre .1 .1)
+    (report-taken (a .sizes) (start .pre .0) (a .client) (now (a .flags)) (refusal .report-refusal .result) is
+    (clashHeld (a .sizes) (now (a .table)) (now (a .flags)) (a .client)) (else .if1 .left)
+    (clashes clash false (le-ltb (clash .clash-file .result) (a .sizes .files) (else₂ .if2 .left))))
+    (rows .report-rows .ensures))
+    (anew .reserved-anew .result)
+    _
+    (anew .reserved-anew .ensures)
+    (c .recount .ensures)
+
+recount-requires : tie.Need-recount-requires
+recount-requires c κs =
+    let rows = c .before in
+    let else = rows .before .before .before .before .before .before .before .before .before in
+    let start = else .before .before .before .before .before in
+    (rows .report-rows .ensures .long ∙ start .pre .1 .0, (start .pre .0 .store, omega arith))
 
 pub report-spec : {M : Type 1} → statement M
 report-spec =
@@ -103,8 +132,13 @@ report-spec =
     (λ c κs.
     let else = c .before .before .before .before .before .before in
     let start = else .before .before .before .before .before in
+    (start .pre .0, (there else, start .pre .1 .1)))
+    (λ c κs.
+    let else = c .before .before .before .before .before .before .before .before in
+    let start = else .before .before .before .before .before in
     (start .pre .0, (there else, start .pre .1 .0)))
     (λ c.
-    let else = c .before .before .before .before .before .before .before in
+    let else = c .before .before .before .before .before .before .before .before .before in
     omega (arith, there else))
+    recount-requires
     returns-3)

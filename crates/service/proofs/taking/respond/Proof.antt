@@ -1,7 +1,7 @@
 -- `respond` meets its contract, kind by kind. Assumes nothing.
 use Prim.Native.Nat.{ℕ, _<_}
 use mathlib.Core.Path.{_≡_, refl, sym, ap, _∙_, subst⁻¹}
-use mathlib.Core.Bool.{Bool}
+use mathlib.Core.Bool.{Bool, false}
 use mathlib.Core.List.{List}
 use native.Mathlib.Omega.{arith}
 use denote.Ref.{now}
@@ -14,8 +14,9 @@ use Rattle.protocol.specs.Step.{stepAsked}
 use Rattle.blocks.specs.Stores.{Stores, lent}
 use Rattle.file.specs.declared.opening.Response.{Response}
 use Rattle.service.specs.Served.{replyNumbered, Serves}
-use Rattle.service.proofs.AskedKinds.{open-asked, close-asked, open-quiet, on-table}
-use Rattle.service.proofs.Serving.{file-serves, block-serves}
+use Rattle.service.proofs.AskedKinds.{open-asked, close-asked, on-table}
+use Rattle.service.proofs.Serving.{file-moves, block-moves}
+use Rattle.service.proofs.FileStoring.{close-serves, read-serves}
 use borrow.Author.Needs.{needs}
 use Rattle.service.proofs.taking.respond.Statement.{statement}
 use Rattle.service.proofs.taking.respond.Tie as tie
@@ -56,59 +57,49 @@ returns c =
     let start = match .before .before .before .before in
     let a = start .args in
     silently start (Read (a .client) (a .file) (a .block)) _ _ _ (c .silent .result) _ (rw (match .match .keys1)) (c .silent .ensures)
-    (block-serves (a .sizes) (Read (a .client) (a .file) (a .block)) (a .client) (a .file) (now (a .table)) (now (a .flags)) (stores start)
-    (side .side-of .result) _ _ _ _ _ refl (side .side-of .ensures) (read .read-block .ensures))
+    (read-serves (start .pre .0)
+    (block-moves false false (a .sizes) (Read (a .client) (a .file) (a .block)) (a .client) (a .file) (now (a .table)) (now (a .flags))
+    (stores start) (side .side-of .result) _ _ _ _ _ refl (side .side-of .ensures) (read .read-block .ensures false false)))
 
 returns-2 : tie.Need-returns-2
 returns-2 c =
     let write = c .before in
-    let side = write .before .before .before .before .before .before in
-    let match = side .before .before in
+    let match = write .before .before .before .before .before .before .before in
     let start = match .before .before .before .before in
     let a = start .args in
     silently start (Write (a .client) (a .file) (a .block) (a .value)) _ _ _ (c .silent2 .result) _ (rw (match .match .keys2))
-    (c .silent2 .ensures)
-    (block-serves (a .sizes) (Write (a .client) (a .file) (a .block) (a .value)) (a .client) (a .file) (now (a .table)) (now (a .flags))
-    (stores start) (side .side-of2 .result) _ _ _ _ _ refl (side .side-of2 .ensures) (write .write-block .ensures))
+    (c .silent2 .ensures) (write .write-file .ensures)
 
 -- a flush, an answer, an open and a close
 returns-3 : tie.Need-returns-3
 returns-3 c =
     let flush = c .before in
-    let match = flush .before .before .before .before .before in
+    let match = flush .before .before .before .before .before .before in
     let start = match .before .before .before .before in
     let a = start .args in
     silently start (Flush (a .client) (a .file) (a .block)) _ _ _ (c .silent3 .result) _ (rw (match .match .keys3)) (c .silent3 .ensures)
-    (file-serves (a .sizes) (Flush (a .client) (a .file) (a .block)) (a .file) (now (a .table)) _ (now (a .flags)) (stores start) _ _ _ _ _ _
-    refl (flush .flush .ensures (now (a .held))) (λ e. refl))
+    (flush .flush-file .ensures (now (a .held)))
 
 returns-4 : tie.Need-returns-4
 returns-4 c =
     let answer = c .before in
-    let match = answer .before .before .before .before .before .before in
+    let match = answer .before .before .before .before .before .before .before in
     let start = match .before .before .before .before in
     let a = start .args in
     silently start (Answer (a .client) (a .file)) _ _ _ (c .silent4 .result) _ (rw (match .match .keys4)) (c .silent4 .ensures)
-    (file-serves (a .sizes) (Answer (a .client) (a .file)) (a .file) (now (a .table)) _ (now (a .flags)) (stores start) _ _ _ _ _ _
-    refl (answer .answer .ensures) (λ e. refl))
+    (answer .answer-file .ensures)
 
 returns-5 : tie.Need-returns-5
 returns-5 c =
-    let then = c .before .before .before .before .before in
+    let then = c .before .before .before .before .before .before in
     let mode = then .before .before in
     let start = mode .before .before .before in
     let a = start .args in
-    let holds = c .«open» .ensures (now (a .blocks)) in
     let is : asked start ≡ Open (mode .mode-asked .result) (a .client) (a .file) =
     open-asked (a .kind) (a .client) (a .file) (a .block) (a .value) (then .if1 .taken)
     ∙ ap (λ (m : Mode). Open m (a .client) (a .file)) (sym (mode .mode-asked .ensures))
     in
-    asked-so start (Open (mode .mode-asked .result) (a .client) (a .file)) _ _ _ _ _ is
-    (file-serves (a .sizes) (Open (mode .mode-asked .result) (a .client) (a .file)) (a .file) (now (a .table)) _ (now (a .flags)) (stores start)
-    _ _ _ _ _ _ refl holds
-    (λ e.
-    holds .callsAfter
-    ∙ open-quiet (a .sizes) _ _ _ (stores start) (mode .mode-asked .result) (a .client) (a .file) (rw (holds .replyAfter) at e)))
+    asked-so start (Open (mode .mode-asked .result) (a .client) (a .file)) _ _ _ _ _ is (c .open-file .ensures (now (a .blocks)))
 
 returns-6 : tie.Need-returns-6
 returns-6 c =
@@ -122,15 +113,17 @@ returns-6 c =
     (close-asked (a .kind) (a .client) (a .file) (a .block) (a .value) (else .if1 .left) (then .if2 .taken)
     ∙ ap (λ (m : Mode). Close m (a .client) (a .file)) (sym (mode .mode-asked .ensures)))
     (c .silent5 .ensures)
-    (file-serves (a .sizes) (Close (mode .mode-asked .result) (a .client) (a .file)) (a .file) (now (a .table)) _ (now (a .flags)) (stores start)
-    _ _ _ _ _ _ refl (close .close .ensures (now (a .blocks)) (now (a .copies)) (now (a .held))) (λ e. refl))
+    (close-serves (start .pre .0)
+    (file-moves false false (a .sizes) (Close (mode .mode-asked .result) (a .client) (a .file)) (a .file) (now (a .table)) _ (now (a .flags))
+    (stores start) _ _ _ _ _ _ refl (close .close .ensures (now (a .blocks)) (now (a .copies)) (now (a .held))) (λ e. refl))
+    refl)
 
 -- a crash, a report and an end
 returns-7 : tie.Need-returns-7
 returns-7 c =
     let number = c .before in
     let step = number .before in
-    let else = step .before .before .before in
+    let else = step .before .before .before .before in
     let match = else .before .before in
     let start = match .before .before .before .before in
     let a = start .args in
@@ -138,11 +131,32 @@ returns-7 c =
     let past : 7 < a .kind = on-table (a .kind) (else .if2 .left) (no .0 .0 .0 .1) (no .0 .0 .1) (no .0 .1) (no .1) in
     silently start (asked start) _ _ _ (c .silent6 .result) (replyNumbered (step .step-table .result)) refl
     (c .silent6 .ensures ∙ ap (λ (r : Reply). record { reply = r; calls = noCalls }) (number .reply-numbered .ensures))
-    (step .step-table .ensures (a .file) (a .block) (a .value) (stores start) past (start .pre .1 .0))
+    (step .step-table .ensures (a .file) (a .block) (a .value) (now (a .blocks)) (now (a .copies)) (now (a .held)) past (start .pre .1 .0))
+
+-- what each callee needs
+write-file-requires : tie.Need-write-file-requires
+write-file-requires c κs =
+    let start = c .before .before .before .before .before .before .before .before .before .before in
+    (start .pre .0, (start .pre .1 .1 .0, start .pre .1 .1 .1))
+
+flush-file-requires : tie.Need-flush-file-requires
+flush-file-requires c κs =
+    let start = c .before .before .before .before .before .before .before .before .before in
+    (start .pre .0, (start .pre .1 .1 .0, start .pre .1 .1 .1))
+
+answer-file-requires : tie.Need-answer-file-requires
+answer-file-requires c κs =
+    let start = c .before .before .before .before .before .before .before .before .before .before in
+    (start .pre .0, (start .pre .1 .1 .0, start .pre .1 .1 .1))
+
+open-file-requires : tie.Need-open-file-requires
+open-file-requires c κs =
+    let start = c .before .before .before .before .before .before .before .before .before .before in
+    (start .pre .0, (start .pre .1 .1 .0, start .pre .1 .1 .1))
 
 step-table-requires : tie.Need-step-table-requires
 step-table-requires c κs =
-    let start = c .before .before .before .before .before .before .before .before in
+    let start = c .before .before .before .before .before .before .before .before .before in
     (start .pre .0, (start .pre .1 .1 .0, start .pre .1 .1 .1))
 
 pub respond-spec : {M : Type 1} → statement M
@@ -162,20 +176,13 @@ respond-spec =
     (search needs)
     (λ c κs. c .before .before .before .before .before .before .before .before .before .before .before .pre .0)
     (λ c κs. tt)
-    (λ c. omega arith)
-    (λ c. omega arith)
-    (λ c. omega arith)
-    (λ c. omega arith)
-    (search needs)
+    write-file-requires
     (λ c κs. tt)
-    (search needs)
-    (λ c κs. c .before .before .before .before .before .before .before .before .before .before .before .pre .0)
+    flush-file-requires
     (λ c κs. tt)
-    (search needs)
+    answer-file-requires
     (λ c κs. tt)
-    (search needs)
-    (λ c κs. tt)
-    (search needs)
+    open-file-requires
     (search needs)
     (λ c κs. tt)
     step-table-requires

@@ -4,7 +4,7 @@ mod options;
 
 use std::process::{Command, ExitCode};
 
-use model::check::{Breach, Cuts, Demand3, Difference, Tally, shown};
+use model::check::{Breach, Cuts, Demand3, Difference, PlacesCheck, PlacesMet, Tally, shown};
 use model::generate::{FileKind, step_file};
 use model::{Document01, process, replay, verdict};
 use options::Options;
@@ -24,6 +24,7 @@ fn main() -> ExitCode {
 #[derive(Default)]
 struct Compared {
     tally: Tally,
+    places: PlacesMet,
     files: usize,
     cut_short: usize,
 }
@@ -36,8 +37,8 @@ fn compare_all(options: &Options) -> Result<String, String> {
             compare(options, kind, seed, &mut compared)?;
         }
     }
-    let Compared { tally, files, cut_short } = compared;
-    Ok(format!("{tally}\nfiles compared {files}, and {cut_short} times one of them cut short\nno difference"))
+    let Compared { tally, places, files, cut_short } = compared;
+    Ok(format!("{tally}\n{places}\nfiles compared {files}, and {cut_short} times one of them cut short\nno difference"))
 }
 
 fn compare(options: &Options, kind: FileKind, seed: u64, compared: &mut Compared) -> Result<(), String> {
@@ -45,10 +46,16 @@ fn compare(options: &Options, kind: FileKind, seed: u64, compared: &mut Compared
     let input = step_file(kind, seed, options.lines);
     let mut demand3 = Demand3::default();
     let mut cuts = Cuts::default();
-    let expected = replay::<Document01>(&input, &mut (&mut compared.tally, (&mut demand3, &mut cuts)));
+    let mut places = PlacesCheck::default();
+    let mut beside = (&mut compared.tally, (&mut demand3, (&mut places, &mut cuts)));
+    let expected = replay::<Document01>(&input, &mut beside);
     if let Some(breach) = demand3.breach() {
         return Err(format!("the model breaks Demand 3: {name}: {}", told(breach)));
     }
+    if let Some(breach) = places.breach() {
+        return Err(format!("the model's places do not add up: {name}: {breach:?}"));
+    }
+    compared.places.add(places.met());
     compare_with_player(options, &name, seed, &input, &expected)?;
     compared.files += 1;
     for beginning in cuts.of(&input) {

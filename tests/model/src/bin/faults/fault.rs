@@ -1,6 +1,6 @@
 //! What a fault is, and how one is written: a rule of the model replaced, or the text changed on its way in or out.
 
-use model::check::{Demand3, Witness};
+use model::check::Witness;
 use model::{Document01, Service, replay_from};
 
 pub struct Fault {
@@ -20,12 +20,12 @@ pub enum Wrong {
 }
 
 impl Fault {
-    /// Plays a step file wrongly, from this service and with Demand 3 as the witness.
-    pub fn play_from(&self, service: &mut Service, input: &[u8], demand3: &mut Demand3) -> Vec<u8> {
+    /// Plays a step file wrongly, from this service and with this witness.
+    pub fn play_from(&self, service: &mut Service, input: &[u8], witness: &mut dyn Witness) -> Vec<u8> {
         match self.wrong {
-            Wrong::Rules(play) => play(service, input, demand3),
-            Wrong::Text(taken) => replay_from::<Document01>(service, &taken(input), demand3),
-            Wrong::Said(said) => said(&replay_from::<Document01>(service, input, demand3)),
+            Wrong::Rules(play) => play(service, input, witness),
+            Wrong::Text(taken) => replay_from::<Document01>(service, &taken(input), witness),
+            Wrong::Said(said) => said(&replay_from::<Document01>(service, input, witness)),
         }
     }
 }

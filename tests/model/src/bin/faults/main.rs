@@ -14,6 +14,7 @@ mod embargo;
 mod fault;
 mod lines;
 mod opening;
+mod places;
 mod recovery;
 mod restart;
 mod said;
@@ -28,7 +29,6 @@ use std::process::ExitCode;
 
 use fault::Fault;
 use model::Service;
-use model::check::Demand3;
 use trial::{Sample, Trial};
 
 /// Those that are tried on step files.
@@ -44,6 +44,7 @@ fn all_faults() -> impl Iterator<Item = &'static Fault> {
         recovery::FAULTS,
         restart::FAULTS,
         embargo::FAULTS,
+        places::FAULTS,
         door::FAULTS,
         lines::FAULTS,
         settings::FAULTS,
@@ -86,7 +87,7 @@ fn play(name: &str) -> ExitCode {
     };
     let mut input = Vec::new();
     let read = stdin().read_to_end(&mut input);
-    let output = fault.play_from(&mut Service::fresh(), &input, &mut Demand3::default());
+    let output = fault.play_from(&mut Service::fresh(), &input, &mut ());
     match read.and_then(|_| stdout().write_all(&output)) {
         Ok(()) => ExitCode::SUCCESS,
         Err(error) => {

@@ -1,8 +1,8 @@
 //! Faults of the settings: lines SET that are taken wrongly, and rules that go by other sizes.
 
 use model::{
-    Admission, BLOCKS, CLIENTS, ClientFile, ClientSet, FILES, Grant, Kind, Mode, Outcome, Refusal, Service, Settings,
-    Sizes,
+    Admission, BLOCKS, CLIENTS, ClientFile, ClientSet, FILES, Grant, Kind, Mode, Outcome, PLACES, Refusal, Service,
+    Settings, Sizes,
 };
 
 use crate::door::sparing;
@@ -22,6 +22,7 @@ fn set_changed(service: &mut Service, settings: Settings, change: impl Fn(u64, u
         clients: change(settings.clients, CLIENTS as u64, usual.clients),
         files: change(settings.files, FILES as u64, usual.files),
         blocks: change(settings.blocks, BLOCKS as u64, usual.blocks),
+        ..settings
     })
 }
 
@@ -126,12 +127,53 @@ rule_faults! {
     }
     files_and_blocks_exchanged {
         fn set(service: &mut Service, settings: Settings) -> Outcome {
-            let Settings { clients, files, blocks } = settings;
             let outcome = service.set(settings);
             if outcome == Outcome::Done {
-                service.settings = Settings { clients, files: blocks, blocks: files };
+                service.settings = Settings { files: settings.blocks, blocks: settings.files, ..settings };
             }
             outcome
+        }
+    }
+
+    // The size of the store (document 02, Wish 13).
+    store_setting_answered_but_not_taken {
+        fn set(service: &mut Service, settings: Settings) -> Outcome {
+            let outcome = service.set(settings);
+            service.settings.store = PLACES as u64;
+            outcome
+        }
+    }
+    store_of_0_refused {
+        fn set(service: &mut Service, settings: Settings) -> Outcome {
+            if settings.store == 0 { OUT_OF_RANGE } else { service.set(settings) }
+        }
+    }
+    store_of_0_taken_as_not_given {
+        fn set(service: &mut Service, settings: Settings) -> Outcome {
+            service.set(Settings { store: if settings.store == 0 { PLACES as u64 } else { settings.store }, ..settings })
+        }
+    }
+    store_too_large_taken_as_the_largest {
+        fn set(service: &mut Service, settings: Settings) -> Outcome {
+            service.set(Settings { store: settings.store.min(PLACES as u64), ..settings })
+        }
+    }
+    store_cut_to_8_bits {
+        fn set(service: &mut Service, settings: Settings) -> Outcome {
+            service.set(Settings { store: settings.store & u64::from(u8::MAX), ..settings })
+        }
+    }
+    store_cut_to_the_blocks_that_there_are {
+        fn set(service: &mut Service, settings: Settings) -> Outcome {
+            let outcome = service.set(settings);
+            let Sizes { files, blocks, .. } = service.sizes();
+            service.settings.store = service.settings.store.min((files * blocks - 1) as u64);
+            outcome
+        }
+    }
+    four_settings_are_no_step {
+        fn set(service: &mut Service, settings: Settings) -> Outcome {
+            if settings.store == Settings::NOT_GIVEN.store { service.set(settings) } else { NOT_A_STEP }
         }
     }
 

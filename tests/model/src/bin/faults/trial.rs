@@ -2,7 +2,7 @@
 
 use std::fmt;
 
-use model::check::{Breach, Cuts, Demand3, Difference};
+use model::check::{Breach, Cuts, Demand3, Difference, PlacesBreach, PlacesCheck};
 use model::generate::{FileKind, hand_made_recovery, step_file};
 use model::{Document01, Service, replay, replay_from};
 
@@ -25,6 +25,8 @@ pub struct Sample {
     made: Option<Box<Service>>,
     input: Vec<u8>,
     output: Vec<u8>,
+    /// Whether the sum of the places is looked at.
+    counts_places: bool,
 }
 
 impl Sample {
@@ -36,7 +38,7 @@ impl Sample {
         let recovery = |seed| {
             let (made, input) = hand_made_recovery(seed, STEPS);
             let output = replay_from::<Document01>(&mut made.clone(), &input, &mut ());
-            Sample { kind: "recovery", seed, made: Some(Box::new(made)), input, output }
+            Sample { kind: "recovery", seed, made: Some(Box::new(made)), input, output, counts_places: false }
         };
         (0..RECOVERIES).map(recovery).collect()
     }
@@ -53,9 +55,11 @@ impl Sample {
             made: None,
             input: input.to_vec(),
             output: replay::<Document01>(input, &mut ()),
+            counts_places: false,
         });
         let mut samples: Vec<Sample> = beginnings.collect();
-        samples.insert(0, Sample { kind, seed, made: None, input: whole, output });
+        let counts_places = kind == FileKind::Space.name();
+        samples.insert(0, Sample { kind, seed, made: None, input: whole, output, counts_places });
         samples
     }
 
@@ -69,21 +73,28 @@ pub struct Trial<'a> {
     /// Plays up to the first difference, and that difference.
     difference: Option<(usize, &'a Sample, Difference)>,
     breach: Option<Breach>,
+    places: Option<PlacesBreach>,
 }
 
 impl<'a> Trial<'a> {
     pub fn of(fault: &'a Fault, samples: &'a [Sample]) -> Self {
-        let mut trial = Trial { fault, difference: None, breach: None };
+        let mut trial = Trial { fault, difference: None, breach: None, places: None };
         for (before, sample) in samples.iter().enumerate() {
-            let mut demand3 = Demand3::default();
-            let output = fault.play_from(&mut sample.start(), &sample.input, &mut demand3);
+            let (mut demand3, mut places) = (Demand3::default(), PlacesCheck::default());
+            let mut start = sample.start();
+            let output = if sample.counts_places && trial.places.is_none() {
+                fault.play_from(&mut start, &sample.input, &mut (&mut demand3, &mut places))
+            } else {
+                fault.play_from(&mut start, &sample.input, &mut demand3)
+            };
             if trial.difference.is_none() {
                 trial.difference =
                     Difference::between(&sample.output, &output).map(|found| (before + 1, sample, found));
             }
-            // Demand 3 is for runs from a fresh service.
+            // Demand 3 and the sum of the places are for runs from a fresh service.
             let made = sample.made.is_some();
             trial.breach = trial.breach.or(demand3.breach().cloned().filter(|_| !made));
+            trial.places = trial.places.or(places.breach().cloned().filter(|_| !made));
             if trial.difference.is_some() && (made || trial.breach.is_some()) {
                 break;
             }
@@ -110,6 +121,19 @@ impl<'a> Trial<'a> {
     }
 }
 
+impl Trial<'_> {
+    fn places(&self) -> &'static str {
+        match self.places {
+            None => "no",
+            Some(PlacesBreach::Sum { .. }) => "by the sum",
+            Some(PlacesBreach::Used { .. }) => "by the used blocks",
+            Some(PlacesBreach::NotZero { .. }) => "by a block that is not zero",
+            Some(PlacesBreach::Refused { .. }) => "by a refusal",
+            Some(PlacesBreach::Accepted { .. }) => "by a write",
+        }
+    }
+}
+
 impl fmt::Display for Trial<'_> {
     fn fmt(&self, out: &mut fmt::Formatter) -> fmt::Result {
         let Fault { name, unseen, .. } = self.fault;
@@ -119,7 +143,8 @@ impl fmt::Display for Trial<'_> {
                 let (right, wrong) = (line(&difference.expected), line(&difference.actual));
                 let (kind, seed) = (sample.kind, sample.seed);
                 write!(out, "{name}: found in play {plays} ({kind} seed {seed} line {}), ", difference.line)?;
-                write!(out, "right {right} wrong {wrong}; seen by Demand 3: {}", self.demand3())
+                write!(out, "right {right} wrong {wrong}; seen by Demand 3: {}", self.demand3())?;
+                write!(out, "; by the places: {}", self.places())
             }
             (None, Some(reason)) => write!(out, "{name}: cannot be found: {reason}"),
             (None, None) => write!(out, "{name}: NOT FOUND"),

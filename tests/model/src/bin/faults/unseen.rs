@@ -208,6 +208,7 @@ rule_faults! {
     crash_reaches_past_the_settings("what lies there is as a crash would leave it") {
         fn crash(service: &mut Service) {
             service.server.crash(Sizes::LARGEST);
+            service.server.free_but_used(service.sizes());
         }
     }
 }

@@ -5,7 +5,7 @@ use std::ops::Range;
 use std::process::Command;
 
 use model::images::{ByteString, Judge, LONGEST_INPUT, Request, Sort, is_written, strings};
-use model::process;
+use model::{Settings, process};
 
 /// What has been compared so far.
 #[derive(Default)]
@@ -106,9 +106,10 @@ pub fn first_difference(group: &[ByteString], mut one: Judge, mut other: Judge) 
 }
 
 pub fn located(at: usize, string: &ByteString) -> String {
-    let Request { sizes: [clients, files, blocks], before, bytes } = &string.request;
+    let Request { before, bytes, .. } = &string.request;
+    let Settings { clients, files, blocks, store } = string.request.settings();
     let sort = string.sort.name();
-    format!("string {} ({sort}), sizes {clients} {files} {blocks}, before {before}: {}", at + 1, shown(bytes))
+    format!("string {} ({sort}), sizes {clients} {files} {blocks} {store}, before {before}: {}", at + 1, shown(bytes))
 }
 
 /// Bytes in decimal, cut to a readable length.

@@ -1,7 +1,7 @@
 //! Deliberate faults of a judge, each named for the wrong answer it gives, and whether the strings find it.
 
 use model::images::{ByteString, Judge, Sections, strings};
-use model::{Client, ClientFile, ClientSet, Entry, Record, Refusal, Service, Settings};
+use model::{BLOCKS, Client, ClientFile, ClientSet, Entry, Record, Refusal, Service, Settings, Sizes};
 
 use crate::compare::{first_difference, located};
 use crate::wrong::{Fault, Wrong};
@@ -17,7 +17,10 @@ macro_rules! faults {
 
 faults! {
     // Strings that are no images. The checks of the first group are all that there are.
-    other_sizes_accepted: Accepts(|sizes, image| image.front == [sizes.clients, sizes.files, sizes.blocks].map(low));
+    other_sizes_accepted: Accepts(|sizes, image| {
+        image.front.len() < 3 || image.front[..3] == [sizes.clients, sizes.files, sizes.blocks].map(low)
+    });
+    other_store_accepted: Accepts(|sizes, image| image.front.len() < 5 || image.front[3..] == store(sizes));
     missing_bytes_accepted: Accepts(|_, image| !image.cut_short);
     bytes_left_over_accepted: Accepts(|_, image| image.cut_short || image.rest.is_empty());
     file_out_of_range_accepted: Accepts(|sizes, image| image.files().all(|(file, ..)| file < low(sizes.files)));
@@ -48,7 +51,6 @@ faults! {
         image.blocks().all(|(file, ..)| file < low(sizes.files))
     });
     block_out_of_range_accepted: Accepts(|sizes, image| image.blocks().all(|(_, block, _)| block < low(sizes.blocks)));
-    zero_block_accepted: Accepts(|_, image| image.blocks().all(|(.., value)| value != 0));
     block_twice_accepted: Accepts(|_, image| {
         pairs(image.blocks(), |one, next| (one.0, one.1) != (next.0, next.1))
     });
@@ -99,6 +101,9 @@ faults! {
     embargo_of_a_last_writer_refused: Refuses(|_, image| {
         image.embargoes().all(|embargoed| image.files().all(|(.., last_writer)| last_writer != embargoed))
     });
+    zero_block_refused: Refuses(|_, image| image.blocks().all(|(.., value)| value != 0));
+    more_used_blocks_than_the_store_refused: Refuses(|sizes, image| image.blocks().count() <= sizes.store);
+    store_of_0_refused: Refuses(|sizes, _| sizes.store > 0);
     more_than_255_entries_refused: Refuses(|_, image| image.entries.iter().all(|entries| entries.len() < 256));
 
     // Fields taken wrongly.
@@ -139,6 +144,32 @@ faults! {
         }
         bytes
     });
+    store_high_byte_first: Bytes(|_, bytes| {
+        let mut bytes = bytes.to_vec();
+        if let Some(store) = bytes.get_mut(3..5) {
+            store.reverse();
+        }
+        bytes
+    });
+    store_of_one_byte: Bytes(|sizes, bytes| {
+        let mut bytes = bytes.to_vec();
+        if let Some(high) = bytes.get_mut(4) {
+            *high = store(sizes)[1];
+        }
+        bytes
+    });
+    store_missing_accepted: Bytes(|sizes, bytes| {
+        let mut bytes = bytes.to_vec();
+        bytes.splice(3.min(bytes.len())..3.min(bytes.len()), store(sizes));
+        bytes
+    });
+    store_above_512_taken_as_512: Bytes(|sizes, bytes| {
+        let mut bytes = bytes.to_vec();
+        if sizes.store == 512 && bytes.len() > 4 && bytes[4] >= 2 {
+            bytes[3..5].copy_from_slice(&[0, 2]);
+        }
+        bytes
+    });
 
     // What an accepted reading does.
     versions_not_taken: Taken(|before, _, service| {
@@ -164,10 +195,38 @@ faults! {
     });
     block_not_listed_stays: Taken(|before, _, service| {
         on_files(service, |file, entry| {
-            for (block, value) in entry.blocks.iter_mut().enumerate().filter(|(_, value)| **value == 0) {
-                *value = before.server.entries[file].blocks[block];
+            let before = &before.server.entries[file];
+            for block in (0..BLOCKS).filter(|&block| !entry.used[block]).collect::<Vec<_>>() {
+                (entry.blocks[block], entry.used[block]) = (before.blocks[block], before.used[block]);
             }
         });
+    });
+    used_blocks_not_taken: Taken(|before, _, service| {
+        on_files(service, |file, entry| entry.used = before.server.entries[file].used);
+    });
+    used_blocks_stay_used: Taken(|before, _, service| {
+        on_files(service, |file, entry| {
+            for (used, before) in entry.used.iter_mut().zip(before.server.entries[file].used) {
+                *used |= before;
+            }
+        });
+    });
+    zero_blocks_not_used: Taken(|_, _, service| {
+        on_files(service, |_, entry| {
+            for (used, value) in entry.used.iter_mut().zip(entry.blocks) {
+                *used &= value != 0;
+            }
+        });
+    });
+    free_kept_by_the_reading: Taken(|before, _, service| service.server.free = before.server.free);
+    all_free_after_the_reading: Taken(|_, _, service| service.server.free = service.sizes().store);
+    free_by_the_blocks_that_are_not_zero: Taken(|_, image, service| {
+        let taken = image.blocks().filter(|(.., value)| *value != 0).count();
+        service.server.free = service.sizes().store.saturating_sub(taken);
+    });
+    free_below_0_taken_for_all: Taken(|_, image, service| {
+        let store = service.sizes().store;
+        service.server.free = store.checked_sub(image.blocks().count()).unwrap_or(store);
     });
     opens_taken_from_the_image: Taken(|_, image, service| {
         let taken = image.service(service.sizes());
@@ -231,16 +290,34 @@ faults! {
         let taken = image.service(service.sizes());
         on_files(service, |file, entry| entry.version = taken.server.entries[file].version);
     });
+    refused_reading_resets_free: Refused(|_, service| service.server.free_but_used(service.sizes()));
+    refused_reading_takes_used_blocks: Refused(|image, service| {
+        let taken = image.service(service.sizes());
+        on_files(service, |file, entry| entry.used = taken.server.entries[file].used);
+    });
     refused_reading_takes_blocks: Refused(|image, service| {
         let taken = image.service(service.sizes());
         on_files(service, |file, entry| entry.blocks = taken.server.entries[file].blocks);
     });
 
     // What is written.
+    zero_blocks_not_written: Written(|image| image.entries[2].retain(|entry| entry[2..] != [0; 8]));
+    store_not_written: Written(|image| image.front.truncate(3));
+    store_written_high_byte_first: Written(|image| image.front[3..].reverse());
+    store_of_512_written_as_not_given: Written(|image| {
+        if image.front[3..] == [0, 2] {
+            image.front[3..].fill(0);
+        }
+    });
     embargoes_not_written: Written(|image| image.entries[3].clear());
     embargoes_written_descending: Written(|image| image.entries[3].reverse());
     first_embargo_written_alone: Written(|image| image.entries[3].truncate(1));
     embargoes_written_before_the_blocks: Written(|image| image.entries.swap(2, 3));
+}
+
+/// As an image has it.
+fn store(sizes: Sizes) -> [u8; 2] {
+    (sizes.store as u16).to_le_bytes()
 }
 
 fn low(size: usize) -> u8 {

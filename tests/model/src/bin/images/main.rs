@@ -8,18 +8,20 @@
 //! Its standard input has at most 65,536 bytes; `images` starts it as often as needed. They are strings in a row, each
 //!
 //! ```text
-//! clients files blocks before low high   and then   low + 256 * high   bytes: the string, of at most 8,192
+//! clients files blocks store (two bytes, low first) before low high
+//!   and then   low + 256 * high   bytes: the string, of at most 8,192
 //! ```
 //!
-//! The first three are the sizes of the service that reads, each in its range. The judge keeps one service. For the
-//! first string, and when the three sizes are not those of the string before, it makes a fresh one of these sizes and
+//! The first four are the sizes of the service that reads, each in its range. The judge keeps one service. For the
+//! first string, and when the four sizes are not those of the string before, it makes a fresh one of these sizes and
 //! takes these steps, whatever is answered, with `f` for `files - 1`:
 //!
 //! ```text
 //! OW 0 0    WR 0 0 0 1    OW 0 f    WR 0 f 0 2    CW 0 f
 //! ```
 //!
-//! So client 0 has one file open and another closed and dirty, and its reports bring something back. For each string it
+//! So client 0 has one file open and another closed and dirty, if the store has the places, and its reports bring
+//! something back. For each string it
 //! does the following, in this order and whatever is answered:
 //!
 //! 1. The steps before the string: none if `before` is 0; `XX`, `RP 0` if it is 1, so that the reading meets a
@@ -27,13 +29,14 @@
 //! 2. The string is read as an image.
 //! 3. The files in force are counted whose state, by the table as it is now, is not CLOSED.
 //! 4. `RP 0`, `RP 1` and so on for each client in force, then `EN`.
-//! 5. The image is written, into a buffer of at least 8,083 bytes.
+//! 5. The free places are read, and the image is written, into a buffer of at least 8,085 bytes.
 //!
 //! Its standard output has, for each string,
 //!
 //! ```text
 //! '1' if the string was accepted, '0' if it was refused    one byte, 49 or 48
 //! the number of files that are not CLOSED                  one byte
+//! the free places                                          two bytes, low first
 //! the length of the image and the image                    two bytes, low first, and so many
 //!   or, if writing was refused, 0 0 and the refusal        three bytes
 //! ```

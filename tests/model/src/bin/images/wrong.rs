@@ -76,10 +76,11 @@ impl Fault {
 fn take(sections: &Sections, service: &mut Service) {
     let sizes = service.sizes();
     let image = sections.service(sizes);
-    service.server.crash(sizes);
     service.server.set_embargoes(sizes, image.server.embargoed);
     for (entry, taken) in service.server.entries[..sizes.files].iter_mut().zip(&image.server.entries) {
         entry.version = taken.version;
         entry.blocks[..sizes.blocks].copy_from_slice(&taken.blocks[..sizes.blocks]);
+        entry.used[..sizes.blocks].copy_from_slice(&taken.used[..sizes.blocks]);
     }
+    service.server.crash(sizes);
 }

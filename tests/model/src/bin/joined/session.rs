@@ -26,13 +26,17 @@ pub struct Session {
 
 impl Session {
     pub fn of(seed: u64, lines: usize) -> Self {
-        let kind = [FileKind::Session, FileKind::Embargo, FileKind::Hot, FileKind::Wide][seed as usize % 4];
+        // None of these files ends without its LF.
+        let kind = match seed % 8 {
+            4 | 6 => FileKind::Space,
+            seed => [FileKind::Session, FileKind::Embargo, FileKind::Hot, FileKind::Wide][seed as usize % 4],
+        };
         let begun = step_file(kind, seed, lines);
         let mut service = Service::fresh();
         replay_from::<Document01>(&mut service, &begun, &mut ());
         let image_begun = written(&service).ok();
         let mut closing = closing_time(&mut service);
-        if kind == FileKind::Embargo {
+        if matches!(kind, FileKind::Embargo | FileKind::Space) {
             closing.extend(leaving_embargoes(&mut service, seed));
         }
         let image = written(&service).expect("no open waits, and no recovery is under way");

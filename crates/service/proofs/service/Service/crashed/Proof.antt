@@ -2,7 +2,6 @@
 use mathlib.Core.Path.{_∙_}
 use mathlib.Core.List.{[]}
 use native.Mathlib.Omega.{arith}
-use Rattle.blocks.specs.Stores.{lent}
 use Rattle.service.proofs.Agreeing.{held-crash}
 use borrow.Author.Needs.{needs}
 use Rattle.service.proofs.service.Service.crashed.Statement.{statement}
@@ -11,11 +10,11 @@ use Rattle.service.proofs.service.Service.crashed.Tie as tie
 returns : tie.Need-returns
 returns c =
     let crash = c .before .before .before .before .before .before .before in
-    let force = crash .before .before .before in
+    let force = crash .before .before .before .before in
     let hold = force .before in
     let a = hold .before .before .before .before .before .before .before .before .args in
     held-crash (a .self .sizes) (a .self) (c .held-service .result)
-    (crash .step-table .ensures 0 0 0 _ (omega arith) (omega arith))
+    (crash .step-table .ensures 0 0 0 _ _ _ (omega arith) (omega arith))
     (force .in-force .ensures .0)
     (c .held-service .ensures)
     (hold .hold .ensures .0)
@@ -28,7 +27,7 @@ crashed-spec =
     (search needs)
     (λ c κs. tt)
     (λ c κs.
-    let force = c .before .before in
+    let force = c .before .before .before in
     (force .in-force .ensures .1, (force .before .hold .ensures .1 .0, force .before .hold .ensures .1 .1)))
-    (λ c κs. let crash = c .before .before .before .before .before .before in crash .step-table .ensures 0 0 0 (lent [] [] [] []) (omega arith) (omega arith) .flagsLong ∙ crash .before .before .before .before .hold .ensures .1 .1)
+    (λ c κs. let crash = c .before .before .before .before .before .before in crash .step-table .ensures 0 0 0 [] [] [] (omega arith) (omega arith) .flagsLong ∙ crash .before .before .before .before .before .hold .ensures .1 .1)
     returns)

@@ -1,5 +1,6 @@
 -- `Service::new` meets its contract: it makes the fresh service, from which Demand 3 holds, nothing is left behind,
--- whoever is under embargo is set aside, and no report clashes. Assumes nothing.
+-- whoever is under embargo is set aside, no report clashes, and every place of the store is accounted for. Assumes
+-- nothing.
 use mathlib.Core.Path.{_≡_, sym, subst}
 use Rattle.sizes.specs.declared.sizes.Sizes.{Sizes}
 use Rattle.service.specs.declared.service.Service.{Service}
@@ -9,11 +10,13 @@ use Rattle.service.specs.Demand3.{Consistent}
 use Rattle.service.specs.NothingBehind.{LeavesNothing}
 use Rattle.service.specs.Plain.{PlainlyConsistent}
 use Rattle.service.specs.Reports.{ReportsPass}
+use Rattle.service.specs.Store.{StoreHolds}
 use Rattle.service.proofs.Plain.{plain-demand3}
 use Rattle.service.proofs.Demand3.{demand3}
 use Rattle.service.proofs.NothingBehind.{nothing-left}
 use Rattle.service.proofs.SetAside.{embargoes}
 use Rattle.service.proofs.NeverClash.{rules-kept}
+use Rattle.service.proofs.SpaceKept.{space-kept}
 use borrow.Author.Needs.{needs}
 use Rattle.service.proofs.service.Service.new.Statement.{statement}
 use Rattle.service.proofs.service.Service.new.Tie as tie
@@ -21,7 +24,7 @@ use Rattle.service.proofs.service.Service.new.Tie as tie
 from-fresh :
     (z : Sizes) (s : Service)
     → s ≡ fresh z
-    → (s ≡ fresh z) × (Consistent s × (PlainlyConsistent s × (LeavesNothing s × (SetsAside s × ReportsPass s))))
+    → (s ≡ fresh z) × (Consistent s × (PlainlyConsistent s × (LeavesNothing s × (SetsAside s × (ReportsPass s × StoreHolds s)))))
 from-fresh z s e = (
   e,
   (
@@ -30,7 +33,10 @@ from-fresh z s e = (
       subst PlainlyConsistent (sym e) (plain-demand3 z),
       (
         subst LeavesNothing (sym e) (nothing-left z),
-        (subst SetsAside (sym e) (embargoes z), subst ReportsPass (sym e) (rules-kept z)),
+        (
+          subst SetsAside (sym e) (embargoes z),
+          (subst ReportsPass (sym e) (rules-kept z), subst StoreHolds (sym e) (space-kept z)),
+        ),
       ),
     ),
   ),

@@ -32,6 +32,11 @@ faults! {
             leave_out(counted, Refusals);
         }
     });
+    full_store_not_counted: Line(|taken, counted| {
+        if is_refused_with(taken, Refusal::NoPlace) {
+            leave_out(counted, Refusals);
+        }
+    });
     open_that_waits_counted_as_a_refusal: Line(|taken, counted| {
         if let Outcome::Waits(_) = taken.line.outcome {
             add(counted, taken.client(), Refusals);

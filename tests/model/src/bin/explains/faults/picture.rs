@@ -19,6 +19,24 @@ faults! {
         picture.recovering = picture.recovering.filter(|to_report| *to_report != ClientSet::NONE);
     });
 
+    // The places.
+    free_told_without_the_reserved: Picture(|_, picture| picture.free = picture.places.store - picture.places.used);
+    free_told_as_the_store: Picture(|_, picture| picture.free = picture.places.store);
+    used_blocks_not_told: Picture(|_, picture| picture.places.used = 0);
+    reserved_blocks_not_told: Picture(|_, picture| picture.places.reserved = 0);
+    stations_that_reserve_not_told: Picture(|_, picture| picture.places.by = ClientSet::NONE);
+    embargoed_stations_told_to_reserve: Picture(|service, picture| {
+        let embargoed = service.server.embargoed.and(service.sizes().client_set());
+        let dirty = ClientSet::of(|client| (0..service.sizes().files).any(|file| service.any_dirty(client, file)));
+        picture.places.by = picture.places.by.or(embargoed.and(dirty));
+    });
+    every_station_with_a_dirty_block_told_to_reserve: Picture(|service, picture| {
+        let sizes = service.sizes();
+        let dirty = ClientSet::of(|client| (0..sizes.files).any(|file| service.any_dirty(client, file)));
+        picture.places.by = dirty.and(sizes.client_set()).minus(service.server.embargoed);
+    });
+    store_told_as_512: Picture(|_, picture| picture.places.store = 512);
+
     // The files.
     last_file_missing: Picture(|_, picture| drop(picture.files.pop()));
     file_with_a_copy_alone_missing: Picture(|_, picture| {

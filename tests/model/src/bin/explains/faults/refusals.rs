@@ -128,6 +128,21 @@ faults! {
             *reason = Reason::NotAStep;
         }
     });
+    no_place_told_of_block_0: Refusal(|_, reason| {
+        if let Reason::NoPlace { place, .. } = reason {
+            place.block = 0;
+        }
+    });
+    used_told_as_reserved: Refusal(|_, reason| {
+        if let Reason::NoPlace { places, .. } = reason {
+            (places.used, places.reserved) = (places.reserved, places.used);
+        }
+    });
+    first_station_that_reserves_missing: Refusal(|_, reason| {
+        if let Reason::NoPlace { places, .. } = reason {
+            places.by = places.by.members().next().map_or(places.by, |first| places.by.without(first));
+        }
+    });
     settings_out_of_range_told_of_a_late_line: Refusal(|lines, reason| {
         if *reason == Reason::NotAStep && lines.now() == 2 {
             *reason = Reason::SettingOutOfRange;
