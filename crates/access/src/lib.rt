@@ -1,4 +1,6 @@
 // Reads and writes of one block, on lent arrays.
+#![tactic(auto)]
+
 mod access;
 mod refusal;
 

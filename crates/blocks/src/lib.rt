@@ -1,5 +1,7 @@
 // The blocks of the server and the clients' copies of them: what opens and answers do to those of one file, on lent
 // arrays.
+#![tactic(auto)]
+
 mod blocks;
 
 pub use blocks::{

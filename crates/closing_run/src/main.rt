@@ -1,6 +1,8 @@
 // A closing run: client 5 opens five files in one request, while client 2 has file 3 open for write. Prints the reply
 // to the batch as line 0, and the reply to each opening under its place in the list; then the same of a list of 17
 // openings and of an empty list.
+#![tactic(auto)]
+
 ghost use Rattle.std.specs.Prelude.{◌≤◌};
 ghost use Rattle.batch.specs.Batch.{max_openings};
 

@@ -1,5 +1,7 @@
 // The command line of the programs `play`, `explain` and `traffic`: standard input, or each file that an argument
 // names, is played from a fresh service or from an image. They differ in what they print of a line, and at the end.
+#![tactic(auto)]
+
 mod arguments;
 mod count_loop;
 mod errors;

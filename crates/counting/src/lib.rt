@@ -1,5 +1,7 @@
 // The counter: its loop over the lines of a buffer, a turn of it, and the session that goes turn by turn from the first
 // byte of an input to its totals. The service and the totals are in arrays that the caller lends.
+#![tactic(auto)]
+
 mod lines;
 mod printed;
 mod session;

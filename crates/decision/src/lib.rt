@@ -1,6 +1,8 @@
 // What is decided of one file: the kinds of callback, the records of the clients, and the decisions
 // over all of them: the state, the callbacks that an open causes, and the permission that a grant gives, as Table 4-1
 // of the 1989 paper has them.
+#![tactic(auto)]
+
 mod callback;
 mod kind;
 mod permission;

@@ -1,5 +1,7 @@
 // The steps on one file, each taken in the file's row of the lent table: opens, closes, flushes and answers; and what is
 // done to it where the server forgets a client, and where a client drops what it has. A refused step stores nothing.
+#![tactic(auto)]
+
 mod answering;
 mod closing;
 mod flushing;

@@ -1,4 +1,6 @@
 // The image of the server: its bytes, and how it is written into a lent buffer.
+#![tactic(auto)]
+
 mod entries;
 mod numbers;
 mod sections;

@@ -1,5 +1,7 @@
 // Judges byte strings as images, for the program `images` of tests/model, which holds the verdicts to its own. What
 // is read and what is written, byte by byte, is told at the head of tests/model/src/bin/images/main.rs.
+#![tactic(auto)]
+
 ghost use Rattle.std.specs.Prelude.{◌+◌, ◌<◌, ◌≤◌, length};
 
 mod judging;

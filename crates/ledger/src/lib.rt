@@ -1,4 +1,6 @@
 // The ledger: which line wrote what each client reads, and refusals, counted; and both beside the service.
+#![tactic(auto)]
+
 mod annotated;
 mod ledger;
 mod lines;

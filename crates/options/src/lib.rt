@@ -1,5 +1,7 @@
 // What the arguments of the programs mean: definitions, in specs/, and the functions that read them; and the numbers of
 // the programs.
+#![tactic(auto)]
+
 mod options;
 mod program;
 

@@ -1,5 +1,7 @@
 // The phrases and sentences that are said of a step: definitions, in specs/, and the functions that write each of them
 // into a lent buffer.
+#![tactic(auto)]
+
 mod clash;
 mod done;
 mod grant;

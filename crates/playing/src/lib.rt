@@ -1,5 +1,7 @@
 // The player: its loop over the lines of a buffer, a turn of it, and the session that goes turn by turn from the first
 // byte of an input to its summary. The service is in arrays that the caller lends.
+#![tactic(auto)]
+
 mod lines;
 mod session;
 mod setting;

@@ -1,6 +1,8 @@
 // The consistency protocol of one file: the types of both sides, what the steps make of each, and the definitions of
 // every rule of one file with the theorem that they keep it consistent. Nothing here knows of lists of files or of the
 // whole service.
+#![tactic(auto)]
+
 mod clash;
 mod client;
 mod copy;

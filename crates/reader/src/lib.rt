@@ -1,4 +1,6 @@
 // Lines of the step file to steps, read where they stand in the input.
+#![tactic(auto)]
+
 mod line;
 mod number;
 mod setting;

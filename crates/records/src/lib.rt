@@ -1,5 +1,7 @@
 // Versions and client records: the values that both sides of the protocol keep for a file, and what their own
 // functions do with them.
+#![tactic(auto)]
+
 mod record;
 mod version;
 

@@ -1,4 +1,6 @@
 // An image, read: what bytes hold, whether they are an image, and the service that takes one.
+#![tactic(auto)]
+
 mod decoding;
 mod numbers;
 mod reading;

@@ -1,4 +1,6 @@
 // What is said of each line: definitions, in specs/, and the functions that write it into a lent buffer.
+#![tactic(auto)]
+
 mod clash;
 mod explained;
 mod forgotten;

@@ -1,5 +1,7 @@
 // The two sides together: the server with its state table and blocks, the clients with their copies, and the steps
 // that the service takes. A service can be held in lent arrays.
+#![tactic(auto)]
+
 mod clashing;
 mod crashing;
 mod embargo;

@@ -1,4 +1,6 @@
 // The server's state table, and the steps on all of it: a crash, a report, and the end of a recovery.
+#![tactic(auto)]
+
 mod recovery;
 mod refusal;
 mod sweeping;

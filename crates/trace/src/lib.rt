@@ -1,5 +1,7 @@
 // The traffic of a session: what happened at a station, as a record; the records of a line, lent as a trace; and the totals
 // in which a trace is counted.
+#![tactic(auto)]
+
 mod adding;
 mod counting;
 mod lending;

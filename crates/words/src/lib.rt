@@ -1,5 +1,7 @@
 // The small state of the service as words in lent arrays, a row of them for each file; and the replies of its steps as a
 // letter and words.
+#![tactic(auto)]
+
 mod rows;
 mod saying;
 mod words;

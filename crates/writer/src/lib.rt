@@ -1,4 +1,6 @@
 // Replies and the summary to lines, written into a buffer.
+#![tactic(auto)]
+
 mod decimal;
 mod reply;
 mod said;
