@@ -8,5 +8,5 @@ permitted_or_spec =
     tie.close
     (tie.spec
     (search rules)
-    (λ c. rw (← c.before.is-permitted.ensures, c.if1.true))
-    (λ c. rw (← c.before.is-permitted.ensures, c.if1.false)))
+    (λ c. rw (← c.before.is_permitted.ensures, c.if1.true))
+    (λ c. rw (← c.before.is_permitted.ensures, c.if1.false)))

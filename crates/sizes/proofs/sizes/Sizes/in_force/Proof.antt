@@ -12,16 +12,16 @@ returns c =
     let default = clients.before in
     let z = default.before.args.self in (
       rw (
-        clients.permitted-or.ensures,
-        files.permitted-or2.ensures,
-        blocks.permitted-or3.ensures,
+        clients.permitted_or.ensures,
+        files.permitted_or-2.ensures,
+        blocks.permitted_or-3.ensures,
         c.at-most.ensures,
         default.default.ensures,
       ),
       rw (
-        clients.permitted-or.ensures,
-        files.permitted-or2.ensures,
-        blocks.permitted-or3.ensures,
+        clients.permitted_or.ensures,
+        files.permitted_or-2.ensures,
+        blocks.permitted_or-3.ensures,
         c.at-most.ensures,
         default.default.ensures,
       )
