@@ -3,7 +3,7 @@
 pub mod CopyCheck
 pub mod Tested
 pub mod OtherKinds
-pub mod Numbers
+pub mod StepNumbers
 pub mod Seen
 pub mod View
 pub mod Promises

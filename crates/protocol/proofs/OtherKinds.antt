@@ -6,7 +6,7 @@ use mathlib.Core.List.{List, [], ◌∷◌}
 use mathlib.Core.Logic.{⊎_elim}
 use lib.Dec.{eqb}
 use types.Run.{OneOf}
-use borrow.Author.Tests.{eqb-false, not_true}
+use borrow.Author.Tests.{eqb-false, not-true}
 use Rattle.sizes.proofs.Choosing.{and_left, and_right}
 
 abbrev pub absent : List ℕ → ℕ → Bool
@@ -14,7 +14,7 @@ absent [] k = true
 absent (j ∷ js) k = not (eqb k j) && absent js k
 
 differs : (j : ℕ) (js : List ℕ) (k : ℕ) → absent (j ∷ js) k ≡ true → k ≡ j → ⊥
-differs j js k a = eqb-false k j (not_true (eqb k j) (and_left (not (eqb k j)) (absent js k) a))
+differs j js k a = eqb-false k j (not-true (eqb k j) (and_left (not (eqb k j)) (absent js k) a))
 
 pub not_among : (js : List ℕ) (k : ℕ) → absent js k ≡ true → OneOf js k → ⊥
 not_among [] k a h = h

@@ -5,7 +5,7 @@ use mathlib.Core.Bool.{Bool, true, false, cond, not, ◌&&◌}
 use mathlib.Core.List.{List, [], ◌∷◌}
 use native.Mathlib.Omega.{arith}
 use lib.Dec.{eqb, leb, ltb}
-use borrow.Author.Tests.{eq-eqb, leb-false, le-ltb, lt-ltb, not_true, not-false}
+use borrow.Author.Tests.{eq-eqb, leb-false, le-ltb, lt-ltb, not-true, not-false}
 use Rattle.sizes.specs.declared.sizes.Sizes.{Sizes}
 use Rattle.sizes.specs.Sizes.{Permitted, in_force}
 use Rattle.sizes.proofs.InForce.{in_force_permitted}
@@ -55,7 +55,7 @@ other_number (t ∷ ts) e = by-test t.0 t.1 (first_of ts) (not (eqb t.1 22)) (wi
         → a ≡ not (eqb k 22)
         → (b ≡ true → eqb rest 22 ≡ false)
         → eqb (cond holds k rest) 22 ≡ false
-    by-test true k rest true b e is h = not_true (eqb k 22) (sym is)
+    by-test true k rest true b e is h = not-true (eqb k 22) (sym is)
     by-test false k rest true b e is h = h e
     by-test holds k rest false b e is h = conflict e refl
 

@@ -8,7 +8,7 @@ use mathlib.Core.Logic.{◌⊎◌, inl, inr}
 use lib.Dec.{eqb}
 use lib.ListN.{get_or, set}
 use lib.Seq.{get_or-set_other}
-use borrow.Author.Tests.{eqb-true, eqb-false, eq-eqb, leb-false, not_true}
+use borrow.Author.Tests.{eqb-true, eqb-false, eq-eqb, leb-false, not-true}
 use Rattle.sizes.specs.declared.sizes.Sizes.{Sizes}
 use Rattle.sizes.specs.Sizes.{cell}
 use Rattle.sizes.proofs.InForce.{in_force_permitted, client_fits, block_fits}
@@ -79,7 +79,7 @@ module _ (s : Service) (i f b v : ℕ) (p : Passed (tests_of (sizes_of s) s (Wri
   known_other : embargoed_at s i ≡ true → (j : ℕ) → is_known s j ≡ true → eqb j i ≡ false
   known_other out j known =
       split (eqb j i)
-      (λ e. conflict (ap (λ k. embargoed_at s k) (eqb-true j i e) ∙ out) (not_true (embargoed_at s j) (both _ _ known).0))
+      (λ e. conflict (ap (λ k. embargoed_at s k) (eqb-true j i e) ∙ out) (not-true (embargoed_at s j) (both _ _ known).0))
       (λ e. e)
 
   flag_stays :

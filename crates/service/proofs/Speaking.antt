@@ -19,7 +19,7 @@ use Rattle.protocol.specs.declared.step.Step.{Step}
 use Rattle.protocol.specs.Step.{Class}
 use Rattle.protocol.specs.Step.{OnAll}
 use Rattle.protocol.specs.Step.{kinds, class_of, numbers_of, step_asked}
-use Rattle.protocol.proofs.Numbers.{asked_back, kind_low}
+use Rattle.protocol.proofs.StepNumbers.{asked_back, kind_low}
 use Rattle.blocks.specs.Stores.{Stores}
 use Rattle.words.specs.Said.{calls?, reply_said, calls_said, grants_said, SaysIn}
 use Rattle.service.specs.declared.service.Service.{Service}

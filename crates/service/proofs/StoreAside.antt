@@ -9,7 +9,7 @@ use mathlib.Core.List.{List}
 use lib.Dec.{eqb}
 use lib.ListN.{get_or, set}
 use lib.Seq.{get_or-set_other}
-use borrow.Author.Tests.{eqb-true, eqb-false, not_true}
+use borrow.Author.Tests.{eqb-true, eqb-false, not-true}
 use Rattle.sizes.specs.declared.sizes.Sizes.{Sizes}
 use Rattle.sizes.specs.Sizes.{cell}
 use Rattle.decision.specs.Callback.{asks_nothing}
@@ -122,7 +122,7 @@ module _ (z : Sizes) (s : Service) (i : ℕ) (used : List Bool) where
       (used_counted z.clients (is_within s) used s.dirty f b)
       (λ j hj w d.
       let off : get_or (set (table_in s).embargoed i true) j false ≡ false =
-      ap (λ (l : List Bool). get_or l j false) (sym sheds.embargoed) ∙ not_true (embargoed_at now j) w in
+      ap (λ (l : List Bool). get_or l j false) (sym sheds.embargoed) ∙ not-true (embargoed_at now j) w in
       dirty_counted z.clients (is_within s) used s.dirty f b j hj
       (ap not (clear_set (table_in s).embargoed i j off)) (sheds.stores.fewer (cell j f b) d))
 

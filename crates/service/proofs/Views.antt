@@ -6,7 +6,7 @@ use mathlib.Core.Bool.{Bool, true, false, cond, not, ◌&&◌, ◌||◌}
 use lib.Dec.{eqb, ltb}
 use mathlib.Core.List.{List}
 use lib.ListN.{length}
-use borrow.Author.Tests.{eqb-true, lt-ltb, ltb-true, not_true}
+use borrow.Author.Tests.{eqb-true, lt-ltb, ltb-true, not-true}
 use Rattle.sizes.specs.declared.sizes.Sizes.{Sizes}
 use Rattle.sizes.specs.Sizes.{max_clients, max_files, max_places, max_cells}
 use Rattle.protocol.specs.Client.{no_client}
@@ -62,7 +62,7 @@ is_in_lem z s i h = rw (lt-ltb i z.clients h.below, h.unbarred)
 pub in_is : (z : Sizes) (s : Service) (i : ℕ) → is_in z s i ≡ true → In z s i
 in_is z s i e =
     let (below, unbarred) = both (ltb i z.clients) (not (embargoed_at s i)) e in
-    record { below = ltb-true i z.clients below; unbarred = not_true (embargoed_at s i) unbarred }
+    record { below = ltb-true i z.clients below; unbarred = not-true (embargoed_at s i) unbarred }
 
 pub in_force_lem : (z : Sizes) (s : Service) (i : ℕ) → is_in z s i ≡ true → i < z.clients
 in_force_lem z s i e = (in_is z s i e).below

@@ -1,7 +1,7 @@
 -- Reading the digits of a number, a byte at a time. Assumes nothing.
 use Prim.Native.Nat.{ℕ, ◌+◌, ◌-◌, ◌*◌, ◌^◌, ◌≤◌, ◌<◌}
 use mathlib.Core.Path.{◌≡◌, ◌∙◌}
-use mathlib.Core.Bool.{true, false, and_false}
+use mathlib.Core.Bool.{true, false, and-false}
 use mathlib.Core.List.{List, ◌∷◌}
 use native.Mathlib.Numerals.{add-one}
 use lib.ListN.{length, get_or, drop}
@@ -21,7 +21,7 @@ pub below_digit : (b : ℕ) → b < 48 → is_digit b ≡ false
 below_digit b h = rw (lt-leb 48 b h)
 
 pub above_digit : (b : ℕ) → 57 < b → is_digit b ≡ false
-above_digit b h = rw (lt-leb b 57 h, and_false)
+above_digit b h = rw (lt-leb b 57 h, and-false)
 
 module _ (v b : ℕ) (l : List ℕ) where
   pub other : is_digit b ≡ false → digits_on v (b ∷ l) ≡ found v (b ∷ l)

@@ -5,7 +5,7 @@ use mathlib.Core.Path.{◌≡◌, refl}
 use mathlib.Core.Bool.{Bool, true, false, cond, not, ◌&&◌, false≢true}
 use mathlib.Core.Logic.{inl, inr, ⊎_elim}
 use lib.Dec.{eqb}
-use borrow.Author.Tests.{eqb-true, not_true, not-false}
+use borrow.Author.Tests.{eqb-true, not-true, not-false}
 use Rattle.records.specs.declared.version.Version.{Version}
 use Rattle.protocol.specs.declared.client.ClientFile.{ClientFile}
 use Rattle.protocol.specs.Client.{read_needs_server, write_needs_server}
@@ -76,7 +76,7 @@ module _
         dirty k
     sound-read {block} right i o =
         let fetch = may_cache (client i) && not (held i) in
-        let unheld : fetch ≡ true → held i ≡ false = λ e. not_true (held i) (and_right (may_cache (client i)) _ e) in
+        let unheld : fetch ≡ true → held i ≡ false = λ e. not-true (held i) (and_right (may_cache (client i)) _ e) in
         let fetched : Copied version (client i) (cond fetch block (copy i)) (cond fetch true (held i)) (dirty i) k
         = cases (λ b. Copied version (client i) (cond b block (copy i)) (cond b true (held i)) (dirty i) k) fetch
         (λ e. record {

@@ -6,7 +6,7 @@ use mathlib.Core.Bool.{Bool, true, false, cond, not, ◌&&◌, ◌||◌, false�
 use mathlib.Core.Logic.{◌⊎◌, inl, inr}
 use mathlib.Core.List.{List, [], ◌∷◌}
 use lib.Dec.{eqb}
-use borrow.Author.Tests.{eqb-true, eq-eqb, not_true}
+use borrow.Author.Tests.{eqb-true, eq-eqb, not-true}
 use Rattle.sizes.proofs.Choosing.{when, unless}
 use Rattle.protocol.specs.Book.{Written, HistoryOf, History, latest, wrote, came, lost, risked_by}
 use Rattle.protocol.proofs.View.{at}

@@ -2,11 +2,11 @@
 -- the promise never_clashes. Assumes nothing.
 use Prim.Native.Nat.{ℕ, ◌<◌}
 use mathlib.Core.Path.{◌≡◌, refl, sym, ◌∙◌, subst}
-use mathlib.Core.Bool.{Bool, true, false, not, ◌&&◌, ◌||◌, and_false}
+use mathlib.Core.Bool.{Bool, true, false, not, ◌&&◌, ◌||◌, and-false}
 use mathlib.Core.Logic.{◌⊎◌, ⊎_elim}
 use native.Mathlib.Omega.{arith}
 use lib.Dec.{eqb}
-use borrow.Author.Tests.{eq-eqb, ne_eqb, le-ltb, not_true}
+use borrow.Author.Tests.{eq-eqb, ne_eqb, le-ltb, not-true}
 use Rattle.records.specs.declared.version.Version.{Version}
 use Rattle.decision.proofs.Finding.{first_none}
 use Rattle.protocol.specs.declared.client.ClientFile.{ClientFile}
@@ -32,7 +32,7 @@ module _ (c d : ClientFile) (h : Keeps c d) where
   opens : caches_unopened c ≡ true → ⊥
   opens e =
       conflict (h.opened (and_left (may_cache c) (not (has_open c)) e))
-      (not_true (has_open c) (and_right (may_cache c) (not (has_open c)) e))
+      (not-true (has_open c) (and_right (may_cache c) (not (has_open c)) e))
 
   marks : misplaces_mark c ≡ true → ⊥
   marks e =
@@ -42,7 +42,7 @@ module _ (c d : ClientFile) (h : Keeps c d) where
       (h.unwritten marked)
       (λ (x : (has_open c && not (may_cache c)) ≡ true).
       conflict (h.cached marked (and_left (has_open c) (not (may_cache c)) x))
-      (not_true (may_cache c) (and_right (has_open c) (not (may_cache c)) x)))
+      (not-true (may_cache c) (and_right (has_open c) (not (may_cache c)) x)))
       (or_cases (has_writers c) (has_open c && not (may_cache c)) (and_right c.marked rest e))
 
   excludes : marks_beside c d ≡ true → ⊥
@@ -147,4 +147,4 @@ never_clashes_lem n v k i reported accepted row h unheard heard =
     let away : eqb j i ≡ false = ne_eqb j i (λ e. conflict told (subst (λ s. reported s ≡ false) (sym e) unheard)) in
     rw (a, accepted_same v.entry own j h.table below told, never_two c i j away))
     (λ a. rw a)) in
-    rw (never_alone c i, none, le-ltb n n (omega arith)) (and_false (says_anything own))
+    rw (never_alone c i, none, le-ltb n n (omega arith)) (and-false (says_anything own))

@@ -7,7 +7,7 @@ use mathlib.Core.Bool.{true, false, ◌&&◌, ◌||◌, false≢true}
 use mathlib.Core.Logic.{inl, ⊎_elim}
 use mathlib.Core.List.{List}
 use lib.Dec.{eqb, ltb}
-use borrow.Author.Tests.{eqb-true, eqb-false, eq-eqb, ltb-true, ltb-false, not_true}
+use borrow.Author.Tests.{eqb-true, eqb-false, eq-eqb, ltb-true, ltb-false, not-true}
 use Rattle.records.specs.declared.record.Mode.{Mode}
 use Rattle.records.specs.declared.record.Mode.TheVariants.{Read, Write}
 use Rattle.records.specs.declared.record.ClientRecord.{ClientRecord}
@@ -56,7 +56,7 @@ module _
       uncached-none : (has_open (client t) ≡ true → may_cache (client t) ≡ true) → tally n r Uncached ≡ 0
       uncached-none p =
           tally-none Uncached
-          (λ q. conflict (p (counted_open Uncached (r t) q)) (not_true (r t).caching (and_right (is_open (r t)) _ q)))
+          (λ q. conflict (p (counted_open Uncached (r t) q)) (not-true (r t).caching (and_right (is_open (r t)) _ q)))
 
       -- and another opener does not keep its permission
       asks-alone : (opener : ℕ) (mode : Mode) → eqb t opener ≡ false → keeps_permission mode (r opener) ≡ false

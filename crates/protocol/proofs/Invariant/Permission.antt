@@ -5,7 +5,7 @@ use mathlib.Core.Bool.{Bool, true, false, not, ◌&&◌, ◌||◌}
 use mathlib.Core.Logic.{inl}
 use native.Mathlib.Nat.{le_of_eq}
 use lib.Dec.{eqb, ltb}
-use borrow.Author.Tests.{not_true, lt-ltb, le-ltb}
+use borrow.Author.Tests.{not-true, lt-ltb, le-ltb}
 use Rattle.records.specs.declared.record.Mode.{Mode}
 use Rattle.records.specs.declared.record.Mode.TheVariants.{Read, Write}
 use Rattle.records.specs.declared.record.ClientRecord.{ClientRecord}
@@ -125,7 +125,7 @@ module _
     no-others property m =
         le-ltb 0 (others n r property i)
         (le_of_eq (none n (λ j. not (eqb j i) && has property (r j))
-        (λ j _ q. (h.apart i j (not_true (eqb j i) (and_left _ (has property (r j)) q))).marked_excludes m
+        (λ j _ q. (h.apart i j (not-true (eqb j i) (and_left _ (has property (r j)) q))).marked_excludes m
         (inl (counted_open property (r j) (and_right (not (eqb j i)) _ q))))))
 
     no-uncached : (client i).marked ≡ true → ltb 0 (tally n r Uncached) ≡ false
@@ -134,7 +134,7 @@ module _
         (le_of_eq (none n (λ j. has Uncached (r j))
         (λ j _. change (λ j _. has Uncached (r j) ≡ true → ⊥) i
         (λ q. conflict ((h.own i).marked_open_caches m (counted_open Uncached (r i) q))
-        (not_true (r i).caching (and_right (is_open (r i)) _ q)))
+        (not-true (r i).caching (and_right (is_open (r i)) _ q)))
         (λ j e q. (h.apart i j e).marked_excludes m (inl (counted_open Uncached (r j) q))) j)))
 
     -- what is kept was there

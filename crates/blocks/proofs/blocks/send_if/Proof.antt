@@ -6,7 +6,7 @@ use mathlib.Core.Bool.{Bool, false, cond}
 use mathlib.Core.List.{List}
 use native.Mathlib.Omega.{arith}
 use lib.ListN.{get_or}
-use borrow.Author.Tests.{not_true, not-false}
+use borrow.Author.Tests.{not-true, not-false}
 use Rattle.sizes.proofs.Choosing.{when, unless}
 use Rattle.decision.proofs.Storing.{Stored, get_d_stored_other, stored_none, stored_more, stored_all}
 use borrow.Author.Rules.{rules}
@@ -24,7 +24,7 @@ abbrev decreases-loop : tie.decreases-loop
 decreases-loop send count base to dirty copies blocks₀ b₀ blocks b = count - b
 
 returns : tie.Need-returns invariant-loop decreases-loop
-returns c = sym (unless _ _ (not_true c.before.args.send c.if1.true))
+returns c = sym (unless _ _ (not-true c.before.args.send c.if1.true))
 
 loop-again : tie.Need-loop-preserved invariant-loop decreases-loop
 loop-again c =

@@ -4,7 +4,7 @@ use mathlib.Core.Path.{◌≡◌, sym}
 use mathlib.Core.List.{[]}
 use native.Mathlib.Omega.{arith}
 use borrow.Author.Rules.{rules}
-use borrow.Author.Tests.{not_true, not-false}
+use borrow.Author.Tests.{not-true, not-false}
 use Rattle.sizes.proofs.Choosing.{unless}
 use Rattle.ledger.specs.Ledger.{entered, came_from}
 use Rattle.ledger.proofs.Noting.{came_none, came_next, came_all}
@@ -19,7 +19,7 @@ abbrev decreases-loop : tie.decreases-loop
 decreases-loop test client first count written₀ writers₀ by k₀ written writers k = count - k
 
 returns : tie.Need-returns invariant-loop decreases-loop
-returns c = sym (unless _ _ (not_true c.before.args.test c.if1.true))
+returns c = sym (unless _ _ (not-true c.before.args.test c.if1.true))
 
 loop-again : tie.Need-loop-preserved invariant-loop decreases-loop
 loop-again c =

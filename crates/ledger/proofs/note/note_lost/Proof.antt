@@ -4,7 +4,7 @@ use mathlib.Core.Path.{◌≡◌, sym}
 use mathlib.Core.List.{[]}
 use native.Mathlib.Omega.{arith}
 use borrow.Author.Rules.{rules}
-use borrow.Author.Tests.{not_true, not-false}
+use borrow.Author.Tests.{not-true, not-false}
 use Rattle.sizes.specs.Sizes.{max_places}
 use Rattle.sizes.proofs.Choosing.{unless}
 use Rattle.ledger.specs.Ledger.{entered, lost_below}
@@ -20,7 +20,7 @@ abbrev decreases-loop : tie.decreases-loop
 decreases-loop test client written₀ writers₀ by k₀ written writers k = max_places - k
 
 returns : tie.Need-returns invariant-loop decreases-loop
-returns c = sym (unless _ _ (not_true c.before.args.test c.if1.true))
+returns c = sym (unless _ _ (not-true c.before.args.test c.if1.true))
 
 loop-again : tie.Need-loop-preserved invariant-loop decreases-loop
 loop-again c =

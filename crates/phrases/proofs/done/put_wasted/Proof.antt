@@ -2,7 +2,7 @@
 use mathlib.Core.Path.{sym}
 use native.Mathlib.Omega.{arith}
 use borrow.Author.Rules.{rules}
-use borrow.Author.Tests.{not_true, not-false}
+use borrow.Author.Tests.{not-true, not-false}
 use Rattle.sizes.proofs.Choosing.{when, unless}
 use Rattle.writer.proofs.Buffers.{wrote_as, wrote_none, wrote_then}
 use Rattle.phrases.proofs.done.put_wasted.Statement.{statement}
@@ -11,7 +11,7 @@ use Rattle.phrases.proofs.done.put_wasted.Tie as tie
 returns : tie.Need-returns
 returns c =
     let a = c.before.before.args in (
-      wrote_as (sym (unless _ _ (not_true a.aside c.if1.true))) (wrote_none _ _ (omega arith)),
+      wrote_as (sym (unless _ _ (not-true a.aside c.if1.true))) (wrote_none _ _ (omega arith)),
       search rules,
     )
 

@@ -1,7 +1,7 @@
 -- `put_unwritten` meets its contract, by how the session began and whether a write was lost. Assumes nothing.
 use mathlib.Core.Path.{sym, ◌∙◌}
 use borrow.Author.Rules.{rules}
-use borrow.Author.Tests.{eq-eqb, ne_eqb, not_true, not-false}
+use borrow.Author.Tests.{eq-eqb, ne_eqb, not-true, not-false}
 use Rattle.sizes.proofs.Choosing.{when, unless}
 use Rattle.writer.proofs.Buffers.{wrote_as}
 use Rattle.phrases.proofs.read.put_unwritten.Statement.{statement}
@@ -11,7 +11,7 @@ returns : tie.Need-returns
 returns c =
     let first = c.before.before in
     let test = first.before.before.before in (
-      wrote_as (sym (unless _ _ (not_true test.before.before.args.fresh test.if1.true))) first.put-text.ensures.0,
+      wrote_as (sym (unless _ _ (not-true test.before.before.args.fresh test.if1.true))) first.put-text.ensures.0,
       search rules,
     )
 

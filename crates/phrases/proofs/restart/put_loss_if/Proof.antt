@@ -1,7 +1,7 @@
 -- `put_loss_if` meets its contract: nothing more, or one more after those that are told. Assumes nothing.
 use mathlib.Core.Path.{sym}
 use borrow.Author.Rules.{rules}
-use borrow.Author.Tests.{not_true, not-false}
+use borrow.Author.Tests.{not-true, not-false}
 use Rattle.sizes.proofs.Choosing.{when, unless}
 use Rattle.writer.proofs.Buffers.{wrote_as}
 use Rattle.phrases.proofs.Losses.{wrote_next}
@@ -10,7 +10,7 @@ use Rattle.phrases.proofs.restart.put_loss_if.Tie as tie
 
 returns : tie.Need-returns
 returns c = (
-  λ d told before. wrote_as (sym (unless _ _ (not_true c.before.before.args.lost c.if1.true))) before,
+  λ d told before. wrote_as (sym (unless _ _ (not-true c.before.before.args.lost c.if1.true))) before,
   search rules,
 )
 

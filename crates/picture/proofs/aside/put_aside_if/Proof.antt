@@ -2,7 +2,7 @@
 use mathlib.Core.Path.{sym}
 use native.Mathlib.Omega.{arith}
 use borrow.Author.Rules.{rules}
-use borrow.Author.Tests.{not_true, not-false}
+use borrow.Author.Tests.{not-true, not-false}
 use Rattle.sizes.proofs.Choosing.{when, unless}
 use Rattle.writer.proofs.Buffers.{wrote_none, wrote_as}
 use Rattle.picture.proofs.aside.put_aside_if.Statement.{statement}
@@ -11,7 +11,7 @@ use Rattle.picture.proofs.aside.put_aside_if.Tie as tie
 returns : tie.Need-returns
 returns c =
     let start = c.before.before in (
-      wrote_as (sym (unless _ _ (not_true start.args.aside c.if1.true))) (wrote_none _ _ (omega (arith, start.requires.1.1))),
+      wrote_as (sym (unless _ _ (not-true start.args.aside c.if1.true))) (wrote_none _ _ (omega (arith, start.requires.1.1))),
       search rules,
     )
 

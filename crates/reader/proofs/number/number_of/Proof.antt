@@ -3,7 +3,7 @@ use mathlib.Core.Path.{◌≡◌, sym, ◌∙◌}
 use mathlib.Core.Bool.{true}
 use native.Mathlib.Omega.{arith}
 use borrow.Author.Rules.{rules}
-use borrow.Author.Tests.{not_true, not-false}
+use borrow.Author.Tests.{not-true, not-false}
 use Rattle.stepfile.specs.Grammar.{is_digit}
 use Rattle.sizes.proofs.Choosing.{when, unless}
 use Rattle.reader.proofs.Numbers.{digit_low, digit_high}

@@ -1,6 +1,6 @@
 -- `read_image` meets its contract, by whether the bytes are an image; that a slice holds bytes is known of it.
 -- Assumes nothing.
-use borrow.Author.Tests.{not_true, not-false}
+use borrow.Author.Tests.{not-true, not-false}
 use Rattle.restore.proofs.Exact.{exactly}
 use Rattle.restore.proofs.Readings.{refused, accepted}
 use borrow.Author.Rules.{rules}
@@ -18,7 +18,7 @@ returns c =
     let none = force.before.before in
     let known = none.before in
     let a = known.before.args in
-    let is = refused a.service a.bytes.now force.in-force.result force.in-force.ensures.0 files.decode-files.result files.decode-files.ensures used.decode-used.result used.decode-used.ensures blocks.decode-blocks.result blocks.decode-blocks.ensures embargoes.decode-embargoes.result embargoes.decode-embargoes.ensures none.none.result none.none.ensures test.is-image.result test.is-image.ensures (not_true test.is-image.result c.if1.true) in
+    let is = refused a.service a.bytes.now force.in-force.result force.in-force.ensures.0 files.decode-files.result files.decode-files.ensures used.decode-used.result used.decode-used.ensures blocks.decode-blocks.result blocks.decode-blocks.ensures embargoes.decode-embargoes.result embargoes.decode-embargoes.ensures none.none.result none.none.ensures test.is-image.result test.is-image.ensures (not-true test.is-image.result c.if1.true) in
     (is, exactly a.service a.bytes.now (λ k. (known.shared-slice-known.given k).fits) is)
 
 returns-2 : tie.Need-returns-2

@@ -2,7 +2,7 @@
 use mathlib.Core.Path.{sym, ◌∙◌, ap}
 use native.Mathlib.Omega.{arith}
 use borrow.Author.Rules.{rules}
-use borrow.Author.Tests.{not_true, not-false}
+use borrow.Author.Tests.{not-true, not-false}
 use Rattle.sizes.proofs.Choosing.{when, unless}
 use Rattle.protocol.specs.declared.reply.Grant.{Grant}
 use Rattle.phrases.specs.Accepted.{grant_text}
@@ -13,7 +13,7 @@ use Rattle.sentences.proofs.forgotten.put_granted.Tie as tie
 returns : tie.Need-returns
 returns c =
     let test = c.before.is-granted in (
-      wrote_as (sym (unless _ _ (sym test.ensures ∙ not_true test.result c.if1.true))) (wrote_none _ _ (omega arith)),
+      wrote_as (sym (unless _ _ (sym test.ensures ∙ not-true test.result c.if1.true))) (wrote_none _ _ (omega arith)),
       search rules,
     )
 

@@ -9,7 +9,7 @@ use Rattle.sizes.specs.Sizes.{cell}
 use Rattle.blocks.proofs.Wrapped.{wrapped}
 use Rattle.service.specs.Counted.{counted_held, is_anew}
 use borrow.Author.Rules.{rules}
-use borrow.Author.Tests.{not_true, not-false}
+use borrow.Author.Tests.{not-true, not-false}
 use Rattle.service.proofs.space.is_reserved_anew.Statement.{statement}
 use Rattle.service.proofs.space.is_reserved_anew.Tie as tie
 
@@ -27,7 +27,7 @@ module _ (n i f b : ℕ) (flags dirty : List Bool) (q : ℕ) (there : q ≡ cell
   anew-clean : not (get_or dirty q false) ≡ true → false ≡ is_anew n i flags dirty f b
   anew-clean e =
       clean (get_or dirty (cell i f b) false) (not (counted_held n flags dirty f b))
-      (read ∙ not_true (get_or dirty q false) e)
+      (read ∙ not-true (get_or dirty q false) e)
 
   anew-dirty :
       (r : Bool)

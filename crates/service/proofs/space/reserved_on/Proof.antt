@@ -6,7 +6,7 @@ use mathlib.Core.Bool.{Bool, false, not, ◌&&◌}
 use mathlib.Core.List.{List}
 use native.Mathlib.Omega.{arith}
 use lib.ListN.{get_or}
-use borrow.Author.Tests.{not_true}
+use borrow.Author.Tests.{not-true}
 use Rattle.sizes.specs.declared.sizes.Sizes.{Sizes}
 use Rattle.sizes.specs.Sizes.{Permitted, max_blocks, first_cell}
 use Rattle.decision.proofs.Counting.{Counted, counted_none, counted_next, counted_fits, counted_all_lem}
@@ -50,7 +50,7 @@ returns c =
     none-anew a.sizes a.client a.file first.first_Cell.result a.flags.now a.dirty.now
     start.requires.0
     (first.first_Cell.ensures.0 ∙ wrapped_cell a.client a.file start.requires.1.0 start.requires.1.1.0)
-    (any.is-any-dirty.ensures (not_true any.is-any-dirty.result c.if1.true))
+    (any.is-any-dirty.ensures (not-true any.is-any-dirty.result c.if1.true))
 
 is-reserved-anew-requires : tie.Need-is-reserved-anew-requires invariant-loop decreases-loop
 is-reserved-anew-requires c κs =

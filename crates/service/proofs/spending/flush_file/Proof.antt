@@ -2,7 +2,7 @@
 use mathlib.Core.Path.{◌≡◌, refl, sym, ◌∙◌}
 use mathlib.Core.Bool.{Bool, true, false}
 use mathlib.Core.List.{List}
-use borrow.Author.Tests.{not_true, not-false}
+use borrow.Author.Tests.{not-true, not-false}
 use Rattle.protocol.specs.declared.step.Step.TheVariants.{Flush}
 use Rattle.protocol.specs.Reply.{no_calls}
 use Rattle.blocks.specs.Stores.{lent}
@@ -25,7 +25,7 @@ returns c =
     (lent a.blocks.now a.copies.now held a.dirty.now) _ _ _ _ _ no_calls refl (flush.flush.ensures held) (λ e. refl))
     c.place_of.result
     c.place_of.ensures.0
-    (sym asked.is-refused.ensures ∙ not_true asked.is-refused.result c.before.if1.true)
+    (sym asked.is-refused.ensures ∙ not-true asked.is-refused.result c.before.if1.true)
 
 returns-2 : tie.Need-returns-2
 returns-2 c =

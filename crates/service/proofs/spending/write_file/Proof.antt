@@ -6,7 +6,7 @@ use mathlib.Core.List.{List}
 use mathlib.Core.Logic.{⊎_elim}
 use native.Mathlib.Omega.{arith}
 use lib.ListN.{get_or, set}
-use borrow.Author.Tests.{not_true, not-false}
+use borrow.Author.Tests.{not-true, not-false}
 use Rattle.sizes.specs.Sizes.{max_files, max_blocks, place}
 use Rattle.sizes.proofs.Choosing.{conflict, when, unless}
 use Rattle.protocol.specs.declared.step.Step.TheVariants.{Write}
@@ -54,7 +54,7 @@ module _ (c : tie.Joined2) where
       (λ came.
       came.2
       ∙ ap (λ k. set a.flags.now (state_flags + k) true) came.1.ensures.0
-      ∙ sym (unless a.flags.now (set a.flags.now (state_flags + at) true) (not_true caching came.0.taken)))
+      ∙ sym (unless a.flags.now (set a.flags.now (state_flags + at) true) (not-true caching came.0.taken)))
       (λ came.
       came.1
       ∙ sym (when a.flags.now (set a.flags.now (state_flags + at) true) (not-false caching came.0.left)))

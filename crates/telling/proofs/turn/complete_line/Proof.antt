@@ -1,7 +1,7 @@
 -- `complete_line` meets its contract, test by test. Assumes nothing.
 use Prim.Native.Nat.{ℕ, ◌+◌, ◌<◌, ◌≤◌}
 use mathlib.Core.Path.{◌≡◌}
-use mathlib.Core.Bool.{and_false}
+use mathlib.Core.Bool.{and-false}
 use mathlib.Core.List.{List}
 use lib.ListN.{length, set}
 use borrow.Author.Rules.{rules}
@@ -14,7 +14,7 @@ no-rest : (l : List ℕ) (rest : ℕ) → rest ≡ 0 → (l ≡ completed_buffer
 no-rest l rest e = (rw (eq-eqb rest 0 e), rw (eq-eqb rest 0 e))
 
 no_room : (l : List ℕ) (rest : ℕ) → length l ≤ rest → (l ≡ completed_buffer l rest) × (rest ≡ completed_count l rest)
-no_room l rest h = (rw (le-ltb rest (length l) h, and_false), rw (le-ltb rest (length l) h, and_false))
+no_room l rest h = (rw (le-ltb rest (length l) h, and-false), rw (le-ltb rest (length l) h, and-false))
 
 completed :
     (l : List ℕ) (rest : ℕ)

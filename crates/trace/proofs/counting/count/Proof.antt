@@ -5,7 +5,7 @@ use mathlib.Core.Path.{◌≡◌, sym, ◌∙◌}
 use mathlib.Core.Bool.{false, not}
 use native.Mathlib.Omega.{arith}
 use lib.Dec.{ltb}
-use borrow.Author.Tests.{ltb-true, not_true, not-false}
+use borrow.Author.Tests.{ltb-true, not-true, not-false}
 use Rattle.sizes.specs.Sizes.{max_clients}
 use Rattle.sizes.proofs.Choosing.{when, unless, and_right}
 use Rattle.trace.specs.Counted.{is_counted, counted_numbers}
@@ -16,7 +16,7 @@ use Rattle.trace.proofs.counting.count.Tie as tie
 returns : tie.Need-returns
 unfolding counted_numbers
 returns c =
-    sym (unless _ _ (not_true (is_counted c.before.args.stations c.before.args.station) c.if1.true))
+    sym (unless _ _ (not-true (is_counted c.before.args.stations c.before.args.station) c.if1.true))
 
 -- a station that is counted is below the most
 inside : (stations station : ℕ) → not (is_counted stations station) ≡ false → station < max_clients

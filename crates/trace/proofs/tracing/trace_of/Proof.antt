@@ -5,7 +5,7 @@ use mathlib.Core.Bool.{not}
 use native.Mathlib.Omega.{arith}
 use lib.Dec.{eqb}
 use lib.ListN.{length, get_or, take, replicate, length-set}
-use borrow.Author.Tests.{not_true, not-false}
+use borrow.Author.Tests.{not-true, not-false}
 use Rattle.sizes.specs.Sizes.{max_clients, max_files, nobody}
 use Rattle.decision.specs.Callback.{ordered_calls}
 use Rattle.words.specs.Said.{calls?, letter_said, reply_said, calls_said, grants_said}
@@ -86,7 +86,7 @@ room3 c =
 
 returns : tie.Need-returns invariant-loop decreases-loop invariant-loop2 decreases-loop2 invariant-loop3 decreases-loop3
 unfolding records_of
-returns c = (omega arith, λ few. rw (sym c.before.names-station.ensures ∙ not_true _ c.if1.true))
+returns c = (omega arith, λ few. rw (sym c.before.names-station.ensures ∙ not-true _ c.if1.true))
 
 cast-station : tie.Need-overflow-cast-station invariant-loop decreases-loop invariant-loop2 decreases-loop2 invariant-loop3 decreases-loop3
 cast-station c =

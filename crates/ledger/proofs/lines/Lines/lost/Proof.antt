@@ -1,7 +1,7 @@
 -- `Lines::lost` meets its contract, by its tests. Assumes nothing.
 use mathlib.Core.Path.{sym, ◌∙◌}
 use borrow.Author.Rules.{rules}
-use borrow.Author.Tests.{eq-eqb, ne_eqb, not_true, not-false}
+use borrow.Author.Tests.{eq-eqb, ne_eqb, not-true, not-false}
 use Rattle.ledger.proofs.Noting.{lost_not, lost_first, lost_later}
 use Rattle.ledger.proofs.lines.Lines.lost.Statement.{statement}
 use Rattle.ledger.proofs.lines.Lines.lost.Tie as tie
@@ -9,7 +9,7 @@ use Rattle.ledger.proofs.lines.Lines.lost.Tie as tie
 returns : tie.Need-returns
 returns c =
     let a = c.before.before.args in
-    lost_not a.client a.self (sym c.before.risks.ensures ∙ not_true c.before.risks.result c.if1.true)
+    lost_not a.client a.self (sym c.before.risks.ensures ∙ not-true c.before.risks.result c.if1.true)
 
 returns-2 : tie.Need-returns-2
 returns-2 c =
