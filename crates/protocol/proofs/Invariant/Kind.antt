@@ -29,7 +29,7 @@ module _ (n : ℕ) (r : ℕ → ClientRecord) (last t : ℕ) where
   closed_sends mode none below same =
       let closed = eq-eqb (tally n r Open) 0 none in
       let dirty = lt-leb n last below in
-      elim mode [ Read ↦ simp (closed, dirty, same) | Write ↦ simp (closed, dirty, same) ]
+      elim mode as (λ k. writes_back (kind k) ≡ true) [ Read ↦ simp (closed, dirty, same) | Write ↦ simp (closed, dirty, same) ]
 
   -- and so is the last writer that alone has it open, for reading
   pub reader_sends :
@@ -48,7 +48,7 @@ module _ (n : ℕ) (r : ℕ → ClientRecord) (last t : ℕ) where
       let unshared = le-ltb 0 (tally n r Uncached) (omega arith) in
       let reading = le-ltb 0 (tally n r Writing) (omega arith) in
       let dirty = lt-ltb last n below in
-      elim mode [
+      elim mode as (λ k. writes_back (kind k) ≡ true) [
         | Read ↦ simp (opened, single, unshared, reading, dirty, o, same)
         | Write ↦ simp (opened, single, unshared, reading, dirty, o, same)
       ]
