@@ -4,7 +4,7 @@
 pub mod Result
 use Prim.Native.Nat.{ℕ, ◌%◌, ◌≤◌}
 use mathlib.Core.Path.{◌≡◌, refl, sym, ap, ap₂, ◌∙◌}
-use mathlib.Core.Bool.{Bool, true, false, cond, ◌||◌, true≢false, or_true}
+use mathlib.Core.Bool.{Bool, true, false, cond, ◌||◌, true≢false, or-true}
 use native.Mathlib.Nat.{mod-eq_of_lt}
 use native.Mathlib.Omega.{arith}
 use lib.Dec.{eqb, leb}
@@ -170,7 +170,7 @@ past_either :
 past_either {z} p i f e =
     split (leb max_clients i)
     (λ c. rw (past z.clients max_clients i p.clients c))
-    (λ c. rw (past z.files max_files f p.files (rw c at e)) (or_true (leb z.clients i)))
+    (λ c. rw (past z.files max_files f p.files (rw c at e)) (or-true (leb z.clients i)))
 
 -- ---- the three equations
 

@@ -228,10 +228,10 @@ module _
   accepted_stands s m r (Read i f b) h u p = read_stands s m r i f b h p
   accepted_stands s m r (Write i f b v) h u p = write_stands s m r i f b v h p
   accepted_stands s m none (Open mode i f) h u p = WhileRunning.open_kept most promises h mode i f p
-  accepted_stands s m none (Close mode i f) h u p = WhileRunning.close-kept most promises h mode i f p
-  accepted_stands s m none (Flush i f b) h u p = WhileRunning.flush-kept most promises h i f b p
-  accepted_stands s m none (Answer i f) h u p = WhileRunning.answer-kept most promises h u i f p
-  accepted_stands s m none Crash h u p = WhileRunning.crash-kept most promises h
+  accepted_stands s m none (Close mode i f) h u p = WhileRunning.close_kept most promises h mode i f p
+  accepted_stands s m none (Flush i f b) h u p = WhileRunning.flush_kept most promises h i f b p
+  accepted_stands s m none (Answer i f) h u p = WhileRunning.answer_kept most promises h u i f p
+  accepted_stands s m none Crash h u p = WhileRunning.crash_kept most promises h
   accepted_stands s m none (Report i) h u (_, (_, (recovers, _))) =
       conflict (not-false (table_in s).recovering recovers) h.state
   accepted_stands s m none End h u (recovers, _) = conflict (not-false (table_in s).recovering recovers) h.state
@@ -246,8 +246,8 @@ module _
   accepted_stands s m (since t) (Close mode i f) h u (_, (_, (_, (runs, _)))) = conflict h.state runs
   accepted_stands s m (since t) (Flush i f b) h u (_, (_, (_, (_, (runs, _))))) = conflict h.state runs
   accepted_stands s m (since t) (Answer i f) h u (_, (_, (_, (runs, _)))) = conflict h.state runs
-  accepted_stands s m (since t) Crash h u p = WhileRecovering.crash-kept most promises h
-  accepted_stands s m (since t) (Report i) h u p = WhileRecovering.report-kept most promises h i p
+  accepted_stands s m (since t) Crash h u p = WhileRecovering.crash_kept most promises h
+  accepted_stands s m (since t) (Report i) h u p = WhileRecovering.report_kept most promises h i p
   accepted_stands s m (since t) End h u p = (WhileRecovering.end_kept most promises h p).0
   accepted_stands s m (since t) (Restart i) h u (client, _) =
       restart-recovers most promises (leb-false z.clients i client) u h

@@ -2,7 +2,7 @@
 -- Assumes nothing.
 use Prim.Native.Nat.{ℕ, zero, suc, ◌<◌, ◌≤◌}
 use mathlib.Core.Path.{◌≡◌, refl, sym, ap, ◌∙◌, subst, subst⁻¹, fun_ext}
-use mathlib.Core.Bool.{Bool, true, false, cond, not, ◌&&◌, ◌||◌, or_true}
+use mathlib.Core.Bool.{Bool, true, false, cond, not, ◌&&◌, ◌||◌, or-true}
 use native.Mathlib.Omega.{arith}
 use lib.Dec.{eqb, ltb}
 use lib.ListN.{length, get_or, set, length-set}
@@ -190,5 +190,5 @@ module _ {z : Sizes} (most : Permitted z) {i : ℕ} (hi : i < z.clients) where
         heard-marked : (j : ℕ) → heard_of z (marked s i) j ≡ at i true (heard_of z s) j
         heard-marked j =
             split (eqb j i)
-            (λ e. rw (e, eqb-true j i e, lt-ltb i z.clients hi, marked-self) (or_true (get_or (table_in s).reported i false)))
+            (λ e. rw (e, eqb-true j i e, lt-ltb i z.clients hi, marked-self) (or-true (get_or (table_in s).reported i false)))
             (λ e. rw (e, marked_other j e))

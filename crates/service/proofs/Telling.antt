@@ -2,7 +2,7 @@
 -- changes. Assumes nothing.
 use Prim.Native.Nat.{ℕ, zero, suc, ◌<◌, ◌≤◌}
 use mathlib.Core.Path.{◌≡◌, refl, sym, ap, ◌∙◌, subst⁻¹, fun_ext}
-use mathlib.Core.Bool.{Bool, true, false, cond, not, ◌&&◌, ◌||◌, or_true}
+use mathlib.Core.Bool.{Bool, true, false, cond, not, ◌&&◌, ◌||◌, or-true}
 use mathlib.Core.List.{List}
 use native.Mathlib.Omega.{arith}
 use lib.Dec.{eqb, ltb}
@@ -231,7 +231,7 @@ module _ {z : Sizes} (most : Permitted z) {i : ℕ} (hi : i < z.clients) where
             (get_or-set_same (table_in s).reported i true false (rw n.reports hi')) in
             let then : embargoed_at s j ≡ true = subst⁻¹ (λ j. embargoed_at s j ≡ true) is out in
             ap (λ t. ltb j z.clients && (t || embargoed_at (told z s i) j)) (reported ∙ now)
-            ∙ ap (λ t. ltb j z.clients && t) (sym (or_true (get_or (table_in s).reported j false)))
+            ∙ ap (λ t. ltb j z.clients && t) (sym (or-true (get_or (table_in s).reported j false)))
             ∙ ap (λ t. ltb j z.clients && (get_or (table_in s).reported j false || t)) (sym then))
             (λ e.
             (λ k.
