@@ -274,6 +274,7 @@ counted_more stations trace before here after i r below is_here is_after =
     rw (add-one, take-suc trace i r below, counted_append stations (take i trace) (one ∷ []) before)
     (is_after ∙ ap (λ l. counted stations one l) is_here)
 
+-- all of its records
 pub counted_whole :
     (stations : ℕ) (trace : List TraceRecord) (before after : List ℕ) (i : ℕ)
     → length trace ≤ i
