@@ -1,5 +1,5 @@
 -- `drop_files` meets its contract: file by file. Assumes nothing.
-use Rattle.std.proofs.Common.{ℕ, ◌≡◌, sym, ◌∙◌, [], arith}
+use Rattle.std.proofs.Common.{◌≡◌, sym, ◌∙◌, [], arith}
 use native.Mathlib.Numerals.{add-one}
 use Rattle.protocol.specs.declared.reply.Reply.TheVariants.{Done}
 use Rattle.service.proofs.EmbargoServing.{drops_none, drops_as, drops_next}

@@ -1,8 +1,7 @@
 -- `embargo_client` meets its contract: it is refused as its tests say, or the server forgets the client on all files.
 -- Assumes nothing.
-use Rattle.std.proofs.Common.{ℕ, ◌+◌, ◌*◌, ◌%◌, ◌<◌, ◌≤◌, ◌≡◌, refl, sym, ap, ◌∙◌, List, [], ◌∷◌, length, arith}
+use Rattle.std.proofs.Common.{ℕ, ◌+◌, ◌*◌, ◌<◌, ◌≤◌, ◌≡◌, refl, sym, ap, ◌∙◌, List, [], ◌∷◌, length, arith}
 use borrow.Author.Tests.{ne_eqb}
-use Rattle.sizes.specs.Sizes.{max_files}
 use Rattle.decision.specs.Lists.{first_of}
 use Rattle.protocol.specs.declared.entry.Entry.{Entry}
 use Rattle.protocol.specs.declared.step.Step.TheVariants.{Embargo}

@@ -2,9 +2,7 @@
 use Rattle.std.proofs.Common.{ℕ, ◌+◌, ◌*◌, ◌≤◌, ◌≡◌, refl, sym, ◌∙◌, List, [], length, take, arith}
 use native.Mathlib.Numerals.{add-one}
 use lib.Seq.{length-take-le}
-use Rattle.blocks.specs.Stores.{lent}
 use Rattle.words.specs.Said.{said_room, Begun}
-use Rattle.service.specs.Served.{Forgets}
 use Rattle.service.proofs.EmbargoServing.{forgets_none, forgets_as, forgets-next}
 use Rattle.service.proofs.embargo.forget_files.Goals as goal
 

@@ -1,17 +1,13 @@
 -- `report` meets its contract: refused by a test that looks at no row, refused since it clashes, or taken. Assumes nothing.
 use mathlib.Core.Path.{subst⁻¹}
-use Rattle.std.proofs.Common.{ℕ, ◌<◌, ◌≡◌, refl, sym, ap, ◌∙◌, Bool, true, false, List}
+use Rattle.std.proofs.Common.{ℕ, ◌≡◌, refl, sym, ap, ◌∙◌, true, false}
 use lib.Dec.{ltb}
 use borrow.Author.Tests.{lt-ltb, le-ltb, ne_eqb}
-use Rattle.sizes.specs.Sizes.{Permitted, max_clients}
-use Rattle.sizes.specs.declared.sizes.Sizes.{Sizes}
 use Rattle.protocol.specs.declared.reply.Reply.{Reply}
 use Rattle.protocol.specs.declared.reply.Reply.TheVariants.{Refused}
 use Rattle.protocol.specs.Reply.{no_calls}
 use Rattle.protocol.specs.declared.step.Step.TheVariants.{Report}
 use Rattle.blocks.specs.Stores.{lent}
-use Rattle.table.specs.Clash.{clash_file}
-use Rattle.words.specs.Rows.{entry_held}
 use Rattle.service.specs.Served.{reply_numbered, Serves}
 use Rattle.service.proofs.Serving.{clash_held, refused_moves, report_moves}
 use Rattle.service.proofs.TableStoring.{report_refused, report_serves}

@@ -1,5 +1,5 @@
 -- `answer_file` meets its contract. Assumes nothing.
-use Rattle.std.proofs.Common.{ℕ, ◌%◌, ◌≡◌, refl, sym, ap, ◌∙◌, false, cond, arith}
+use Rattle.std.proofs.Common.{◌%◌, ◌≡◌, refl, sym, ap, ◌∙◌, false, cond, arith}
 use lib.Dec.{ltb}
 use borrow.Author.Tests.{lt-ltb, le-ltb}
 use Rattle.sizes.specs.Sizes.{max_files, first_place}
@@ -33,10 +33,10 @@ returns c =
     (marked a.sizes.blocks (first_place (a.file % max_files)) c.dirty_blocks-own.result a.flags.now)
     a.flags.now =
     elim c.if-sent_in-gt0.branch [
-      then-sent_in-gt0 w ↦
+      | then-sent_in-gt0 w ↦
           w.flags-is ∙ w.mark_used.ensures
           ∙ sym (when _ _ (ap (ltb 0) (sym is) ∙ lt-ltb 0 n w.if-sent_in-gt0.true))
-    | else-sent_in-gt0 w ↦
+      | else-sent_in-gt0 w ↦
           w.flags-is ∙ sym (unless _ _ (ap (ltb 0) (sym is) ∙ le-ltb 0 n w.if-sent_in-gt0.false))
     ] in
     answer-serves c.requires.permitted c.requires.table_len

@@ -1,5 +1,5 @@
 -- `flush_file` meets its contract. Assumes nothing.
-use Rattle.std.proofs.Common.{true, false, refl, sym, ◌∙◌}
+use Rattle.std.proofs.Common.{false, refl, sym, ◌∙◌}
 use Rattle.protocol.specs.declared.step.Step.TheVariants.{Flush}
 use Rattle.protocol.specs.Reply.{no_calls}
 use Rattle.blocks.specs.Stores.{lent}

@@ -1,5 +1,5 @@
 -- `open_file` meets its contract. Assumes nothing.
-use Rattle.std.proofs.Common.{ℕ, ◌+◌, ◌%◌, ◌≡◌, refl, sym, ap, ◌∙◌, Bool, false, List, [], get_or}
+use Rattle.std.proofs.Common.{ℕ, ◌+◌, ◌%◌, refl, sym, ap, ◌∙◌, false, get_or}
 use Rattle.sizes.specs.Sizes.{max_files}
 use Rattle.protocol.specs.declared.step.Step.TheVariants.{Open}
 use Rattle.blocks.specs.Stores.{lent}

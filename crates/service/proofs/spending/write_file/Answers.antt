@@ -21,7 +21,7 @@ returns-then-is_refused c =
     c.takes_place-takes.ensures
     refl
     (block_moves c.takes_place-takes.result _ a.sizes (Write a.client a.file a.block a.value) a.client a.file
-    a.table.now a.flags.now (lent a.blocks.now a.copies.now a.held.now a.dirty.now)
+    a.table.now a.flags.now (lent c.args.blocks.now a.copies.now a.held.now a.dirty.now)
     c.side_of-own.result _ _ _ _ _ refl c.side_of-own.ensures c.write_block-reply.ensures)
     (sym c.is_refused.ensures ∙ c.if-is_refused.true)
 
@@ -33,11 +33,11 @@ returns-then-takes c =
     let caching : Bool = c.side_of-own.result.opens.caching in
     let bits : c.if-not-opens.flags ≡ cond caching a.flags.now (set a.flags.now (state_flags + at) true) =
     elim c.if-not-opens.branch [
-      then-not-opens w ↦
+      | then-not-opens w ↦
           w.flags-is
           ∙ ap (λ k. set a.flags.now (state_flags + k) true) w.place_of.ensures.value
           ∙ sym (unless a.flags.now (set a.flags.now (state_flags + at) true) (not-true caching w.if-not-opens.true))
-    | else-not-opens w ↦
+      | else-not-opens w ↦
           w.flags-is
           ∙ sym (when a.flags.now (set a.flags.now (state_flags + at) true) (not-false caching w.if-not-opens.false))
     ] in
@@ -47,7 +47,7 @@ returns-then-takes c =
     c.takes_place-takes.ensures
     refl
     (block_moves c.takes_place-takes.result _ a.sizes (Write a.client a.file a.block a.value) a.client a.file
-    a.table.now a.flags.now (lent a.blocks.now a.copies.now a.held.now a.dirty.now)
+    a.table.now a.flags.now (lent c.args.blocks.now a.copies.now a.held.now a.dirty.now)
     c.side_of-own.result _ _ _ _ _ refl c.side_of-own.ensures c.write_block-reply.ensures)
     at
     _
@@ -71,11 +71,11 @@ returns-else-takes c =
     let caching : Bool = c.side_of-own.result.opens.caching in
     let bits : c.if-not-opens.flags ≡ cond caching a.flags.now (set a.flags.now (state_flags + at) true) =
     elim c.if-not-opens.branch [
-      then-not-opens w ↦
+      | then-not-opens w ↦
           w.flags-is
           ∙ ap (λ k. set a.flags.now (state_flags + k) true) w.place_of.ensures.value
           ∙ sym (unless a.flags.now (set a.flags.now (state_flags + at) true) (not-true caching w.if-not-opens.true))
-    | else-not-opens w ↦
+      | else-not-opens w ↦
           w.flags-is
           ∙ sym (when a.flags.now (set a.flags.now (state_flags + at) true) (not-false caching w.if-not-opens.false))
     ] in
@@ -84,7 +84,7 @@ returns-else-takes c =
     c.takes_place-takes.ensures
     refl
     (block_moves c.takes_place-takes.result _ a.sizes (Write a.client a.file a.block a.value) a.client a.file
-    a.table.now a.flags.now (lent a.blocks.now a.copies.now a.held.now a.dirty.now)
+    a.table.now a.flags.now (lent c.args.blocks.now a.copies.now a.held.now a.dirty.now)
     c.side_of-own.result _ _ _ _ _ refl c.side_of-own.ensures c.write_block-reply.ensures)
     at
     _

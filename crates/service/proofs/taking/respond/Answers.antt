@@ -10,7 +10,7 @@ use Rattle.protocol.specs.Step.{step_asked}
 use Rattle.blocks.specs.Stores.{Stores, lent}
 use Rattle.file.specs.declared.opening.Response.{Response}
 use Rattle.sizes.specs.declared.sizes.Sizes.{Sizes}
-use Rattle.service.specs.Served.{reply_numbered, Serves}
+use Rattle.service.specs.Served.{Serves}
 use Rattle.service.proofs.AskedKinds.{open_asked, close_asked}
 use Rattle.service.proofs.Serving.{file_moves, block_moves}
 use Rattle.service.proofs.FileStoring.{close_serves, read_serves}

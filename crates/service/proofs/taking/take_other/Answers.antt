@@ -1,7 +1,7 @@
 -- `take_other` meets its contract: a kind that is none, or a step on all files, and the free places recounted. Assumes
 -- nothing.
 use mathlib.Core.Path.{subst⁻¹}
-use Rattle.std.proofs.Common.{ℕ, ◌≤◌, ◌<◌, refl, arith}
+use Rattle.std.proofs.Common.{◌≤◌, ◌<◌, refl, arith}
 use Rattle.sizes.specs.Sizes.{max_places}
 use Rattle.protocol.specs.Step.{step_asked}
 use Rattle.blocks.specs.Stores.{lent}

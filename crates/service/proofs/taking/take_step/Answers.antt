@@ -10,7 +10,10 @@ pub returns : goal.returns
 returns c =
     let a = c.args in
     stepped_step a.given a.kind a.client a.file a.block a.value a.table.now a.flags.now
-    (lent a.blocks.now a.copies.now a.held.now a.dirty.now)
-    a.words.now c.in_force-sizes.result _ _ _ _ _ _ _ c.if-kind-gt10.false c.in_force-sizes.ensures.value
+    (lent c.args.blocks.now a.copies.now a.held.now a.dirty.now) a.words.now
+    c.in_force-sizes.result c.respond-response.new.table c.respond-response.new.flags
+    (lent _ c.respond-response.new.copies c.respond-response.new.held c.respond-response.new.dirty)
+    c.say.new.words c.say.result c.respond-response.result.reply c.respond-response.result.calls
+    c.if-kind-gt10.false c.in_force-sizes.ensures.value
     c.respond-response.ensures
     c.say.ensures
