@@ -36,7 +36,7 @@ module _ (n f b : ℕ) (flags dirty : List Bool) (p : ℕ) (there : p ≡ place 
       (r : Bool) → get_or flags (state_flags + p) false ≡ false → r ≡ reserved → r ≡ counted_held n flags dirty f b
   counted-else r e known = others-counted used reserved r (read ∙ e) known
 
-pub returns-then-flags-place_of : goal.returns-then-flags
+pub returns-then-flags-place_of : goal.returns-then-flags-place_of
 returns-then-flags-place_of c =
     let a = c.args in
     counted-used a.clients a.file a.block a.flags.now a.dirty.now c.place_of.result

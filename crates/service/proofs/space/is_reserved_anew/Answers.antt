@@ -8,7 +8,6 @@ use lib.ListN.{get_or}
 use Rattle.sizes.specs.Sizes.{cell}
 use Rattle.blocks.proofs.Wrapped.{wrapped}
 use Rattle.service.specs.Counted.{counted_held, is_anew}
-use borrow.Author.Tests.{not-true, not-false}
 use Rattle.service.proofs.space.is_reserved_anew.Goals as goal
 
 clean : (d k : Bool) → d ≡ false → false ≡ (d && k)
@@ -22,22 +21,22 @@ module _ (n i f b : ℕ) (flags dirty : List Bool) (q : ℕ) (there : q ≡ cell
   read : get_or dirty (cell i f b) false ≡ get_or dirty q false
   read = ap (λ k. get_or dirty k false) (sym there)
 
-  anew-clean : not (get_or dirty q false) ≡ true → false ≡ is_anew n i flags dirty f b
+  anew-clean : get_or dirty q false ≡ false → false ≡ is_anew n i flags dirty f b
   anew-clean e =
       clean (get_or dirty (cell i f b) false) (not (counted_held n flags dirty f b))
-      (read ∙ not-true (get_or dirty q false) e)
+      (read ∙ e)
 
   anew-dirty :
       (r : Bool)
-      → not (get_or dirty q false) ≡ false
+      → get_or dirty q false ≡ true
       → r ≡ counted_held n flags dirty f b
       → not r ≡ is_anew n i flags dirty f b
   anew-dirty r e known =
       dirtied (get_or dirty (cell i f b) false) (counted_held n flags dirty f b) r
-      (read ∙ not-false (get_or dirty q false) e)
+      (read ∙ e)
       known
 
-pub returns-then-not-dirty-cell_of : goal.returns-then-not-dirty
+pub returns-then-not-dirty-cell_of : goal.returns-then-not-dirty-cell_of
 returns-then-not-dirty-cell_of c =
     let a = c.args in
     anew-clean a.clients a.client a.file a.block a.flags.now a.dirty.now c.cell_of.result

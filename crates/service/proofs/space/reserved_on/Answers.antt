@@ -6,7 +6,6 @@ use mathlib.Core.Bool.{Bool, false, not, ◌&&◌}
 use mathlib.Core.List.{List}
 use native.Mathlib.Omega.{arith}
 use lib.ListN.{get_or}
-use borrow.Author.Tests.{not-true}
 use Rattle.sizes.specs.declared.sizes.Sizes.{Sizes}
 use Rattle.sizes.specs.Sizes.{Permitted, max_blocks, first_cell}
 use Rattle.decision.proofs.Counting.{counted_none, counted_next, counted_fits, counted_all_lem}
@@ -38,7 +37,7 @@ returns-then-not-is_any_dirty c =
     none-anew a.sizes a.client a.file c.first_cell.result a.flags.now a.dirty.now
     c.requires.permitted
     (c.first_cell.ensures.value ∙ wrapped_cell a.client a.file c.requires.client_lt_max_clients c.requires.file_lt_max_files)
-    (c.is_any_dirty.ensures (not-true c.is_any_dirty.result c.if-not-is_any_dirty.true))
+    (c.is_any_dirty.ensures c.if-not-is_any_dirty.true)
 
 pub loop-b-init : goal.loop-b-init
 loop-b-init c = counted_none

@@ -47,7 +47,7 @@ module _ (n i f b : ℕ) (flags dirty : List Bool) (p q : ℕ) (there : p ≡ pl
       → not y ≡ takes_held n i f b flags dirty
   takes-unless y e known = otherwise used reserved mine y (read ∙ e) known
 
-pub returns-then-flags-place_of : goal.returns-then-flags-bitor-dirty
+pub returns-then-flags-place_of : goal.returns-then-flags-place_of
 returns-then-flags-place_of c =
     let a = c.args in
     takes_none a.clients (a.client % max_clients) (a.file % max_files) (a.block % max_blocks)
