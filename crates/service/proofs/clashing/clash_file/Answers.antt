@@ -7,16 +7,8 @@ use Rattle.decision.proofs.Finding.{first_is, first_none}
 use Rattle.protocol.specs.declared.client.ClientFile.{ClientFile}
 use Rattle.protocol.specs.Clash.{clashes_on}
 use Rattle.words.specs.Rows.{entry_held}
-use Rattle.service.proofs.Reporting.{clashes_here, none_first, none_on}
+use Rattle.service.proofs.Reporting.{clashes_here, none_on}
 use Rattle.service.proofs.clashing.clash_file.Goals as goal
-
-pub loop-f-init : goal.loop-f-init
-loop-f-init c =
-    let a = c.args in (
-      c.next_said-f.ensures.1,
-      none_first a.sizes.clients a.client (λ j. get_or a.flags.now j false) a.table.now c.next_said-f.result
-          c.next_said-f.ensures.2,
-    )
 
 pub returns-then-clashes_on : goal.returns-then-clashes_on
 returns-then-clashes_on c =

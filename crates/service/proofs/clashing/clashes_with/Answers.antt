@@ -4,14 +4,11 @@ use mathlib.Core.Bool.{Bool, false, ◌&&◌}
 use native.Mathlib.Numerals.{add-one}
 use native.Mathlib.Omega.{arith}
 use lib.ListN.{get_or}
-use Rattle.decision.proofs.Finding.{none_below, none_next, first_is, first_none}
+use Rattle.decision.proofs.Finding.{none_next, first_is, first_none}
 use Rattle.protocol.specs.declared.client.ClientFile.{ClientFile}
 use Rattle.protocol.specs.Clash.{clash, accepted_of}
 use Rattle.words.specs.Rows.{entry_held}
 use Rattle.service.proofs.clashing.clashes_with.Goals as goal
-
-pub loop-j-init : goal.loop-j-init
-loop-j-init c = (omega arith, none_below _)
 
 pub returns-then-flags-j : goal.returns-then-flags-j
 returns-then-flags-j c =
@@ -33,7 +30,7 @@ loop-j-preserved c =
     ap (λ (x : Bool). get_or a.flags.now c.loop-j.j false && x)
     (sym (c.clashes.ensures ∙ ap (λ (d : ClientFile). clash a.own d) c.accepted_in-accepted.ensures)) in (
       omega arith,
-      rw add-one
+      rw (add-one c.loop-j.j)
           (none_next c.loop-j.j
           (λ i. get_or a.flags.now i false && clash a.own (accepted_of (entry_held a.table.now a.f) i))
           c.loop-j.invariant.1

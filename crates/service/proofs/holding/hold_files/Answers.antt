@@ -3,11 +3,8 @@ use mathlib.Core.Path.{◌≡◌, ◌∙◌}
 use lib.ListN.{length}
 use Rattle.sizes.specs.Sizes.{max_files}
 use Rattle.decision.proofs.Beyond.{unmapped}
-use Rattle.service.proofs.Held.{rows_none, rows_more, rows_all}
+use Rattle.service.proofs.Held.{rows_more, rows_all}
 use Rattle.service.proofs.holding.hold_files.Goals as goal
-
-pub loop-f-init : goal.loop-f-init
-loop-f-init c = rows_none
 
 pub loop-f-preserved : goal.loop-f-preserved
 loop-f-preserved c = rows_more c.loop-f.invariant c.loop-f-test.true c.put_file.ensures

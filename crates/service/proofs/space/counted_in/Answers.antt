@@ -2,7 +2,7 @@
 use native.Mathlib.Omega.{arith}
 use Rattle.service.specs.Lent.{recovering_held, used_held}
 use Rattle.service.specs.Counted.{known_held}
-use Rattle.service.proofs.Counting.{counted_few, summed_none, summed_next, summed_fits, summed_all}
+use Rattle.service.proofs.Counting.{counted_few, summed_none, summed_next, summed_fits}
 use Rattle.service.proofs.space.counted_in.Goals as goal
 
 pub loop-f-init : goal.loop-f-init
@@ -23,6 +23,3 @@ overflow_add-found c =
 
 pub loop-f-preserved : goal.loop-f-preserved
 loop-f-preserved c = summed_next c.loop-f.invariant c.loop-f-test.true c.counted_on-found.ensures
-
-pub returns : goal.returns
-returns c = summed_all c.loop-f.invariant c.loop-f-test.false

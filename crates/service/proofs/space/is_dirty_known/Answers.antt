@@ -8,7 +8,7 @@ use lib.ListN.{get_or}
 use Rattle.sizes.specs.Sizes.{max_clients}
 use Rattle.blocks.proofs.Wrapped.{wrapped}
 use Rattle.service.specs.Counted.{known_held}
-use Rattle.service.proofs.Counting.{asked_none, asked_next, asked_all}
+use Rattle.service.proofs.Counting.{asked_none, asked_next}
 use Rattle.service.proofs.space.is_dirty_known.Goals as goal
 
 pub loop-i-init : goal.loop-i-init
@@ -22,6 +22,3 @@ loop-i-preserved c =
     asked_next c.loop-i.invariant c.loop-i-test.true
     (ap (λ k. known_held a.recovering a.flags.now i && get_or a.dirty.now k false)
     (c.cell_of.ensures.value ∙ wrapped i a.file a.block below c.requires.file_lt_max_files c.requires.block_lt_max_blocks))
-
-pub returns : goal.returns
-returns c = asked_all c.loop-i.invariant c.loop-i-test.false

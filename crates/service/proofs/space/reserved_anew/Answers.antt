@@ -2,7 +2,7 @@
 -- nothing.
 use native.Mathlib.Omega.{arith}
 use Rattle.service.specs.Counted.{is_anew}
-use Rattle.service.proofs.Counting.{count_most, summed_none, summed_next, summed_fits, summed_all}
+use Rattle.service.proofs.Counting.{count_most, summed_none, summed_next, summed_fits}
 use Rattle.service.proofs.space.reserved_anew.Goals as goal
 
 pub loop-f-init : goal.loop-f-init
@@ -22,6 +22,3 @@ overflow_add-found c =
 
 pub loop-f-preserved : goal.loop-f-preserved
 loop-f-preserved c = summed_next c.loop-f.invariant c.loop-f-test.true c.reserved_on-found.ensures
-
-pub returns : goal.returns
-returns c = summed_all c.loop-f.invariant c.loop-f-test.false

@@ -8,7 +8,7 @@ use native.Mathlib.Omega.{arith}
 use lib.ListN.{get_or}
 use Rattle.sizes.specs.declared.sizes.Sizes.{Sizes}
 use Rattle.sizes.specs.Sizes.{Permitted, max_blocks, first_cell}
-use Rattle.decision.proofs.Counting.{counted_none, counted_next, counted_fits, counted_all_lem}
+use Rattle.decision.proofs.Counting.{counted_none, counted_next, counted_fits}
 use Rattle.blocks.proofs.Wrapped.{wrapped_cell}
 use Rattle.service.specs.Counted.{is_anew, counted_held, anew_on}
 use Rattle.service.proofs.Counting.{count_false}
@@ -52,6 +52,3 @@ overflow_add-found c =
 
 pub loop-b-preserved : goal.loop-b-preserved
 loop-b-preserved c = counted_next c.loop-b.invariant c.loop-b-test.true c.is_reserved_anew.ensures c.one_if-found.ensures
-
-pub returns : goal.returns
-returns c = counted_all_lem c.loop-b.invariant c.loop-b-test.false

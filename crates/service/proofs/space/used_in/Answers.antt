@@ -4,7 +4,7 @@ use native.Mathlib.Omega.{arith}
 use lib.ListN.{get_or}
 use Rattle.sizes.specs.Sizes.{place}
 use Rattle.service.specs.Lent.{used_held}
-use Rattle.service.proofs.Counting.{count_most, summed_none, summed_next, summed_fits, summed_all}
+use Rattle.service.proofs.Counting.{count_most, summed_none, summed_next, summed_fits}
 use Rattle.service.proofs.space.used_in.Goals as goal
 
 pub loop-f-init : goal.loop-f-init
@@ -24,6 +24,3 @@ overflow_add-found c =
 
 pub loop-f-preserved : goal.loop-f-preserved
 loop-f-preserved c = summed_next c.loop-f.invariant c.loop-f-test.true c.used_on-found.ensures
-
-pub returns : goal.returns
-returns c = summed_all c.loop-f.invariant c.loop-f-test.false

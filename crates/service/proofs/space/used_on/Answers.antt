@@ -1,14 +1,10 @@
 -- `used_on` meets its contract: after b blocks the sum is how many of them are used. Assumes nothing.
-use Prim.Native.Nat.{ℕ, ◌+◌, ◌<◌}
-use mathlib.Core.Path.{◌≡◌, ◌∙◌}
-use mathlib.Core.Bool.{Bool, false}
-use mathlib.Core.List.{List}
+use Prim.Native.Nat.{◌<◌}
+use mathlib.Core.Path.{◌∙◌}
 use native.Mathlib.Omega.{arith}
-use lib.ListN.{get_or}
-use Rattle.sizes.specs.Sizes.{max_blocks, place}
-use Rattle.decision.proofs.Counting.{counted_none, counted_next, counted_fits, counted_all_lem}
+use Rattle.sizes.specs.Sizes.{max_blocks}
+use Rattle.decision.proofs.Counting.{counted_none, counted_next, counted_fits}
 use Rattle.blocks.proofs.Wrapped.{wrapped_block}
-use Rattle.service.specs.Lent.{state_flags, used_held}
 use Rattle.service.proofs.LentFlags.{flag_used}
 use Rattle.service.proofs.space.used_on.Goals as goal
 
@@ -34,6 +30,3 @@ loop-b-preserved c =
     (flag_used c.args.flags.now c.place_of.result c.args.file c.loop-b.b
     (c.place_of.ensures.value ∙ wrapped_block c.args.file c.loop-b.b c.requires.file_lt_max_files below))
     c.one_if-found.ensures
-
-pub returns : goal.returns
-returns c = counted_all_lem c.loop-b.invariant c.loop-b-test.false

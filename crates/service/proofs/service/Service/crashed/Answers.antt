@@ -1,5 +1,4 @@
 -- `crashed` meets its contract. Assumes nothing.
-use mathlib.Core.List.{[]}
 use native.Mathlib.Omega.{arith}
 use Rattle.service.proofs.Agreeing.{held_crash}
 use Rattle.service.proofs.service.Service.crashed.Goals as goal
