@@ -13,7 +13,7 @@ use words::{SAID, WORDS, calls_with, reply_of};
 pub const MAX_OPENINGS: usize = 16;
 
 // What one opening of the list got.
-#[derive(Drop)]
+#[derive(Clone, Copy)]
 pub struct OpenReply {
     pub reply: Reply,
     // The callbacks that it sends, by ascending client: a kind for each client, 0 for none.
@@ -21,7 +21,7 @@ pub struct OpenReply {
 }
 
 // What a batch hands back.
-#[derive(Drop)]
+#[derive(Clone, Copy)]
 pub struct BatchOutcome {
     pub service: Service,
     // Done, or refused with 18, and then no opening was tried.

@@ -68,7 +68,7 @@ fn with_argument(program: u8, i: usize, next: usize, request: Request) -> Reques
 }
 
 // What stands between two arguments: what those so far ask for, and whether standard output takes more.
-#[derive(Drop)]
+#[derive(Clone, Copy)]
 struct Standing {
     request: Request,
     writes: bool,

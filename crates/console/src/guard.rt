@@ -15,7 +15,7 @@ use libc::PATH_MAX;
 use protocol::Reply;
 
 // The places of the arguments that name the image to begin with and the image to write at the end; 0: there is none.
-#[derive(Drop)]
+#[derive(Clone, Copy)]
 pub struct Images {
     pub read: usize,
     pub written: usize,

@@ -15,7 +15,7 @@ use sizes::Sizes;
 use unsaved::write_unsaved;
 
 // Where a play begins.
-#[derive(Drop)]
+#[derive(Clone, Copy)]
 pub struct Start {
     // There is no start if the image could not be read, which is told of.
     pub found: bool,

@@ -6,7 +6,7 @@ use libc::STDOUT_FILENO;
 use service::Service;
 
 // How a play ended.
-#[derive(Drop)]
+#[derive(Clone, Copy)]
 pub struct End {
     // The input could be read, and standard output took all that was written. Where one is false, errno says why.
     pub reads: bool,

@@ -8,7 +8,7 @@ use records::ClientRecord;
 use sizes::MAX_CLIENTS;
 
 // The states of the 1989 paper's section 4.3.4.
-#[derive(Drop)]
+#[derive(Clone, Copy)]
 pub enum FileState {
     Closed,
     ClosedDirty,
@@ -20,7 +20,7 @@ pub enum FileState {
 }
 
 // What a client is counted for.
-#[derive(Drop)]
+#[derive(Clone, Copy)]
 pub enum Property {
     Open,
     // Open, and may not cache.
@@ -88,7 +88,7 @@ pub fn one_if(holds: bool) -> usize
 }
 
 // How many clients are open, open without permission to cache, and open with writers.
-#[derive(Drop)]
+#[derive(Clone, Copy)]
 pub struct Tallies {
     pub open: usize,
     pub uncached: usize,

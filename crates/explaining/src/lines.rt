@@ -19,7 +19,7 @@ use telling::can_tell;
 use words::{SAID, WORDS};
 
 // How far a buffer was explained.
-#[derive(Drop)]
+#[derive(Clone, Copy)]
 pub struct Progress {
     pub sizes: Sizes,
     // The number of the next line.

@@ -18,7 +18,7 @@ use telling::fill;
 use words::WORDS;
 
 // What stands between two turns, beside the arrays.
-#[derive(Drop)]
+#[derive(Clone, Copy)]
 pub struct Session {
     // The session began with the fresh service: line 1 may choose the sizes.
     pub fresh: bool,
@@ -36,7 +36,7 @@ pub struct Session {
 }
 
 // The session after a turn, and the bytes of the output that the turn wrote.
-#[derive(Drop)]
+#[derive(Clone, Copy)]
 pub struct Advance {
     pub session: Session,
     pub written: usize,

@@ -33,7 +33,7 @@ use stepfile::Setting;
 use words::{ROW, SAID, WORDS, reply_of, say, side_of};
 
 // What a line looks at before its step is taken.
-#[derive(Drop)]
+#[derive(Clone, Copy)]
 pub struct Seen {
     // What is told of a read.
     pub told: Told,
@@ -162,7 +162,7 @@ pub fn tell_step(
 }
 
 // The sizes after a setting, and the offset past its text.
-#[derive(Drop)]
+#[derive(Clone, Copy)]
 pub struct Set {
     pub sizes: Sizes,
     pub to: usize,

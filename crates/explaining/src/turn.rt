@@ -15,7 +15,7 @@ use telling::{can_tell, kept_of, least, move_down};
 use words::WORDS;
 
 // What a turn leaves.
-#[derive(Drop)]
+#[derive(Clone, Copy)]
 pub struct Turn {
     pub sizes: Sizes,
     // The number of the next line.

@@ -15,7 +15,7 @@ use sizes::{MAX_CELLS, MAX_CLIENTS, MAX_FILES, Sizes};
 use words::{ROW, WORDS, calls_word, entry_at, head_word, side_of};
 
 // The reply to an open, and the callbacks that it sends: a kind for each client, 0 for none.
-#[derive(Drop)]
+#[derive(Clone, Copy)]
 pub struct Response {
     pub reply: Reply,
     pub calls: [u8; MAX_CLIENTS],

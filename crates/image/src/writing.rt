@@ -15,7 +15,7 @@ use service::Service;
 use sizes::{MAX_FILES, Sizes};
 
 // The length of the image that was written, or the number of the refusal.
-#[derive(Drop)]
+#[derive(Clone, Copy)]
 pub enum ImageWritten {
     Length(usize),
     Refused(u8),

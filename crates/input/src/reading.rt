@@ -3,7 +3,7 @@ ghost use Rattle.std.specs.Prelude.{◌≤◌, length};
 ghost use Rattle.io.specs.Counts.{IsPrefixLen};
 
 // What was read of an input.
-#[derive(Drop)]
+#[derive(Clone, Copy)]
 pub struct Content {
     // How many bytes stand at the start of the buffer.
     pub count: usize,

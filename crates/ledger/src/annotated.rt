@@ -6,7 +6,7 @@ use crate::ledger::Ledger;
 use crate::refusals::REFUSAL_NUMBERS;
 use service::Service;
 
-#[derive(Drop)]
+#[derive(Clone, Copy)]
 pub struct Annotated {
     pub service: Service,
     pub ledger: Ledger,

@@ -9,7 +9,7 @@ use sizes::{MAX_CELLS, MAX_CLIENTS, MAX_FILES};
 pub const BEGINNINGS: usize = MAX_FILES + MAX_CLIENTS;
 
 // Lines have numbers from 1; 0 stands for none.
-#[derive(Drop)]
+#[derive(Clone, Copy)]
 pub struct Ledger {
     // Of each block: the lines of the writes to it that `Lines` has, and their clients.
     pub written: [u64; NOTES],

@@ -10,7 +10,7 @@ use sizes::MAX_PLACES;
 // The arrays have first the safe writes of all blocks, then those at risk, then those lost.
 pub const NOTES: usize = 3 * MAX_PLACES;
 
-#[derive(Drop)]
+#[derive(Clone, Copy)]
 pub struct Lines {
     pub safe: u64,
     pub saver: u8,

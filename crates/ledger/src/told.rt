@@ -8,7 +8,7 @@ use crate::lines::{NOTES, lines_in};
 use blocks::{cell_of, place_of};
 use sizes::MAX_CELLS;
 
-#[derive(Drop)]
+#[derive(Clone, Copy)]
 pub struct Told {
     // From the client's own copy; else from the server.
     pub own: bool,

@@ -6,7 +6,7 @@ ghost use Rattle.options.specs.Options.{with_name, with_argument, is_given, is_m
 use check::same;
 
 // What an argument is.
-#[derive(Drop)]
+#[derive(Clone, Copy)]
 pub enum Argument {
     // The name of a file.
     Name,
@@ -94,7 +94,7 @@ fn is_dashed(text: &[u8]) -> bool
 }
 
 // What the arguments so far ask for.
-#[derive(Drop)]
+#[derive(Clone, Copy)]
 pub struct Request {
     // An input is named.
     named: bool,
@@ -112,7 +112,7 @@ pub struct Request {
 }
 
 // What the program does.
-#[derive(Drop)]
+#[derive(Clone, Copy)]
 pub enum Act {
     Nothing,
     // The name of the image to write is missing, or of the image to read.

@@ -16,7 +16,7 @@ use words::{SAID, WORDS};
 use writer::{LINE_ROOM, write_said};
 
 // How far a buffer was played.
-#[derive(Drop)]
+#[derive(Clone, Copy)]
 pub struct Progress {
     pub sizes: Sizes,
     // The number of the next line.

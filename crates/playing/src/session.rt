@@ -16,7 +16,7 @@ use words::WORDS;
 use writer::{SUMMARY_ROOM, write_summary};
 
 // What stands between two turns, beside the arrays.
-#[derive(Drop)]
+#[derive(Clone, Copy)]
 pub struct Session {
     // Line 1 may choose the sizes.
     pub settable: bool,
@@ -34,7 +34,7 @@ pub struct Session {
 }
 
 // The session after a turn, and the bytes of the output that the turn wrote.
-#[derive(Drop)]
+#[derive(Clone, Copy)]
 pub struct Advance {
     pub session: Session,
     pub written: usize,

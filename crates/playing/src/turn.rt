@@ -13,7 +13,7 @@ use words::WORDS;
 use writer::LINE_ROOM;
 
 // What a turn leaves.
-#[derive(Drop)]
+#[derive(Clone, Copy)]
 pub struct Turn {
     pub sizes: Sizes,
     // The number of the next line.

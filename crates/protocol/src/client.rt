@@ -10,7 +10,7 @@ use decision::{invalidates, writes_back};
 use records::{ClientRecord, Mode, Version};
 use sizes::MAX_CLIENTS;
 
-#[derive(Drop)]
+#[derive(Clone, Copy)]
 pub struct ClientFile {
     pub opens: ClientRecord,
     // The last-writer flag (document 01: mark).
@@ -20,7 +20,7 @@ pub struct ClientFile {
 }
 
 // A client's copy of one block: its value, whether it is held, and whether it is dirty.
-#[derive(Drop)]
+#[derive(Clone, Copy)]
 pub struct BlockCopy {
     pub value: u64,
     pub held: bool,
@@ -29,7 +29,7 @@ pub struct BlockCopy {
 
 // What a read or a write leaves, of the client's side of the file, of its copy of the block and of the server's block;
 // and the reply.
-#[derive(Drop)]
+#[derive(Clone, Copy)]
 pub struct Accessed {
     pub side: ClientFile,
     pub copy: BlockCopy,
@@ -38,7 +38,7 @@ pub struct Accessed {
 }
 
 // The clients' sides of one file.
-#[derive(Drop)]
+#[derive(Clone, Copy)]
 pub struct Sides {
     pub of: [ClientFile; MAX_CLIENTS],
 }

@@ -16,7 +16,7 @@ use sizes::MAX_CLIENTS;
 // In a client field: none.
 pub const NOBODY: u8 = 255;
 
-#[derive(Drop)]
+#[derive(Clone, Copy)]
 pub struct Entry {
     pub records: [ClientRecord; MAX_CLIENTS],
     pub version: Version,

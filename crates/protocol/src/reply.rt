@@ -7,7 +7,7 @@ use crate::entry::NOBODY;
 use records::Version;
 
 // What the server tells the opener of a file.
-#[derive(Drop)]
+#[derive(Clone, Copy)]
 pub struct Grant {
     pub latest: Version,
     pub previous: Version,
@@ -15,7 +15,7 @@ pub struct Grant {
 }
 
 // The open of a client that waited, and that a step of another grants.
-#[derive(Drop)]
+#[derive(Clone, Copy)]
 pub struct Granting {
     pub client: u8,
     pub grant: Grant,
@@ -37,7 +37,7 @@ impl Granting {
     }
 }
 
-#[derive(Drop)]
+#[derive(Clone, Copy)]
 pub enum Reply {
     // The open is granted.
     Granted(Grant),

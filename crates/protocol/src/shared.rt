@@ -3,7 +3,7 @@ use crate::client::Sides;
 use crate::entry::Entry;
 
 // The server's entry of a file, and the clients' sides of it.
-#[derive(Drop)]
+#[derive(Clone, Copy)]
 pub struct SharedFile {
     pub entry: Entry,
     pub sides: Sides,

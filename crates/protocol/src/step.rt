@@ -5,7 +5,7 @@ ghost use Rattle.protocol.specs.Step.{five, numbers_of, by_mode};
 
 use records::Mode;
 
-#[derive(Drop)]
+#[derive(Clone, Copy)]
 pub enum Step {
     Open {
         mode: Mode,
@@ -63,7 +63,7 @@ pub enum Step {
 }
 
 // A step as five numbers; those that it does not have are 0.
-#[derive(Drop)]
+#[derive(Clone, Copy)]
 pub struct Numbers {
     pub kind: u64,
     pub client: usize,

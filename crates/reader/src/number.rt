@@ -6,7 +6,7 @@ ghost use Rattle.reader.specs.Offsets.{number_in};
 use decision::one_if;
 
 // What reading a number at an offset finds.
-#[derive(Drop)]
+#[derive(Clone, Copy)]
 pub enum Number {
     // The number, and the offset past its last digit.
     Is { value: u64, next: usize },

@@ -11,7 +11,7 @@ use sizes::{MAX_PLACES, Sizes};
 use stepfile::{Read, Setting};
 
 // What the first line of an input sets, and the offset past it.
-#[derive(Drop)]
+#[derive(Clone, Copy)]
 pub struct FirstSetting {
     pub setting: Setting,
     pub next: usize,

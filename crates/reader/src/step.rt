@@ -9,7 +9,7 @@ use protocol::Step;
 use records::Mode;
 
 // What reading a step at an offset finds: the step, and the offset past its last byte.
-#[derive(Drop)]
+#[derive(Clone, Copy)]
 pub enum Begun {
     Is { step: Step, next: usize },
     Missing,
@@ -310,7 +310,7 @@ fn lift_of(number: Number) -> Begun
 }
 
 // Two numbers, a client and a file, and the offset past them.
-#[derive(Drop)]
+#[derive(Clone, Copy)]
 pub enum Pair {
     Are {
         client: usize,
@@ -374,7 +374,7 @@ fn short_pair_at(s: &[u8], at: usize) -> Pair
 }
 
 // A client, a file and a block, and the offset past them.
-#[derive(Drop)]
+#[derive(Clone, Copy)]
 pub enum Triple {
     Are {
         client: usize,

@@ -6,7 +6,7 @@ ghost use Rattle.records.specs.Record.{raised as raised_count, opened as opened_
 ghost use Rattle.records.specs.Record.{settled as settled_record, uncached as uncached_record};
 
 // The mode of an open or a close. Opening for write means read and write.
-#[derive(Drop)]
+#[derive(Clone, Copy)]
 pub enum Mode {
     Read,
     Write,
@@ -33,7 +33,7 @@ impl Mode {
     }
 }
 
-#[derive(Drop)]
+#[derive(Clone, Copy)]
 pub struct ClientRecord {
     pub readers: u8,
     pub writers: u8,

@@ -7,7 +7,7 @@ ghost use Rattle.records.specs.Version.{is_no_version, is_first_version, is_last
 
 use crate::record::Mode;
 
-#[derive(Drop)]
+#[derive(Clone, Copy)]
 pub struct Version(u32);
 
 impl Version {

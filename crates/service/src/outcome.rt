@@ -3,7 +3,7 @@ use crate::service::Service;
 use protocol::{Granting, Reply};
 use sizes::{MAX_CLIENTS, MAX_FILES};
 
-#[derive(Drop)]
+#[derive(Clone, Copy)]
 pub struct Outcome {
     pub service: Service,
     pub reply: Reply,

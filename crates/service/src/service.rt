@@ -13,7 +13,7 @@ use sizes::{MAX_CELLS, MAX_CLIENTS, MAX_FILES, MAX_PLACES, Sizes};
 use table::Table;
 
 // The server: what a crash takes, and what survives it.
-#[derive(Drop)]
+#[derive(Clone, Copy)]
 pub struct Server {
     pub table: Table,
     // Block b of file f stands at f * MAX_BLOCKS + b, here and among the flags.
@@ -24,7 +24,7 @@ pub struct Server {
     pub free: usize,
 }
 
-#[derive(Drop)]
+#[derive(Clone, Copy)]
 pub struct Service {
     // As given; a size out of its range counts as not given.
     pub sizes: Sizes,

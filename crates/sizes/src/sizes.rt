@@ -16,7 +16,7 @@ pub const MAX_PLACES: usize = MAX_FILES * MAX_BLOCKS;
 pub const MAX_CELLS: usize = MAX_FILES * MAX_CLIENTS * MAX_BLOCKS;
 
 // The sizes as given; one that is out of its range counts as not given.
-#[derive(Drop)]
+#[derive(Clone, Copy)]
 pub struct Sizes {
     pub clients: usize,
     pub files: usize,

@@ -2,14 +2,14 @@
 use protocol::Step;
 
 // What a line gives.
-#[derive(Drop)]
+#[derive(Clone, Copy)]
 pub enum Parsed {
     Is(Step),
     NoStep,
 }
 
 // What stands at an offset of an input.
-#[derive(Drop)]
+#[derive(Clone, Copy)]
 pub enum Read {
     // A line: what it gives, and the offset past its LF.
     Line { parsed: Parsed, next: usize },

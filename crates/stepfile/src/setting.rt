@@ -1,7 +1,7 @@
 // What the first line gives as settings.
 use sizes::Sizes;
 
-#[derive(Drop)]
+#[derive(Clone, Copy)]
 pub enum Setting {
     Are(Sizes),
     // A settings line with a number outside its range.

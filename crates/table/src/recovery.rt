@@ -9,7 +9,7 @@ use protocol::{Reply, Step};
 use sizes::{MAX_CLIENTS, Sizes};
 
 // What a step on the whole table does to the entries in force.
-#[derive(Drop)]
+#[derive(Clone, Copy)]
 pub enum Sweep {
     Stay,
     // Of all that they hold only the versions survive.
@@ -19,7 +19,7 @@ pub enum Sweep {
 }
 
 // The state of a recovery.
-#[derive(Drop)]
+#[derive(Clone, Copy)]
 pub struct Recovery {
     pub recovering: bool,
     pub reported: [bool; MAX_CLIENTS],
@@ -28,7 +28,7 @@ pub struct Recovery {
 }
 
 // The state of the recovery after a step, the reply, and what the entries do.
-#[derive(Drop)]
+#[derive(Clone, Copy)]
 pub struct RecoveryOutcome {
     pub recovery: Recovery,
     pub reply: Reply,

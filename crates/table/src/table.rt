@@ -2,7 +2,7 @@
 use protocol::{Entry, Reply};
 use sizes::{MAX_CLIENTS, MAX_FILES};
 
-#[derive(Drop)]
+#[derive(Clone, Copy)]
 pub struct Table {
     pub files: [Entry; MAX_FILES],
     pub recovering: bool,
@@ -13,7 +13,7 @@ pub struct Table {
 }
 
 // The table after a step on all of it, and the reply.
-#[derive(Drop)]
+#[derive(Clone, Copy)]
 pub struct TableOutcome {
     pub table: Table,
     pub reply: Reply,

@@ -1,5 +1,5 @@
 // A record of a trace: what happened at a station.
-#[derive(Drop)]
+#[derive(Clone, Copy)]
 pub enum TraceKind {
     Open,
     Close,
@@ -11,7 +11,7 @@ pub enum TraceKind {
     Other,
 }
 
-#[derive(Drop)]
+#[derive(Clone, Copy)]
 pub enum TraceOutcome {
     Done,
     // A read from the copy, and one from the server.
@@ -22,7 +22,7 @@ pub enum TraceOutcome {
     Pending,
 }
 
-#[derive(Drop)]
+#[derive(Clone, Copy)]
 pub struct TraceRecord {
     pub station: u8,
     pub kind: TraceKind,

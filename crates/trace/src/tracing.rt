@@ -20,7 +20,7 @@ use words::{ROW, SAID, WORDS, calls_with, side_of};
 pub const TRACE: usize = 2 + MAX_BLOCKS + MAX_CLIENTS + MAX_FILES;
 
 // So many records, in the first places.
-#[derive(Drop)]
+#[derive(Clone, Copy)]
 pub struct Trace {
     pub records: [TraceRecord; TRACE],
     pub count: usize,
