@@ -1,16 +1,18 @@
 -- `open_batch` meets its contract: each opening leaves in the arrays, and says, the outcome of its step, and `Trying`
 -- carries it from opening to opening. Assumes nothing.
 use Prim.Native.Nat.{◌≤◌}
-use mathlib.Core.Path.{◌∙◌, subst}
+use mathlib.Core.Path.{◌≡◌, ◌∙◌, subst}
+use mathlib.Core.List.{List}
 use native.Mathlib.Omega.{arith}
 use borrow.Author.Rules.{rules}
 use lib.ListN.{length, get_or, replicate}
+use Rattle.protocol.specs.declared.step.Step.{Step}
 use Rattle.protocol.specs.declared.step.Step.TheVariants.{Open}
 use Rattle.blocks.specs.Stores.{lent}
 use Rattle.service.specs.declared.service.Service.{Service}
 use Rattle.service.specs.Lent.{service_held}
 use Rattle.service.proofs.Speaking.{stepped_outcome}
-use Rattle.batch.specs.Batch.{listed, opens_of, max_openings, no_reply}
+use Rattle.batch.specs.Batch.{listed, max_openings, no_reply}
 use Rattle.batch.proofs.Promised.{promised}
 use Rattle.batch.proofs.Trying.{Reached, none_yet, one_opening, tried_all, refused_list}
 use Rattle.batch.proofs.batch.open_batch.Goals as goal
@@ -19,17 +21,17 @@ pub returns-then-count-gt-MAX_OPENINGS-clause-value : goal.returns-then-count-gt
 returns-then-count-gt-MAX_OPENINGS-clause-value c =
     refused_list c.args.service c.args.client c.args.files.now c.args.writes.now c.if-count-gt-MAX_OPENINGS.true
 
+-- before the first opening the service s is held in the arrays
+none_held : (came s : Service) (xs : List Step) → came ≡ s → Reached s xs came 0 xs (replicate max_openings no_reply)
+none_held came s xs is = subst (λ (s : Service). Reached s xs came 0 xs (replicate max_openings no_reply)) is (none_yet came xs)
+
 pub loop-k-init : goal.loop-k-init
-loop-k-init c =
-    let a = c.args in
-    let new = c.hold.new in
-    let came = service_held a.service.sizes new.table new.flags (lent new.blocks new.copies new.held new.dirty) in
-    let xs = opens_of a.client (listed a.files.now a.writes.now) in (
-      subst (λ (s : Service). Reached s xs came 0 xs (replicate max_openings no_reply)) c.hold.ensures.dirty_after (none_yet came xs),
-      c.hold.ensures.table_len_2,
-      c.hold.ensures.flags_len_2,
-      search rules,
-    )
+loop-k-init c = (
+  none_held _ _ _ c.hold.ensures.dirty_after,
+  c.hold.ensures.table_len_2,
+  c.hold.ensures.flags_len_2,
+  search rules,
+)
 
 pub loop-k-preserved : goal.loop-k-preserved
 loop-k-preserved c =
