@@ -12,7 +12,7 @@ use Rattle.records.specs.declared.record.ClientRecord.{ClientRecord}
 use Rattle.records.specs.Record.{is_write}
 use Rattle.protocol.specs.declared.client.ClientFile.{ClientFile}
 use Rattle.records.specs.Version.{version_of}
-use Rattle.words.specs.Words.{record_held, side_held, digits, digit, mode_held, version_held, waiter_held, Head}
+use Rattle.words.specs.Words.{record_held, side_held, digits, digit, mode_held, Head}
 
 -- a flag, packed as 1 or 0
 bit_back : (b : Bool) (n : ℕ) → n ≡ cond b 1 0 → eqb n 1 ≡ b

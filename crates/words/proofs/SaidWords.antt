@@ -9,7 +9,7 @@ use native.Mathlib.Omega.{arith}
 use lib.Dec.{eqb}
 use lib.ListN.{length, get_or, set, take, drop, length-set}
 use lib.Seq.{take-suc-set, drop-set-lt, drop-drop, get_or-set_same, get_or-set_other, get_or-take}
-use Rattle.records.specs.Version.{version_of, number_of}
+use Rattle.records.specs.Version.{number_of}
 use Rattle.sizes.proofs.Choosing.{conflict}
 use Rattle.protocol.specs.declared.reply.Grant.{Grant}
 use Rattle.protocol.specs.declared.reply.Granting.{Granting}
@@ -18,7 +18,7 @@ use Rattle.protocol.specs.declared.reply.Reply.TheVariants.{Waiting, AnsweredGra
 use Rattle.protocol.specs.Reply.{letter_of, values_of, grant_values, no_grants, grants_values}
 use Rattle.words.specs.Words.{calls_held}
 use Rattle.words.specs.Rows.{listed}
-use Rattle.words.specs.Said.{said_room, calls?, grant_said, grants_said, reply_said, Says, SaysIn, Begun}
+use Rattle.words.specs.Said.{said_room, calls?, grant_said, grants_said, reply_said, SaysIn, Begun}
 
 pub begun_none : (ws : List ℕ) → Begun ws 0 [] ws
 begun_none ws = record { first = refl; long = refl; past = refl }

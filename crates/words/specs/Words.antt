@@ -1,5 +1,5 @@
 -- What the words of the lent table mean. Every number means something.
-use Rattle.std.specs.Prelude.{ℕ, zero, suc, ◌/◌, ◌%◌, ◌≡◌, Bool, cond, List, [], ◌∷◌, eqb}
+use Rattle.std.specs.Prelude.{ℕ, zero, suc, ◌/◌, ◌%◌, ◌≡◌, cond, List, [], ◌∷◌, eqb}
 use Rattle.records.specs.declared.record.Mode.{Mode}
 use Rattle.records.specs.declared.record.Mode.TheVariants.{Read, Write}
 use Rattle.records.specs.declared.record.ClientRecord.{ClientRecord}

@@ -3,15 +3,15 @@
 use Prim.Native.Nat.{ℕ}
 use mathlib.Core.Path.{◌≡◌, refl, sym, ◌∙◌, ap, subst}
 use mathlib.Core.Bool.{Bool, true, false, cond, not, ◌&&◌, ◌||◌, false≢true}
-use mathlib.Core.Logic.{◌⊎◌, inl, inr}
-use mathlib.Core.List.{List, [], ◌∷◌}
+use mathlib.Core.Logic.{inl, inr}
+use mathlib.Core.List.{[], ◌∷◌}
 use lib.Dec.{eqb}
-use borrow.Author.Tests.{eqb-true, eq-eqb, not-true}
+use borrow.Author.Tests.{eqb-true, eq-eqb}
 use Rattle.sizes.proofs.Choosing.{when, unless}
 use Rattle.protocol.specs.Book.{Written, HistoryOf, History, latest, wrote, came, lost, risked_by}
 use Rattle.protocol.proofs.View.{at}
 use Rattle.protocol.proofs.Invariant.{AllSafe, Risks, latest_safe, Booked}
-use Rattle.protocol.proofs.Invariant.Flags.{conflict, is_false, split, and_left, and_right, and_both, or_left, or_right, other_sym, change}
+use Rattle.protocol.proofs.Invariant.Flags.{conflict, is_false, split, and_right, and_both, or_left, or_right, other_sym, change}
 
 -- a write stays safe or not
 kept_safe : (a b : Bool) → a ≡ true → (a || b) ≡ a

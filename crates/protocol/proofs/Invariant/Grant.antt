@@ -31,7 +31,7 @@ use Rattle.protocol.proofs.Invariant.Change.{clients_at, known_at}
 use Rattle.protocol.proofs.Invariant.Last.{last_none_at, last_same_at}
 use Rattle.protocol.proofs.Invariant.Block.{dirty-latest}
 use Rattle.protocol.proofs.Invariant.Permission.{Permitted}
-use Rattle.protocol.proofs.Invariant.Latest.{Latest, latest}
+use Rattle.protocol.proofs.Invariant.Latest.{Latest}
 
 -- What WS says of another client once no callback is out.
 pub record Ready (client : ℕ → ClientFile) (opener : ℕ) (mode : Mode) : Type 0 where

@@ -3,8 +3,8 @@
 -- leads to the promises restarts, restarts_back and restarts_cut_off. Assumes nothing.
 use Prim.Native.Nat.{ℕ, ◌<◌, ◌≤◌}
 use mathlib.Core.Path.{◌≡◌, refl, sym, ◌∙◌, ap, subst, fun_ext}
-use mathlib.Core.Bool.{Bool, true, false, cond, not, ◌&&◌, ◌||◌, false≢true}
-use mathlib.Core.Logic.{◌⊎◌, inl, inr, ⊎_elim}
+use mathlib.Core.Bool.{Bool, true, false, cond, false≢true}
+use mathlib.Core.Logic.{⊎_elim}
 use mathlib.Core.List.{List}
 use native.Mathlib.Omega.{arith}
 use lib.Dec.{eqb, ltb}
@@ -17,7 +17,7 @@ use Rattle.records.specs.declared.version.Version.{Version}
 use Rattle.protocol.specs.declared.client.ClientFile.{ClientFile}
 use Rattle.protocol.specs.declared.entry.Entry.{Entry}
 use Rattle.sizes.specs.Sizes.{nobody}
-use Rattle.records.specs.Version.{number_of, same_version, no_version}
+use Rattle.records.specs.Version.{number_of}
 use Rattle.decision.specs.Lists.{filled}
 use Rattle.records.specs.Record.{not_open, is_write}
 use Rattle.decision.specs.State.{record_in}
@@ -29,10 +29,10 @@ use Rattle.protocol.specs.Table.{Row, without}
 use Rattle.sizes.proofs.Choosing.{when, unless}
 use Rattle.decision.proofs.Storing.{length_stored}
 use Rattle.protocol.proofs.View.{View, at, forgotten_view, call_answered_view, answer_view, restarted_view, waiter_granted_view, Backs}
-use Rattle.protocol.proofs.Invariant.{may_cache, has_writers, is_latest, Own, Apart, Copied, Clients, Sound, LastWriter, Agrees, Waiting, everybody, Running, Recovering}
-use Rattle.protocol.proofs.Invariant.Flags.{conflict, is_false, split, cases, and_left, and_right, other_sym, change, at_other}
-use Rattle.protocol.proofs.Invariant.Change.{clients_at, known_at}
-use Rattle.protocol.proofs.Invariant.Last.{last_none, last_none_at}
+use Rattle.protocol.proofs.Invariant.{may_cache, has_writers, is_latest, Own, Apart, Copied, Sound, LastWriter, Agrees, Waiting, Running, Recovering}
+use Rattle.protocol.proofs.Invariant.Flags.{conflict, is_false, split, cases, other_sym, change, at_other}
+use Rattle.protocol.proofs.Invariant.Change.{clients_at}
+use Rattle.protocol.proofs.Invariant.Last.{last_none}
 use Rattle.protocol.proofs.Invariant.Book.{booked_lost, latest_lost, came_clears, unrisked}
 use Rattle.protocol.proofs.Invariant.Lists.{get_d_at}
 use Rattle.protocol.proofs.Invariant.Answer.{answer_kept, answer_backs, backs_then}

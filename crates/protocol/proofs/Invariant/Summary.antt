@@ -2,12 +2,11 @@
 -- latest is, and the latest safe one. It leads to the ledger, which keeps a line and a client for each. Assumes nothing.
 use Prim.Native.Nat.{ℕ}
 use mathlib.Core.Path.{◌≡◌, refl, sym, ◌∙◌, ap}
-use mathlib.Core.Bool.{Bool, true, false, cond, not, ◌||◌}
-use mathlib.Core.List.{List, [], ◌∷◌}
-use mathlib.Core.Logic.{inl, inr}
+use mathlib.Core.Bool.{Bool, true, false, cond}
+use mathlib.Core.List.{[], ◌∷◌}
 use lib.Dec.{eqb}
 use Rattle.sizes.proofs.Choosing.{when}
-use Rattle.protocol.specs.Book.{Written, HistoryOf, wrote, came, lost, risked_by, Named, none, by, first_of}
+use Rattle.protocol.specs.Book.{HistoryOf, wrote, came, lost, risked_by, Named, none, by, first_of}
 use Rattle.protocol.proofs.Invariant.{AllSafe, Risks}
 use Rattle.protocol.proofs.Invariant.Flags.{split}
 use Rattle.protocol.proofs.Invariant.Book.{came_clears, lost_clears, risked, unrisked}

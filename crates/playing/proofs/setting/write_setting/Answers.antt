@@ -3,8 +3,6 @@ use Prim.Native.Nat.{ℕ}
 use mathlib.Core.Path.{◌≡◌, refl, sym, subst}
 use mathlib.Core.Bool.{false}
 use mathlib.Core.List.{List, ◌++◌}
-use native.Mathlib.Omega.{arith}
-use borrow.Author.Rules.{rules}
 use lib.ListN.{replicate}
 use Rattle.sizes.proofs.Choosing.{conflict}
 use Rattle.protocol.specs.declared.reply.Reply.{Reply}
@@ -17,8 +15,7 @@ use Rattle.stepfile.specs.declared.setting.Setting.{Setting}
 use Rattle.stepfile.specs.Line.{line_text}
 use Rattle.stepfile.specs.Played.{set_outcome}
 use Rattle.writer.specs.Buffer.{WroteIfRoom, line_room}
-use Rattle.playing.proofs.setting.write_setting.Statement.{statement}
-use Rattle.playing.proofs.setting.write_setting.Tie as tie
+use Rattle.playing.proofs.setting.write_setting.Goals as goal
 
 -- a reply that is not W, with no grants beside it
 says_plain :
@@ -57,51 +54,23 @@ Writes out₀ n s out r x =
     (line_text n (set_outcome s x).reply (set_outcome s x).calls (set_outcome s x).grants)
     out r
 
-returns : tie.Need-returns
-returns c =
-    let a = c.before.before.before.before.before.before.before.before.args in
-    let wrote = c.before.before.write-said in (
-      λ s.
-          subst (Writes a.out.now a.number s _ wrote.result) (sym c.before.before.before.before.before.enum_told.given.1)
-          (wrote.ensures.0 Done no_calls no_grants (says-done _)),
-      wrote.ensures.1,
-    )
+pub returns-in-Are-clause-wrote_if_room : goal.returns-in-Are-clause-wrote_if_room
+returns-in-Are-clause-wrote_if_room c =
+    let wrote = c.write_said in
+    λ s.
+        subst (Writes c.args.out.now c.args.number s wrote.new.out wrote.result) (sym c.in-Are.is)
+        (wrote.ensures.wrote_if_room Done no_calls no_grants (says-done _))
 
-returns-2 : tie.Need-returns-2
-returns-2 c =
-    let a = c.before.before.before.before.before.before.before.before.args in
-    let wrote = c.before.before.write-said2 in (
-      λ s.
-          subst (Writes a.out.now a.number s _ wrote.result) (sym c.before.before.before.before.before.enum-told2.given.1)
-          (wrote.ensures.0 (Refused 19) no_calls no_grants says-19),
-      wrote.ensures.1,
-    )
+pub returns-in-OutOfRange-clause-wrote_if_room : goal.returns-in-OutOfRange-clause-wrote_if_room
+returns-in-OutOfRange-clause-wrote_if_room c =
+    let wrote = c.write_said-in-OutOfRange in
+    λ s.
+        subst (Writes c.args.out.now c.args.number s wrote.new.out wrote.result) (sym c.in-OutOfRange.is)
+        (wrote.ensures.wrote_if_room (Refused 19) no_calls no_grants says-19)
 
-returns-3 : tie.Need-returns-3
-returns-3 c =
-    let a = c.before.before.before.before.before.before.before.before.args in
-    let wrote = c.before.before.write-said3 in (
-      λ s.
-          subst (Writes a.out.now a.number s _ wrote.result) (sym c.before.before.before.before.before.enum-told3.given.1)
-          (wrote.ensures.0 (Refused 1) no_calls no_grants says-1),
-      wrote.ensures.1,
-    )
-
-pub write_setting_spec : {M : Type 1} → statement M
-write_setting_spec =
-    tie.close
-    (tie.spec
-    (search rules)
-    (search rules)
-    (search rules)
-    (λ c κs. search rules)
-    (search rules)
-    (λ c κs. search rules)
-    (search rules)
-    (λ c κs. search rules)
-    (λ c. search rules)
-    returns
-    (λ c. search rules)
-    returns-2
-    (λ c. search rules)
-    returns-3)
+pub returns-in-Missing-clause-wrote_if_room : goal.returns-in-Missing-clause-wrote_if_room
+returns-in-Missing-clause-wrote_if_room c =
+    let wrote = c.write_said-in-Missing in
+    λ s.
+        subst (Writes c.args.out.now c.args.number s wrote.new.out wrote.result) (sym c.in-Missing.is)
+        (wrote.ensures.wrote_if_room (Refused 1) no_calls no_grants says-1)

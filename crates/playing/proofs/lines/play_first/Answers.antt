@@ -1,0 +1,67 @@
+-- `play_first` meets its contract: a first line that chooses the sizes is played by what it sets, and no other is. Assumes
+-- nothing.
+use Prim.Native.Nat.{ℕ}
+use mathlib.Core.Path.{◌≡◌, refl}
+use mathlib.Core.Bool.{Bool, true}
+use mathlib.Core.List.{List}
+use native.Mathlib.Omega.{arith}
+use lib.ListN.{length}
+use borrow.Author.Tests.{not-true, not-false}
+use Rattle.blocks.specs.Stores.{lent}
+use Rattle.service.specs.declared.service.Service.{Service}
+use Rattle.service.specs.Lent.{service_held}
+use Rattle.stepfile.specs.declared.parsed.Parsed.TheVariants.{NoStep}
+use Rattle.stepfile.specs.Played.{set_outcome}
+use Rattle.reader.specs.declared.setting.FirstSetting.{FirstSetting}
+use Rattle.writer.specs.Buffer.{line_room}
+use Rattle.telling.specs.Lines.{can_tell}
+use Rattle.telling.proofs.Reaching.{line_bytes}
+use Rattle.telling.proofs.LineByLine.{from_1, has_number, none_yet}
+use Rattle.playing.specs.Lines.{playing}
+use Rattle.playing.proofs.FirstLines.{none_later, left_alone, can-be-told, is-first, first_read, first-sets}
+use Rattle.playing.proofs.Playing.{set_outcome_lem, line_played}
+use Rattle.playing.proofs.lines.play_first.Goals as goal
+
+pub returns-then-not-chooses-can_tell : goal.returns-then-not-chooses-can_tell
+returns-then-not-chooses-can_tell c =
+    let a = c.args in
+    let came = service_held a.sizes a.table.now a.flags.now (lent a.blocks.now a.copies.now a.held.now a.dirty.now) in
+    record {
+      reached = none_yet (playing a.settable) came a.first a.input.now a.out.now;
+      chosen =
+          left_alone a.settable a.first a.input.now c.read_first_setting-line.result c.read_first_setting-line.ensures
+          c.is_set.result c.can_tell.result c.is_set.ensures line_room (length a.out.now) c.can_tell.ensures
+          (not-true _ c.if-not-chooses-can_tell.true);
+      long = record { rows = refl; reports = refl };
+    }
+
+pub returns : goal.returns
+returns c =
+    let a = c.args in
+    let came = service_held a.sizes a.table.now a.flags.now (lent a.blocks.now a.copies.now a.held.now a.dirty.now) in
+    let room = length a.out.now in
+    let read = c.read_first_setting-line in
+    let line = read.result in
+    let set = c.is_set in
+    let asked = c.can_tell in
+    let left = not-false _ c.if-not-chooses-can_tell.false in
+    let can = can-be-told a.settable a.first a.input.now line read.ensures set.result asked.result set.ensures line_room room asked.ensures left in
+    let outcome =
+    set_outcome_lem a.settable came a.first (line_bytes a.input.now 0 line.next) line.setting
+    (is-first a.settable a.first a.input.now line read.ensures set.result asked.result set.ensures line_room room asked.ensures left)
+    (first-sets a.settable a.first a.input.now line read.ensures set.result asked.result set.ensures line_room room asked.ensures left) in
+    record {
+      reached =
+          line_played a.settable came a.first a.input.now a.out.now came a.first 0 0 a.out.now NoStep line.next
+          (set_outcome came line.setting)
+          _ c.write_setting.result _
+          (none_yet (playing a.settable) came a.first a.input.now a.out.now)
+          (first_read a.settable a.first a.input.now line read.ensures set.result asked.result set.ensures line_room room asked.ensures left)
+          can
+          outcome
+          c.choose_sizes-chosen.ensures.dirty_after
+          (c.write_setting.ensures.wrote_if_room came)
+          (omega (arith, c.write_setting.ensures.upper_bound));
+      chosen = none_later a.settable a.first _ _ (from_1 line_room room 0 a.first can);
+      long = c.choose_sizes-chosen.ensures.long;
+    }
