@@ -11,7 +11,7 @@ loop-k-init c = (placing_none, c.two_at-count.ensures.upper_bound)
 pub loop-k-preserved : goal.loop-k-preserved
 loop-k-preserved c =
     let turn = c.loop-k in
-    let put = block_put c.args.bytes.now turn.next turn.blocks c.place_at-place.ensures.value c.eight_at.ensures in
+    let put = block_put c.args.bytes.now turn.next _ c.place_at-place.ensures.value c.eight_at.ensures in
     (placing_next turn.invariant.0 c.loop-k-test.true put, turn.invariant.1)
 
 pub returns : goal.returns

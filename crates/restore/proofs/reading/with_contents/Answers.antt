@@ -12,17 +12,17 @@ returns c =
     let s = a.service in
     let force = c.in_force-sizes in
     let files =
-    c.with_versions.ensures ∙ ap (λ z. with_versions z.files a.files s.server.table.files) force.ensures in
+    c.with_versions.ensures ∙ ap (λ z. with_versions z.files a.files s.server.table.files) force.ensures.value in
     let blocks =
-    c.with_blocks.ensures ∙ ap (λ z. with_blocks z.files z.blocks a.blocks.now s.server.blocks) force.ensures in
+    c.with_blocks.ensures ∙ ap (λ z. with_blocks z.files z.blocks a.blocks.now s.server.blocks) force.ensures.value in
     let used =
-    c.with_used-used_then.ensures ∙ ap (λ z. with_used z.files z.blocks a.used.now s.server.used) force.ensures in
+    c.with_used-used_then.ensures ∙ ap (λ z. with_used z.files z.blocks a.used.now s.server.used) force.ensures.value in
     let free =
     c.places_left-free.ensures
     ∙ ap (λ n. force.result.store - n) c.count_used.ensures
-    ∙ (λ k. let z = force.ensures k in z.store - used_in z (used k)) in
+    ∙ (λ k. let z = force.ensures.value k in z.store - used_in z (used k)) in
     let embargoed =
-    c.with_embargoes.ensures ∙ ap (λ z. with_embargoes z.clients a.embargoed s.server.table.embargoed) force.ensures in
+    c.with_embargoes.ensures ∙ ap (λ z. with_embargoes z.clients a.embargoed s.server.table.embargoed) force.ensures.value in
     λ k.
     record {
       sizes = s.sizes;
