@@ -1,0 +1,12 @@
+-- After b turns b blocks are stored.
+use Prim.Native.Nat.{◌-◌}
+use lib.ListN.{get_or}
+use Rattle.sizes.specs.Sizes.{place}
+use Rattle.decision.proofs.Storing.{Stored}
+use Rattle.restore.proofs.reading.take_file_blocks.Given as goal
+
+abbrev pub invariant-loop-b : goal.invariant-loop-b
+invariant-loop-b l = Stored l.count (place l.file) (λ k. get_or l.others (place l.file k) 0) l.fn.blocks l.blocks l.b
+
+abbrev pub decreases-loop-b : goal.decreases-loop-b
+decreases-loop-b l = l.count - l.b
