@@ -1,6 +1,6 @@
 -- A step that changes one client's record and side, the head and the callbacks of a file, in its row. Assumes nothing.
 use Prim.Native.Nat.{ℕ, ◌+◌, ◌*◌, ◌<◌, ◌≤◌}
-use mathlib.Core.Path.{◌≡◌, refl, sym, ap, ◌∙◌}
+use mathlib.Core.Path.{◌≡◌, ap, ◌∙◌}
 use mathlib.Core.Bool.{Bool, cond}
 use mathlib.Core.List.{List}
 use mathlib.Core.Logic.{◌≢◌}
@@ -14,7 +14,7 @@ use Rattle.protocol.specs.Client.{no_client, side_of, with_side, closed_client}
 use Rattle.protocol.specs.Entry.{record_at, closed_entry, reported_entry}
 use Rattle.protocol.specs.declared.shared.SharedFile.{SharedFile}
 use Rattle.words.specs.Words.{record_held, side_held, version_held, last_held, waiter_held, mode_held, calls_held, Head}
-use Rattle.words.specs.Rows.{listed, row_words, word_at, head_at, entry_held, sides_held, file_held, Beside}
+use Rattle.words.specs.Rows.{row_words, word_at, head_at, entry_held, sides_held, file_held, Beside}
 use Rattle.words.proofs.Listing.{get_d_listed, listed_set}
 use Rattle.words.proofs.Places.{stored_there, stored_beside, stored_elsewhere}
 

@@ -15,7 +15,7 @@ use Rattle.protocol.specs.declared.client.ClientFile.{ClientFile}
 use Rattle.protocol.specs.Client.{no_client}
 use Rattle.protocol.specs.declared.shared.SharedFile.{SharedFile}
 use Rattle.words.specs.Words.{record_held, side_held, calls_held, Head}
-use Rattle.words.specs.Rows.{listed, row_words, table_words, word_at, head_at, file_held, Puts}
+use Rattle.words.specs.Rows.{listed, row_words, table_words, word_at, head_at, Puts}
 use Rattle.words.proofs.Listing.{length_listed, get_d_listed}
 use Rattle.words.proofs.Places.{stored_there, stored_beside, stored_elsewhere}
 

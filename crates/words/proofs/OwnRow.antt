@@ -1,6 +1,6 @@
 -- A client's own part in a file, stored in its row: its record, the head, the callbacks and its side. Assumes nothing.
-use Prim.Native.Nat.{ℕ, ◌+◌, ◌*◌, ◌%◌, ◌<◌, ◌≤◌}
-use mathlib.Core.Path.{◌≡◌, refl, sym, ap, ◌∙◌}
+use Prim.Native.Nat.{ℕ, ◌+◌, ◌*◌, ◌<◌, ◌≤◌}
+use mathlib.Core.Path.{◌≡◌, sym, ◌∙◌}
 use mathlib.Core.List.{List}
 use mathlib.Core.Logic.{◌≢◌}
 use native.Mathlib.Omega.{arith}
@@ -8,19 +8,17 @@ use lib.Dec.{eqb}
 use lib.ListN.{length, get_or, set, length-set}
 use lib.Seq.{ext_get_or, get_or-set_same, get_or-set_other}
 use borrow.Author.Tests.{eqb-true, eqb-false}
-use Rattle.records.specs.declared.record.ClientRecord.{ClientRecord}
 use Rattle.records.specs.Record.{not_open}
 use Rattle.sizes.proofs.Choosing.{split}
 use Rattle.sizes.specs.Sizes.{max_clients}
 use Rattle.protocol.specs.declared.client.ClientFile.{ClientFile}
 use Rattle.protocol.specs.declared.entry.Entry.{Entry}
 use Rattle.protocol.specs.Client.{with_side}
-use Rattle.protocol.specs.declared.shared.SharedFile.{SharedFile}
 use Rattle.words.specs.Words.{record_held, side_held, calls_held, Head}
-use Rattle.words.specs.Rows.{listed, row_words, word_at, entry_held, sides_held, file_held, Puts}
+use Rattle.words.specs.Rows.{row_words, word_at, entry_held, sides_held, Puts}
 use Rattle.words.proofs.Listing.{length_listed, get_d_listed}
 use Rattle.words.proofs.Places.{stored_there, stored_beside, stored_elsewhere}
-use Rattle.words.proofs.Changing.{Changed, file_with, changed_held}
+use Rattle.words.proofs.Changing.{Changed, changed_held}
 
 module _ (t : List ℕ) (f i r h k s : ℕ) (there : i < max_clients) (fits : f * row_words + row_words ≤ length t) where
   abbrev one : List ℕ

@@ -1,16 +1,15 @@
 -- A store into a row: what stands there, beside it and in the other rows. Assumes nothing.
 use Prim.Native.Nat.{ℕ, ◌+◌, ◌*◌, ◌<◌}
-use mathlib.Core.Path.{◌≡◌, refl, sym, ap, ap₂, ◌∙◌}
+use mathlib.Core.Path.{◌≡◌, ap}
 use mathlib.Core.List.{List}
 use mathlib.Core.Logic.{◌≢◌}
 use native.Mathlib.Omega.{arith}
-use lib.ListN.{length, get_or, set}
+use lib.ListN.{length, set}
 use lib.Seq.{get_or-set_same, get_or-set_other}
 use Rattle.sizes.specs.Sizes.{max_clients}
-use Rattle.protocol.specs.declared.client.ClientFile.{ClientFile}
 use Rattle.protocol.specs.declared.shared.SharedFile.{SharedFile}
 use Rattle.words.specs.Words.{record_held, side_held}
-use Rattle.words.specs.Rows.{listed, row_words, word_at, entry_held, sides_held, file_held, Beside, Puts}
+use Rattle.words.specs.Rows.{row_words, word_at, file_held, Beside, Puts}
 use Rattle.words.proofs.Listing.{listed_agree}
 
 module _ (t : List ℕ) (f k v : ℕ) where

@@ -1,5 +1,4 @@
 -- `put_file` meets its contract. Assumes nothing.
-use borrow.Author.Rules.{rules}
 use lib.ListN.{length-set}
 use Rattle.decision.proofs.Beyond.{unmapped}
 use Rattle.words.proofs.Filling.{filled_none, filled_more, filled_puts}
