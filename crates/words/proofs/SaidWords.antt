@@ -1,15 +1,13 @@
 -- What is said, word after word. Assumes nothing.
 use Prim.Native.Nat.{ℕ, suc, ◌+◌, ◌/◌, ◌%◌, ◌≤◌, ◌<◌}
 use mathlib.Core.Path.{◌≡◌, refl, sym, ap, ◌∙◌, subst, subst⁻¹}
-use mathlib.Core.Bool.{Bool, true, false, cond}
+use mathlib.Core.Bool.{false}
 use mathlib.Core.List.{List, [], ◌∷◌, ◌++◌, append_assoc, append-nil}
 use native.Mathlib.Nat.{mod-eq_of_lt}
 use native.Mathlib.Numerals.{add-one}
 use native.Mathlib.Omega.{arith}
-use lib.Dec.{eqb}
 use lib.ListN.{length, get_or, set, take, drop, length-set}
-use lib.Seq.{take-suc-set, drop-set-lt, drop-drop, get_or-set_same, get_or-set_other, get_or-take}
-use Rattle.records.specs.Version.{number_of}
+use lib.Seq.{take-suc-set, drop-set-lt, drop-drop, get_or-set_same, get_or-take}
 use Rattle.sizes.proofs.Choosing.{conflict}
 use Rattle.protocol.specs.declared.reply.Grant.{Grant}
 use Rattle.protocol.specs.declared.reply.Granting.{Granting}
@@ -151,47 +149,6 @@ says_as ws₀ said ws reply known calls grants e s = subst⁻¹ (λ (r : Reply).
 -- a word that was said
 pub begun_at : (ws₀ vs ws : List ℕ) (n k : ℕ) → k < n → Begun ws₀ n vs ws → get_or ws k 0 ≡ get_or vs k 0
 begun_at ws₀ vs ws n k h b = sym (get_or-take n ws k 0 h) ∙ ap (λ (l : List ℕ). get_or l k 0) b.first
-
-permission_back : (b : Bool) → eqb (cond b 1 0) 1 ≡ b
-permission_back true = refl
-permission_back false = refl
-
--- a grant in three words
-pub grant_back :
-    (ws : List ℕ) (k a b c : ℕ) (g : Grant)
-    → k + 3 ≤ length ws
-    → a ≡ number_of g.latest
-    → b ≡ number_of g.previous
-    → c ≡ cond g.caching 1 0
-    → a < 4294967296
-    → b < 4294967296
-    → grant_said (set (set (set ws k a) (k + 1) b) (k + 2) c) k ≡ g
-grant_back ws k a b c g fits latest previous caching low low' =
-    let w₁ = set ws k a in
-    let w₂ = set w₁ (k + 1) b in
-    let w₃ = set w₂ (k + 2) c in
-    let long₁ : length w₁ ≡ length ws = length-set ws k a in
-    let long₂ : length w₂ ≡ length w₁ = length-set w₁ (k + 1) b in
-    let first : get_or w₃ k 0 ≡ a =
-    get_or-set_other w₂ (k + 2) k c 0 (λ e. omega arith)
-    ∙ get_or-set_other w₁ (k + 1) k b 0 (λ e. omega arith)
-    ∙ get_or-set_same ws k a 0 (omega arith)
-    in
-    let second : get_or w₃ (k + 1) 0 ≡ b =
-    get_or-set_other w₂ (k + 2) (k + 1) c 0 (λ e. omega arith) ∙ get_or-set_same w₁ (k + 1) b 0 (omega arith)
-    in
-    let third : get_or w₃ (k + 2) 0 ≡ c = get_or-set_same w₂ (k + 2) c 0 (omega arith) in
-    rw (
-      first,
-      second,
-      third,
-      mod-eq_of_lt low,
-      mod-eq_of_lt low',
-      latest,
-      previous,
-      caching,
-      permission_back g.caching,
-    )
 
 -- an answer that grants, in five words
 pub answer_back :

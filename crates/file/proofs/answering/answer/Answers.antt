@@ -18,7 +18,7 @@ use Rattle.words.specs.Rows.{entry_held, file_held}
 use Rattle.blocks.specs.Stores.{Stores, lent, sent_blocks}
 use Rattle.blocks.proofs.Wrapped.{wrapped_cell, wrapped_place}
 use Rattle.file.specs.FileStep.{answered as answered_file}
-use Rattle.file.proofs.AnswerStep.{waiter-there, answer-done}
+use Rattle.file.proofs.AnswerStep.{answer-done}
 use Rattle.file.proofs.AnsweredRow.{answered_others}
 use Rattle.file.proofs.Leaving.{answer_holds}
 use Rattle.file.proofs.Lending.{answered, sent_blocks_lem}
