@@ -1,0 +1,8 @@
+-- `put_places` meets its contract: its parts, one after the other. Assumes nothing.
+use Rattle.writer.proofs.Buffers.{wrote_then}
+use Rattle.phrases.proofs.places.put_places.Goals as goal
+
+pub returns-clause-wrote : goal.returns-clause-wrote
+returns-clause-wrote c =
+    wrote_then c.put_counts-word.ensures.wrote
+    (wrote_then c.put_text-list.ensures.wrote c.put_list.ensures.wrote)
