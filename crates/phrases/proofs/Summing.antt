@@ -2,7 +2,7 @@
 -- nothing.
 use Prim.Native.Nat.{ℕ, ◌+◌, ◌*◌, ◌%◌, ◌≤◌, ◌<◌}
 use mathlib.Core.Path.{◌≡◌, refl, ap, ◌∙◌}
-use mathlib.Core.Bool.{Bool, false, ◌||◌}
+use mathlib.Core.Bool.{Bool, false, not, ◌&&◌, ◌||◌}
 use mathlib.Core.List.{List}
 use native.Mathlib.Numerals.{add-one}
 use native.Mathlib.Omega.{arith}
@@ -75,6 +75,17 @@ module _ (f b : ℕ) (hf : f < max_files) (hb : b < max_blocks) where
       → at ≡ place (f % max_files) (b % max_blocks)
       → get_or flags at false ≡ get_or flags (place f b) false
   flag_at_place at flags is = ap (λ k. get_or flags k false) (is ∙ wrapped_block f b hf hb)
+
+  -- whether a block is reserved, by whether it is used and whether it is dirty
+  pub reserved_as :
+      (at : ℕ) (flags : List Bool)
+      → at ≡ place (f % max_files) (b % max_blocks)
+      → {found dirty : Bool}
+      → found ≡ dirty
+      → (not (get_or flags at false) && found) ≡ (not (get_or flags (place f b) false) && dirty)
+  reserved_as at flags is {found} {dirty} e =
+      ap (λ flag. not flag && found) (flag_at_place at flags is)
+      ∙ ap (λ any. not (get_or flags (place f b) false) && any) e
 
   pub flag_at_cell :
       (i at : ℕ) (flags : List Bool)
