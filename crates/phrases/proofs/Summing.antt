@@ -34,9 +34,6 @@ pub asked_next :
     → Asked n p (x || b) (i + 1)
 asked_next {p = p} {i = i} h more test = record { passed = omega arith; answers = cc (any_next i p) }
 
-pub asked_all : {n : ℕ} {p : ℕ → Bool} {x : Bool} {i : ℕ} → Asked n p x i → n ≤ i → x ≡ any_below n p
-asked_all {p = p} h past = h.answers ∙ ap (λ (k : ℕ). any_below k p) (omega arith)
-
 sum_next : (n : ℕ) (g : ℕ → ℕ) → sum_below (n + 1) g ≡ sum_below n g + g n
 unfolding sum_below
 sum_next n g = rw add-one
@@ -60,9 +57,6 @@ pub summed_next :
     → Summed n g (x + k) (i + 1)
 summed_next {g = g} {i = i} h more few is =
     record { passed = omega arith; small = omega (arith, h.small, few); adds = cc (sum_next i g) }
-
-pub summed_all : {n : ℕ} {g : ℕ → ℕ} {x i : ℕ} → Summed n g x i → n ≤ i → x ≡ sum_below n g
-summed_all {g = g} h past = h.adds ∙ ap (λ (k : ℕ). sum_below k g) (omega arith)
 
 -- so many of at most 8
 pub few_of : (k n : ℕ) (p : ℕ → Bool) → k ≡ count n p → n ≤ 8 → k ≤ 8

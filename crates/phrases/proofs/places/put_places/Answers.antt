@@ -2,7 +2,6 @@
 use mathlib.Core.Path.{◌∙◌, ap}
 use mathlib.Core.Bool.{false}
 use lib.ListN.{get_or, replicate}
-use native.Mathlib.Omega.{arith}
 use Rattle.phrases.specs.Phrase.{list_text}
 use Rattle.phrases.specs.Places.{reserves}
 use Rattle.writer.proofs.Buffers.{wrote_as, wrote_then}
