@@ -4,6 +4,7 @@ use Prim.Native.Nat.{ℕ, zero, suc, ◌+◌, ◌≤◌, ◌<◌}
 use mathlib.Core.Path.{◌≡◌, refl, sym, ◌∙◌, ap}
 use mathlib.Core.Bool.{Bool, false, cond}
 use mathlib.Core.List.{List, [], ◌∷◌, ◌++◌, append-nil}
+use native.Mathlib.Numerals.{add-one}
 use native.Mathlib.Omega.{arith}
 use lib.Dec.{eqb}
 use lib.ListN.{length, get_or, length-append}
@@ -13,6 +14,8 @@ use Rattle.decision.specs.Lists.{count, stored}
 use Rattle.decision.proofs.Counting.{count_agree}
 use Rattle.decision.proofs.Storing.{get_d_stored}
 use Rattle.stepfile.specs.Text.{bytes, argument_text}
+use Rattle.writer.specs.Buffer.{Wrote}
+use Rattle.writer.proofs.Buffers.{wrote_then, wrote_as}
 use Rattle.phrases.specs.Phrase.{numbers_text, list_text}
 
 pub numbers_next : (n : ℕ) (p : ℕ → Bool) → numbers_text (suc n) p ≡ numbers_text n p ++ cond (p n) (argument_text n) []
@@ -53,14 +56,41 @@ no_text : (l : List ℕ) → length l ≡ 0 → l ≡ []
 no_text [] e = refl
 no_text (b ∷ l) e = absurd (omega (arith, e))
 
-pub empty_list : (n : ℕ) (p : ℕ → Bool) → length (numbers_text n p) ≡ 0 → numbers_text n p ++ bytes " none" ≡ list_text n p
+empty_list : (n : ℕ) (p : ℕ → Bool) → length (numbers_text n p) ≡ 0 → numbers_text n p ++ bytes " none" ≡ list_text n p
 empty_list n p e =
     ap (λ l. l ++ bytes " none") (no_text (numbers_text n p) e)
     ∙ sym (when (bytes " none") (numbers_text n p) (eq-eqb (count n p) 0 (none_written n p e)))
 
-pub some_list : (n : ℕ) (p : ℕ → Bool) → (length (numbers_text n p) ≡ 0 → ⊥) → numbers_text n p ≡ list_text n p
+some_list : (n : ℕ) (p : ℕ → Bool) → (length (numbers_text n p) ≡ 0 → ⊥) → numbers_text n p ≡ list_text n p
 some_list n p e =
     sym (unless (bytes " none") (numbers_text n p) (ne_eqb (count n p) 0 (λ z. e (none_counted n p z))))
+
+-- a list is written number by number; where nothing is, " none" is
+module _
+    (p : ℕ → Bool) (i : ℕ) {d : List ℕ} {at : ℕ} {d' : List ℕ} {next : ℕ} (so_far : Wrote d at (numbers_text i p) d' next) where
+  pub wrote_number :
+      {d'' : List ℕ} {past : ℕ}
+      → Wrote d' next (cond (p i) (argument_text i) []) d'' past
+      → Wrote d at (numbers_text (i + 1) p) d'' past
+  wrote_number more = rw (add-one i) (wrote_as (sym (numbers_next i p)) (wrote_then so_far more))
+
+  wrote_all : {n : ℕ} → i ≡ n → Wrote d at (numbers_text n p) d' next
+  wrote_all all = wrote_as (ap (λ m. numbers_text m p) all) so_far
+
+  pub wrote_empty_list :
+      {n : ℕ} {d'' : List ℕ} {past : ℕ}
+      → i ≡ n
+      → next ≡ at
+      → Wrote d' next (bytes " none") d'' past
+      → Wrote d at (list_text n p) d'' past
+  wrote_empty_list {n} all still none =
+      let numbers = wrote_all all in
+      wrote_as (empty_list n p (omega (arith, numbers.next, still))) (wrote_then numbers none)
+
+  pub wrote_some_list : {n : ℕ} → i ≡ n → (next ≡ at → ⊥) → Wrote d at (list_text n p) d' next
+  wrote_some_list {n} all moved =
+      let numbers = wrote_all all in
+      wrote_as (some_list n p (λ none. moved (omega (arith, numbers.next, none)))) numbers
 
 -- two properties that agree below n
 module _ (p q : ℕ → Bool) where

@@ -12,11 +12,18 @@ use borrow.Author.Tests.{eq-eqb, ne_eqb}
 use Rattle.sizes.specs.Sizes.{max_files, max_blocks, max_places}
 use Rattle.sizes.proofs.Choosing.{when, unless}
 use Rattle.ledger.specs.declared.ledger.Ledger.{Ledger}
-use Rattle.ledger.specs.Ledger.{lines_in, lines_at}
+use Rattle.ledger.specs.Ledger.{lines_in, lines_at, entered, risks_in}
 use Rattle.stepfile.specs.Text.{bytes}
 use Rattle.writer.specs.Buffer.{Wrote}
 use Rattle.writer.proofs.Buffers.{wrote_as, wrote_then}
-use Rattle.phrases.specs.Accepted.{loss_text, next_text, losses_on, losses_below, or_none}
+use Rattle.phrases.specs.Accepted.{loss_text, next_text, losses_on, losses_below, losses_text, or_none}
+
+-- which writes of a client are at risk, by the notes, and their lines
+abbrev pub at_risk : List ℕ → List ℕ → ℕ → ℕ → ℕ → Bool
+at_risk written writers i f b = risks_in i (lines_at (entered written writers [] []) f b)
+
+abbrev pub line_of : List ℕ → List ℕ → ℕ → ℕ → ℕ
+line_of written writers f b = (lines_at (entered written writers [] []) f b).risk
 
 -- a comma where something is told before
 next_text_lem :
@@ -100,3 +107,32 @@ none_lost (c ∷ l) e = absurd (omega (arith, e))
 pub some_lost : (l : List ℕ) → (length l ≡ 0 → ⊥) → l ≡ or_none l
 some_lost [] e = absurd (e refl)
 some_lost (c ∷ l) e = refl
+
+-- they are written file by file; where none is, " none" is
+module _
+    (lost : ℕ → ℕ → Bool)
+    (line : ℕ → ℕ → ℕ)
+    (blocks : ℕ)
+    {d : List ℕ}
+    {at f : ℕ}
+    {d' : List ℕ}
+    {next : ℕ}
+    (so_far : Wrote d at (losses_below lost line blocks f) d' next) where
+  wrote_below : {files : ℕ} → f ≡ files → Wrote d at (losses_below lost line blocks files) d' next
+  wrote_below all = wrote_as (ap (losses_below lost line blocks) all) so_far
+
+  pub wrote_no_losses :
+      {files : ℕ} {d'' : List ℕ} {past : ℕ}
+      → f ≡ files
+      → next ≡ at
+      → Wrote d' next (bytes " none") d'' past
+      → Wrote d at (losses_text lost line files blocks) d'' past
+  wrote_no_losses all still none =
+      let losses = wrote_below all in
+      wrote_as (none_lost _ (omega (arith, losses.next, still))) (wrote_then losses none)
+
+  pub wrote_losses :
+      {files : ℕ} → f ≡ files → (next ≡ at → ⊥) → Wrote d at (losses_text lost line files blocks) d' next
+  wrote_losses all moved =
+      let losses = wrote_below all in
+      wrote_as (some_lost _ (λ none. moved (omega (arith, losses.next, none)))) losses

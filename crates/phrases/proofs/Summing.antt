@@ -2,7 +2,7 @@
 -- nothing.
 use Prim.Native.Nat.{ℕ, ◌+◌, ◌*◌, ◌%◌, ◌≤◌, ◌<◌}
 use mathlib.Core.Path.{◌≡◌, refl, ap, ◌∙◌}
-use mathlib.Core.Bool.{Bool, false, ◌||◌}
+use mathlib.Core.Bool.{Bool, false, not, ◌&&◌, ◌||◌}
 use mathlib.Core.List.{List}
 use native.Mathlib.Numerals.{add-one}
 use native.Mathlib.Omega.{arith}
@@ -34,9 +34,6 @@ pub asked_next :
     → Asked n p (x || b) (i + 1)
 asked_next {p = p} {i = i} h more test = record { passed = omega arith; answers = cc (any_next i p) }
 
-pub asked_all : {n : ℕ} {p : ℕ → Bool} {x : Bool} {i : ℕ} → Asked n p x i → n ≤ i → x ≡ any_below n p
-asked_all {p = p} h past = h.answers ∙ ap (λ (k : ℕ). any_below k p) (omega arith)
-
 sum_next : (n : ℕ) (g : ℕ → ℕ) → sum_below (n + 1) g ≡ sum_below n g + g n
 unfolding sum_below
 sum_next n g = rw add-one
@@ -61,9 +58,6 @@ pub summed_next :
 summed_next {g = g} {i = i} h more few is =
     record { passed = omega arith; small = omega (arith, h.small, few); adds = cc (sum_next i g) }
 
-pub summed_all : {n : ℕ} {g : ℕ → ℕ} {x i : ℕ} → Summed n g x i → n ≤ i → x ≡ sum_below n g
-summed_all {g = g} h past = h.adds ∙ ap (λ (k : ℕ). sum_below k g) (omega arith)
-
 -- so many of at most 8
 pub few_of : (k n : ℕ) (p : ℕ → Bool) → k ≡ count n p → n ≤ 8 → k ≤ 8
 few_of k n p is few = omega (arith, is, count_at_most n p, few)
@@ -75,6 +69,17 @@ module _ (f b : ℕ) (hf : f < max_files) (hb : b < max_blocks) where
       → at ≡ place (f % max_files) (b % max_blocks)
       → get_or flags at false ≡ get_or flags (place f b) false
   flag_at_place at flags is = ap (λ k. get_or flags k false) (is ∙ wrapped_block f b hf hb)
+
+  -- whether a block is reserved, by whether it is used and whether it is dirty
+  pub reserved_as :
+      (at : ℕ) (flags : List Bool)
+      → at ≡ place (f % max_files) (b % max_blocks)
+      → {found dirty : Bool}
+      → found ≡ dirty
+      → (not (get_or flags at false) && found) ≡ (not (get_or flags (place f b) false) && dirty)
+  reserved_as at flags is {found} {dirty} e =
+      ap (λ flag. not flag && found) (flag_at_place at flags is)
+      ∙ ap (λ any. not (get_or flags (place f b) false) && any) e
 
   pub flag_at_cell :
       (i at : ℕ) (flags : List Bool)

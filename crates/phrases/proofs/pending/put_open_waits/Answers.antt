@@ -1,0 +1,9 @@
+-- `put_open_waits` meets its contract: its parts, one after the other. Assumes nothing.
+use Rattle.writer.proofs.Buffers.{wrote_then}
+use Rattle.phrases.proofs.pending.put_open_waits.Goals as goal
+
+pub returns-clause-wrote : goal.returns-clause-wrote
+returns-clause-wrote c =
+    wrote_then c.put_opener-word.ensures.wrote
+    (wrote_then c.put_text-number.ensures.wrote
+    (wrote_then c.put_argument-still.ensures.wrote c.put_still.ensures.wrote))

@@ -1,0 +1,10 @@
+-- `put_not_open` meets its contract: its parts, one after the other. Assumes nothing.
+use Rattle.writer.proofs.Buffers.{wrote_then}
+use Rattle.phrases.proofs.refusal.put_not_open.Goals as goal
+
+pub returns-clause-wrote : goal.returns-clause-wrote
+returns-clause-wrote c =
+    wrote_then c.put_client-word.ensures.wrote
+    (wrote_then c.put_text-named.ensures.wrote
+    (wrote_then c.put_file-open.ensures.wrote
+    (wrote_then c.put_text-mode_at.ensures.wrote c.put_needed.ensures.wrote)))

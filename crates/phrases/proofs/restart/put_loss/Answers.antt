@@ -1,0 +1,8 @@
+-- `put_loss` meets its contract: its parts, one after the other. Assumes nothing.
+use Rattle.writer.proofs.Buffers.{wrote_then}
+use Rattle.phrases.proofs.restart.put_loss.Goals as goal
+
+pub returns-clause-wrote : goal.returns-clause-wrote
+returns-clause-wrote c =
+    wrote_then c.put_block-word.ensures.wrote
+    (wrote_then c.put_text-number.ensures.wrote c.put_argument.ensures.wrote)
