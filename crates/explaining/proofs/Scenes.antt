@@ -225,7 +225,9 @@ module _ (fresh : Bool) (s : Service) (l : Ledger) (x : Step) (z : Sizes) (sized
       mod-eq_of_lt (file_fits (in_force_permitted s.sizes) (leb-false (sizes_of s).files (file_of x) some)) in
       split (refused s x)
       (λ not-ok.
-      same_refused fresh x o.calls (sizes_of s) _ _ _ _ _ _ _ _ _ _ _ _ _ _ _ _ _ _ _ _ whole (whole_of s l x) o.reply
+      same_refused fresh x o.calls (sizes_of s) _ ((table_in s).embargoed) s.server.used o.service.dirty _ _ (entry_at o.service g)
+      ((scene_of s l x).after) _ _ _ _ (embargoed_at s i) ((scene_of s l x).aside) _ _ told ((scene_of s l x).told) caching
+      ((scene_of s l x).caching) whole (whole_of s l x) o.reply
       not-ok
       (ap (entry_at s) here)
       (ap (waiting_since l) here)

@@ -1,24 +1,22 @@
 -- Every service that a program holds fits its fields: what the logic knows of a value of the type, taken apart down to
 -- the numbers. Assumes nothing.
 use Prim.Native.Nat.{ℕ, zero, suc, ◌<◌}
-use mathlib.Core.Path.{◌≡◌, sym, ◌∙◌}
-use mathlib.Core.Bool.{Bool}
-use mathlib.Core.List.{List, [], ◌∷◌, map}
+use mathlib.Core.Path.{◌≡◌}
+use mathlib.Core.List.{List, [], ◌∷◌}
 use native.Mathlib.Omega.{arith}
-use lib.ListN.{length, get_or, length-map}
+use lib.ListN.{length, get_or}
 use mir.Syntax.{w64}
 use mir.Val.{Val}
 use base.Fml.{Fml}
 use denote.Array.{each}
 use denote.Laws.{Is}
 use denote.Shadow.{shadow}
-use denote.Struct.Declared.{Declared, shape, row}
-use denote.Struct.Struct.{Struct}
-use borrow.Author.Rules.{length_unmapped, elem_fits_field}
+use denote.Struct.Declared.{Declared, row}
+use borrow.Author.Rules.{elem_Fits}
 use Rattle.records.specs.Version.{number_of}
 use Rattle.records.specs.Record.{not_open}
 use Rattle.records.specs.contracts.record.ClientRecord as client_record
-use Rattle.sizes.specs.Sizes.{max_clients, max_files, max_places, place}
+use Rattle.sizes.specs.Sizes.{max_clients, max_files, place}
 use Rattle.protocol.specs.declared.entry.Entry.{Entry}
 use Rattle.protocol.specs.Entry.{record_at}
 use Rattle.protocol.specs.contracts.entry.Entry as entry_type
@@ -30,37 +28,34 @@ use Rattle.image.specs.Fits.{Fits}
 
 -- one element of an array, from what is known of each
 each_at :
-    (X d : Type 0) (own : d → List Val → Fml) (to : X → d) (l : List X) (us : List Val) (x : X) (i : ℕ)
-    → shadow (each d own (map to l) us)
+    (d : Type 0) (own : d → List Val → Fml) (l : List d) (us : List Val) (x : d) (i : ℕ)
+    → shadow (each d own l us)
     → i < length l
-    → (u : Val) × shadow (own (to (get_or l i x)) (u ∷ []))
-each_at X d own to [] us x i known h = absurd (omega arith)
-each_at X d own to (y ∷ l) [] x i known h = absurd known
-each_at X d own to (y ∷ l) (u ∷ us) x zero known h = (u, known.0)
-each_at X d own to (y ∷ l) (u ∷ us) x (suc i) known h = each_at X d own to l us x i known.1 (omega arith)
+    → (u : Val) × shadow (own (get_or l i x) (u ∷ []))
+each_at d own [] us x i known h = absurd (omega arith)
+each_at d own (y ∷ l) [] x i known h = absurd known
+each_at d own (y ∷ l) (u ∷ us) x zero known h = (u, known.0)
+each_at d own (y ∷ l) (u ∷ us) x (suc i) known h = each_at d own l us x i known.1 (omega arith)
 
--- an array of structs: its length, and what is known of one of them
+-- an array of structs: what is known of one of them
 module _
     (T : Declared)
     (l : List T.D)
     (n : ℕ)
     (us : List Val)
-    (counted : length (map T.to l) ≡ n)
-    (known : shadow (each (Struct (shape T)).Denot (Struct (shape T)).own_val (map T.to l) us)) where
-  long : length l ≡ n
-  long = sym (length-map l T.to) ∙ counted
-
+    (counted : length l ≡ n)
+    (known : shadow (each T.D (row T).own_val l us)) where
   one : (x : T.D) (i : ℕ) → i < n → (u : Val) × Is (row T) (get_or l i x) (u ∷ [])
   one x i h =
-      let inside : i < length l = rw long h in
-      each_at T.D (Struct (shape T)).Denot (Struct (shape T)).own_val T.to l us x i known inside
+      let inside : i < length l = rw counted h in
+      each_at T.D (row T).own_val l us x i known inside
 
 -- an entry
 module _ (e : Entry) (vs : List Val) (known : Is (row entry_type.the_type) e vs) where
   entry_records : length e.records ≡ max_clients
   entry_records =
       let records = known.1.1.0 in
-      long client_record.the_type e.records max_clients records.0 records.1.0.1 records.1.1
+      records.1.0.1
 
   entry_version : number_of e.version < 4294967296
   entry_version = known.1.1.1.0.1.1.0.1
@@ -86,14 +81,14 @@ held_fits s vs known =
     let entry : (f : ℕ) → f < max_files → (u : Val) × Is (row entry_type.the_type) (entry_at s f) (u ∷ []) =
     one entry_type.the_type (table_in s).files max_files files.0 files.1.0.1 files.1.1 no_entry in
     record {
-      entries = long entry_type.the_type (table_in s).files max_files files.0 files.1.0.1 files.1.1;
-      places = length_unmapped ℕ s.server.blocks max_places blocks.1.0.1;
-      used = length_unmapped Bool s.server.used max_places used.1.0.1;
-      embargoes = length_unmapped Bool (table_in s).embargoed max_clients embargoed.1.0.1;
+      entries = files.1.0.1;
+      places = blocks.1.0.1;
+      used = used.1.0.1;
+      embargoes = embargoed.1.0.1;
       records = λ f hf. entry_records (entry_at s f) _ (entry f hf).1;
       version = λ f hf. entry_version (entry_at s f) _ (entry f hf).1;
       last = λ f hf. entry_last (entry_at s f) _ (entry f hf).1;
       readers = λ f i hf hi. (entry_counts (entry_at s f) _ (entry f hf).1 i hi).0;
       writers = λ f i hf hi. (entry_counts (entry_at s f) _ (entry f hf).1 i hi).1;
-      block = λ f b hf hb. (elem_fits_field w64 w64 s.server.blocks blocks.0 (place f b) blocks.1.1 tt).fits;
+      block = λ f b hf hb. (elem_Fits w64 w64 s.server.blocks blocks.0 (place f b) blocks.1.1 tt).fits;
     }

@@ -8,7 +8,7 @@ use Rattle.service.specs.declared.service.Service.{Service}
 use Rattle.service.specs.Contents.{table_in, entry_at, block_at}
 
 -- Of what the image looks at: each list has the length of its array, and each number fits its field. So it is in every
--- service that a program holds, hand-made ones included (`held_Fits`, proofs/HeldFits.antt).
+-- service that a program holds, hand-made ones included (`held_fits`, proofs/HeldFits.antt).
 pub record Fits (s : Service) : Type 0 where
   pub entries : length (table_in s).files ≡ max_files
   pub places : length s.server.blocks ≡ max_places

@@ -1,6 +1,6 @@
 -- A row after a crash: its records cleared, its head and its callbacks stored; and after a report: the client's record and
 -- the head. Assumes nothing.
-use Prim.Native.Nat.{ℕ, ◌+◌, ◌*◌, ◌<◌, ◌≤◌, ◌%◌, ◌/◌}
+use Prim.Native.Nat.{ℕ, ◌+◌, ◌*◌, ◌<◌, ◌≤◌}
 use mathlib.Core.Path.{◌≡◌, refl, sym, ap, ◌∙◌, subst, subst⁻¹}
 use mathlib.Core.Bool.{Bool, true, false, cond}
 use mathlib.Core.List.{List}
@@ -59,38 +59,6 @@ module _ {f : ℕ} {t₀ : List ℕ} where
         past = λ j h. stored_beside t f (2 + i) 0 j (λ e. omega arith) ∙ c.past j (omega arith);
         beside = λ g j off h. stored_elsewhere t f (2 + i) 0 g j (omega arith) h off ∙ c.beside g j off h;
       }
-
-  -- all eight, one after the other
-  pub cleared_eight :
-      f < max_files
-      → length t₀ ≡ table_words
-      → Cleared f t₀
-      (set
-      (set
-      (set
-      (set
-      (set
-      (set (set (set t₀ (f * row_words + 2) 0) (f * row_words + 3) 0) (f * row_words + 4) 0)
-      (f * row_words + 5)
-      0)
-      (f * row_words + 6)
-      0)
-      (f * row_words + 7)
-      0)
-      (f * row_words + 8)
-      0)
-      (f * row_words + 9)
-      0)
-      8
-  cleared_eight there size =
-      next 7 (omega arith)
-      (next 6 (omega arith)
-      (next 5 (omega arith)
-      (next 4 (omega arith)
-      (next 3 (omega arith) (next 2 (omega arith) (next 1 (omega arith) (next 0 (omega arith) cleared_none)))))))
-    where
-      next : (i : ℕ) {t : List ℕ} → i < max_clients → Cleared f t₀ t i → Cleared f t₀ (set t (f * row_words + (2 + i)) 0) (i + 1)
-      next i h c = cleared_more (omega (arith, h, there, size)) h c
 
   pub cleared_all : {n m : ℕ} {t : List ℕ} → n ≤ m → m ≤ n → Cleared f t₀ t n → Cleared f t₀ t m
   cleared_all {n} {m} {t} a b c = let same : n ≡ m = omega arith in subst (λ (k : ℕ). Cleared f t₀ t k) same c
@@ -157,19 +125,6 @@ crashed_puts t₀ t f n h k v fits there size c is head calls =
           ∙ stored_elsewhere t f 1 h g j (omega arith) lt off
           ∙ c.beside g j off lt;
     }
-
--- the record in a side
-first_part : (w : ℕ) → w % 16777216 % 256 ≡ w % 256
-first_part w = omega arith
-
-second_part : (w : ℕ) → w % 16777216 / 256 % 256 ≡ w / 256 % 256
-second_part w = omega arith
-
-third_part : (w : ℕ) → w % 16777216 / 65536 % 256 ≡ w / 65536 % 256
-third_part w = omega arith
-
-pub record_in_side : (w : ℕ) → record_held (w % 16777216) ≡ record_held w
-record_in_side w = rw (first_part w, second_part w, third_part w)
 
 -- a report stores the record and the head; the side stands there as it came
 pub reported_puts :

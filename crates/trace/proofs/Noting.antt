@@ -7,11 +7,10 @@ use mathlib.Core.List.{List, [], ◌∷◌, ◌++◌, append-nil, append_assoc}
 use native.Mathlib.Nat.{add-zero, le_refl}
 use native.Mathlib.Numerals.{add-one}
 use native.Mathlib.Omega.{arith}
-use lib.Dec.{eqb, ltb}
+use lib.Dec.{eqb}
 use lib.ListN.{length, get_or, set, take, replicate, length-set, replicate-append-replicate}
 use lib.Seq.{take-suc, take-set-le, take-suc-set}
-use borrow.Author.Tests.{ltb-true}
-use Rattle.sizes.proofs.Choosing.{split, cond_not, and_left, and_right}
+use Rattle.sizes.proofs.Choosing.{split, cond_not}
 use Rattle.sizes.specs.Sizes.{max_clients, nobody}
 use Rattle.decision.specs.Callback.{ordered_calls, call_if}
 use Rattle.protocol.specs.declared.reply.Granting.{Granting}
@@ -22,15 +21,8 @@ use Rattle.words.specs.Said.{calls?, letter_said, calls_said}
 use Rattle.trace.specs.declared.record.TraceKind.TheVariants.{Open, Sent, Call}
 use Rattle.trace.specs.declared.record.TraceOutcome.TheVariants.{Done}
 use Rattle.trace.specs.declared.record.TraceRecord.{TraceRecord}
-use Rattle.trace.specs.Counted.{is_counted}
 use Rattle.trace.specs.Records.{noted, names_station, kind_of, outcome_of, sent_by, call_records, open_record, open_records}
 use Rattle.trace.specs.Records.{records_of, trace_room}
-
--- a station that is in force has a small number
-pub station_small : (stations : ℕ) (x : Numbers) → names_station stations x ≡ true → x.client < max_clients
-station_small stations x named =
-    let counted : is_counted stations x.client ≡ true = and_left _ _ (and_left _ _ named) in
-    ltb-true x.client max_clients (and_right (ltb x.client stations) _ counted)
 
 -- a record is stored after those that count
 store :

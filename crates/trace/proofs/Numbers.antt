@@ -3,13 +3,14 @@
 -- are the hits and the fetches. Assumes nothing.
 use Prim.Native.Nat.{ℕ, zero, suc, ◌+◌, ◌≤◌, ◌<◌}
 use native.Mathlib.Nat.{not-suc-le-zero}
+use native.Mathlib.Numerals.{add-one}
 use native.Mathlib.Omega.{arith}
 use mathlib.Core.Path.{◌≡◌, refl, sym, ap, ◌∙◌}
 use mathlib.Core.Bool.{Bool, true, false, cond, ◌&&◌, ◌||◌}
 use mathlib.Core.List.{List, [], ◌∷◌, ◌++◌}
 use lib.Dec.{eqb, ltb}
-use lib.ListN.{length, get_or, set, length-set}
-use lib.Seq.{get_or-set_same, get_or-set_other}
+use lib.ListN.{length, get_or, set, take, length-set}
+use lib.Seq.{get_or-set_same, get_or-set_other, take-suc, take_all}
 use borrow.Author.Tests.{eqb-true, eqb-false, ltb-true, ltb-false, lt-ltb, le-ltb}
 use Rattle.sizes.specs.Sizes.{max_clients}
 use Rattle.sizes.proofs.Choosing.{when, unless, split, and_left}
@@ -259,6 +260,28 @@ pub counted_append :
 unfolding counted_all
 counted_append stations [] b totals = refl
 counted_append stations (r ∷ rs) b totals = counted_append stations rs b (counted stations r totals)
+
+-- one more record of a trace
+pub counted_more :
+    (stations : ℕ) (trace : List TraceRecord) (before here after : List ℕ) (i : ℕ) (r : TraceRecord)
+    → i < length trace
+    → here ≡ counted_all stations (take i trace) before
+    → after ≡ counted stations (get_or trace i r) here
+    → after ≡ counted_all stations (take (i + 1) trace) before
+unfolding counted_all
+counted_more stations trace before here after i r below is_here is_after =
+    let one : TraceRecord = get_or trace i r in
+    rw (add-one, take-suc trace i r below, counted_append stations (take i trace) (one ∷ []) before)
+    (is_after ∙ ap (λ l. counted stations one l) is_here)
+
+-- all of its records
+pub counted_whole :
+    (stations : ℕ) (trace : List TraceRecord) (before after : List ℕ) (i : ℕ)
+    → length trace ≤ i
+    → after ≡ counted_all stations (take i trace) before
+    → after ≡ counted_all stations trace before
+counted_whole stations trace before after i all is =
+    is ∙ ap (λ (t : List TraceRecord). counted_all stations t before) (take_all i trace all)
 
 pub number_append :
     (station column : ℕ) (a b : List TraceRecord)

@@ -1,5 +1,4 @@
--- What a reply tells of the records of a line: the outcome, the blocks sent, and the opens that are granted. Assumes
--- nothing.
+-- What a reply tells of the records of a line: the opens that are granted. Assumes nothing.
 use Prim.Native.Nat.{ℕ, zero, suc, ◌+◌, ◌*◌, ◌/◌, ◌%◌, ◌≤◌, ◌<◌}
 use mathlib.Core.Path.{◌≡◌, refl, sym, ap, ◌∙◌}
 use mathlib.Core.Bool.{Bool, true, false, cond, not, ◌&&◌, ◌||◌}
@@ -15,43 +14,7 @@ use Rattle.protocol.specs.Reply.{brought, no_granting}
 use Rattle.words.specs.Rows.{listed}
 use Rattle.words.specs.Said.{letter_said, reply_said, granting_said, grants_from, grants_said}
 use Rattle.words.proofs.Listing.{length_listed, get_d_listed}
-use Rattle.trace.specs.declared.record.TraceOutcome.TheVariants.{Done}
-use Rattle.trace.specs.Records.{outcome_of, sent_by, sends_one, open_record, open_records}
-
--- ---- what the letter of a reply tells
-
--- the others are done
-pub other_done :
-    (itself : Bool) (said : ℕ) (words : List ℕ)
-    → eqb (letter_said said) 87 ≡ false
-    → eqb (letter_said said) 86 ≡ false
-    → eqb (letter_said said) 78 ≡ false
-    → outcome_of itself (reply_said said words) ≡ Done
-other_done itself said words w v n =
-    split (eqb (letter_said said) 71) (λ g. rw g)
-    (λ g.
-    split (eqb (letter_said said) 65)
-    (λ a. split (eqb (said / 256) 1) (λ o. rw (g, w, v, n, a, o)) (λ o. rw (g, w, v, n, a, o)))
-    (λ a. rw (g, w, v, n, a)))
-
--- an answer tells how many blocks it sent
-pub answer_sent :
-    (kind : ℕ) (itself : Bool) (said : ℕ) (words : List ℕ)
-    → letter_said said ≡ 65
-    → sent_by kind itself (reply_said said words) ≡ get_or words 0 0
-answer_sent kind itself said words a =
-    split (eqb (said / 256) 1) (λ o. rw (a, o)) (λ o. rw (a, o))
-
--- a letter of no other reply sends one block, or none
-pub one_sent :
-    (kind : ℕ) (itself : Bool) (said : ℕ) (words : List ℕ)
-    → eqb (letter_said said) 71 ≡ false
-    → eqb (letter_said said) 87 ≡ false
-    → eqb (letter_said said) 86 ≡ false
-    → eqb (letter_said said) 78 ≡ false
-    → eqb (letter_said said) 65 ≡ false
-    → sent_by kind itself (reply_said said words) ≡ cond (sends_one kind itself) 1 0
-one_sent kind itself said words g w v n a = rw (g, w, v, n, a)
+use Rattle.trace.specs.Records.{open_record, open_records}
 
 -- one of two numbers, of which the other is 0
 pub all_or_none : (b : Bool) (most n : ℕ) → n ≡ cond b most 0 → n ≤ most

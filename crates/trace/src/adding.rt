@@ -1,5 +1,4 @@
-// A lent trace, counted. The borrow checker covers no slice of structs: both functions on one, here and in lending.rt, are
-// proved by a walk of their code, and leave the counting to a function that is covered.
+// A lent trace, counted.
 ghost use Rattle.std.specs.Prelude.{◌≡◌};
 ghost use Rattle.trace.specs.Counted.{counted_all};
 ghost use Rattle.trace.specs.Number.{Counts};

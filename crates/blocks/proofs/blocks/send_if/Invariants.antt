@@ -1,0 +1,15 @@
+-- After b turns b of the server's blocks are stored, each the client's where that is dirty.
+use Rattle.std.proofs.Common.{ℕ, ◌+◌, ◌-◌, Bool, false, cond, List, get_or}
+use Rattle.decision.proofs.Storing.{Stored}
+use Rattle.blocks.proofs.blocks.send_if.Given as goal
+
+-- what is stored for block k
+abbrev pub sent_block : ℕ → ℕ → List Bool → List ℕ → List ℕ → ℕ → ℕ
+sent_block base to dirty copies l k = cond (get_or dirty (base + k) false) (get_or copies (base + k) 0) (get_or l (to + k) 0)
+
+abbrev pub invariant-loop-b : goal.invariant-loop-b
+invariant-loop-b l =
+    Stored l.count (λ k. l.to + k) (sent_block l.base l.to l.fn.dirty l.fn.copies l.fn.blocks) l.fn.blocks l.blocks l.b
+
+abbrev pub decreases-loop-b : goal.decreases-loop-b
+decreases-loop-b l = l.count - l.b

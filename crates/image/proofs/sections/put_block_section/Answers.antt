@@ -1,0 +1,10 @@
+-- `put_block_section` meets its contract: the entries, and then their count before them. Assumes nothing.
+use lib.Dec.{lit<}
+use Rattle.image.specs.Image.{block_entries}
+use Rattle.image.proofs.SectionLaws.{wide_blocks, counted}
+use Rattle.image.proofs.sections.put_block_section.Goals as goal
+
+pub returns-clause-wrote : goal.returns-clause-wrote
+returns-clause-wrote c =
+    let a = c.args in
+    counted 10 (lit< tt) (block_entries a.sizes a.used.now a.blocks.now) (wide_blocks a.sizes a.used.now a.blocks.now) c.put_blocks-past.ensures.wrote c.put_count.ensures

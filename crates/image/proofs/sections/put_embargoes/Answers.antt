@@ -1,0 +1,12 @@
+-- `put_embargoes` meets its contract: after so many clients those under embargo are written. Assumes nothing.
+use native.Mathlib.Omega.{arith}
+use Rattle.image.proofs.Listing.{listing_none, listing-next}
+use Rattle.image.proofs.sections.put_embargoes.Goals as goal
+
+pub loop-client-init : goal.loop-client-init
+loop-client-init c = listing_none (omega arith)
+
+pub loop-client-preserved : goal.loop-client-preserved
+loop-client-preserved c =
+    let put = c.put_embargo-next in
+    listing-next c.loop-client.invariant c.loop-client-test.true put.ensures.wrote put.ensures.upper_bound put.auto.out

@@ -1,0 +1,10 @@
+-- What the loop of `pass_fours` keeps: of the files before the one that it has come to the words say nothing.
+use Prim.Native.Nat.{◌-◌, ◌≤◌}
+use Rattle.service.specs.Served.{Silent}
+use Rattle.service.proofs.clashing.pass_fours.Given as goal
+
+abbrev pub invariant-loop-f : goal.invariant-loop-f
+invariant-loop-f l = (l.from ≤ l.f) × (l.f ≤ l.files) × Silent l.client l.from l.f l.table
+
+abbrev pub decreases-loop-f : goal.decreases-loop-f
+decreases-loop-f l = l.files - l.f

@@ -1,0 +1,97 @@
+-- `write_file` meets its contract: refused, or done with and without a place that it takes. Assumes nothing.
+use Rattle.std.proofs.Common.{ℕ, ◌+◌, ◌%◌, ◌≡◌, refl, sym, ap, ap₂, ◌∙◌, Bool, true, false, cond, ◌||◌, List, get_or, set}
+use borrow.Author.Tests.{not-true, not-false}
+use Rattle.sizes.specs.Sizes.{max_files, max_blocks, place}
+use Rattle.sizes.proofs.Choosing.{conflict, when, unless}
+use Rattle.protocol.specs.declared.step.Step.TheVariants.{Write}
+use Rattle.blocks.specs.Stores.{lent}
+use Rattle.words.specs.Rows.{table_rows}
+use Rattle.service.specs.Lent.{state_flags, free_held}
+use Rattle.service.specs.Space.{recounted}
+use Rattle.service.proofs.Serving.{block_moves}
+use Rattle.service.proofs.WriteStoring.{write_refused, write_serves}
+use Rattle.service.proofs.spending.write_file.Goals.{then-not-opens, else-not-opens}
+use Rattle.service.proofs.spending.write_file.Goals as goal
+
+pub returns-then-is_refused : goal.returns-then-is_refused
+returns-then-is_refused c =
+    let a = c.args in
+    write_refused c.requires.permitted c.requires.table_len c.requires.flags_len
+    c.side_of-own.ensures
+    c.takes_place-takes.ensures
+    refl
+    (block_moves c.takes_place-takes.result _ a.sizes (Write a.client a.file a.block a.value) a.client a.file
+    a.table.now a.flags.now (lent c.args.blocks.now a.copies.now a.held.now a.dirty.now)
+    c.side_of-own.result _ _ _ _ _ refl c.side_of-own.ensures c.write_block-reply.ensures)
+    (sym c.is_refused.ensures ∙ c.if-is_refused.true)
+
+-- the flags, whether the write reached the server or not
+pub returns-then-takes : goal.returns-then-takes
+returns-then-takes c =
+    let a = c.args in
+    let at : ℕ = place (a.file % max_files) (a.block % max_blocks) in
+    let caching : Bool = c.side_of-own.result.opens.caching in
+    let bits : c.if-not-opens.flags ≡ cond caching a.flags.now (set a.flags.now (state_flags + at) true) =
+    elim c.if-not-opens.branch [
+      | then-not-opens w ↦
+          w.flags-is
+          ∙ ap (λ k. set a.flags.now (state_flags + k) true) w.place_of.ensures.value
+          ∙ sym (unless a.flags.now (set a.flags.now (state_flags + at) true) (not-true caching w.if-not-opens.true))
+      | else-not-opens w ↦
+          w.flags-is
+          ∙ sym (when a.flags.now (set a.flags.now (state_flags + at) true) (not-false caching w.if-not-opens.false))
+    ] in
+    let left : List Bool = c.write_block-reply.new.dirty in
+    write_serves c.requires.permitted c.requires.table_len c.requires.flags_len
+    c.side_of-own.ensures
+    c.takes_place-takes.ensures
+    refl
+    (block_moves c.takes_place-takes.result _ a.sizes (Write a.client a.file a.block a.value) a.client a.file
+    a.table.now a.flags.now (lent c.args.blocks.now a.copies.now a.held.now a.dirty.now)
+    c.side_of-own.result _ _ _ _ _ refl c.side_of-own.ensures c.write_block-reply.ensures)
+    at
+    _
+    c.if-not-opens.flags
+    (get_or c.if-not-opens.flags (state_flags + c.place_of-then-takes.result) false || get_or left c.cell_of.result false)
+    refl
+    bits
+    (λ e.
+    ap₂ (λ (k l : ℕ). get_or c.if-not-opens.flags (state_flags + k) false || get_or left l false)
+    c.place_of-then-takes.ensures.value
+    c.cell_of.ensures.value)
+    (c.recount.ensures
+    ∙ ap (λ (n : ℕ). set a.table.now table_rows (recounted a.sizes.store (free_held a.table.now) 0 n)) c.one_if.ensures
+    ∙ sym (when _ _ c.if-takes.true))
+    (sym c.is_refused.ensures ∙ c.if-is_refused.false)
+
+pub returns-else-takes : goal.returns-else-takes
+returns-else-takes c =
+    let a = c.args in
+    let at : ℕ = place (a.file % max_files) (a.block % max_blocks) in
+    let caching : Bool = c.side_of-own.result.opens.caching in
+    let bits : c.if-not-opens.flags ≡ cond caching a.flags.now (set a.flags.now (state_flags + at) true) =
+    elim c.if-not-opens.branch [
+      | then-not-opens w ↦
+          w.flags-is
+          ∙ ap (λ k. set a.flags.now (state_flags + k) true) w.place_of.ensures.value
+          ∙ sym (unless a.flags.now (set a.flags.now (state_flags + at) true) (not-true caching w.if-not-opens.true))
+      | else-not-opens w ↦
+          w.flags-is
+          ∙ sym (when a.flags.now (set a.flags.now (state_flags + at) true) (not-false caching w.if-not-opens.false))
+    ] in
+    write_serves c.requires.permitted c.requires.table_len c.requires.flags_len
+    c.side_of-own.ensures
+    c.takes_place-takes.ensures
+    refl
+    (block_moves c.takes_place-takes.result _ a.sizes (Write a.client a.file a.block a.value) a.client a.file
+    a.table.now a.flags.now (lent c.args.blocks.now a.copies.now a.held.now a.dirty.now)
+    c.side_of-own.result _ _ _ _ _ refl c.side_of-own.ensures c.write_block-reply.ensures)
+    at
+    _
+    c.if-not-opens.flags
+    false
+    refl
+    bits
+    (λ e. conflict e c.if-takes.false)
+    (sym (unless _ _ c.if-takes.false))
+    (sym c.is_refused.ensures ∙ c.if-is_refused.false)
