@@ -5,13 +5,14 @@ use crate::turns::{End, input_buffer, read_if, write};
 use counting::advance;
 use service::{FLAGS, hold};
 use sizes::{MAX_CELLS, MAX_PLACES};
+use std::io::Read;
 use trace::TOTALS;
 use words::WORDS;
 
-// Counts what the descriptor gives, from this start on. A read or a write that fails ends it before the totals. The loop
+// Counts what the input gives, from this start on. A read or a write that fails ends it before the totals. The loop
 // counts its turns down, since nothing says that an input ends. The service and the totals are in the arrays, and no
 // turn copies them.
-pub fn count(start: Start, fd: i32) -> End {
+pub fn count(rt: &impl Print, start: Start, input: &mut impl Read) -> End {
     let mut buffer = input_buffer();
     let mut out = output_buffer();
     let mut table = [0u64; WORDS];
@@ -32,20 +33,21 @@ pub fn count(start: Start, fd: i32) -> End {
         &mut dirty,
     );
     let mut session = session_from(start);
-    let mut reads = true;
-    let mut writes = true;
+    let mut read_failure = None;
+    let mut write_failure = None;
     let mut turns = u64::MAX;
     while (turns > 0) & !session.done {
         let wanted = !(session.paused | session.over);
-        let got = read_if(wanted, fd, &mut buffer, session.rest);
-        if got < 0 {
-            reads = false;
-            break;
-        }
-        let bytes = io::count(got, &buffer);
+        let got = match read_if(wanted, input, &mut buffer, session.rest) {
+            Ok(got) => got,
+            Err(error) => {
+                read_failure = Some(error);
+                break;
+            }
+        };
         let turn = advance(
             session,
-            bytes,
+            got,
             &mut buffer,
             &mut out,
             &mut table,
@@ -58,14 +60,14 @@ pub fn count(start: Start, fd: i32) -> End {
         );
         let after = turn.session;
         session = after;
-        if !write(&out, turn.written) {
-            writes = false;
+        if let Err(error) = write(rt, &out, turn.written) {
+            write_failure = Some(error);
             break;
         }
         turns -= 1;
     }
     end_of(
-        session, reads, writes, &table, &flags, &blocks, &copies, &held, &dirty,
+        session, read_failure, write_failure, &table, &flags, &blocks, &copies, &held, &dirty,
     )
 }
 

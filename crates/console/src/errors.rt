@@ -1,75 +1,103 @@
-// How an error is told: a line on standard error, `play: NAME: REASON`, with the program's own name.
-use libc::STDERR_FILENO;
+// How an error is told: a line on standard error, `play: NAME: REASON`, with the program's own name. Standard error is
+// passed as what prints there, since a name need not be text. Where it takes no line, none is told.
 use options::{EXPLAIN, PLAY};
+use std::io;
+use std::io::{Cursor, Write};
 
-// A call on the named input or output has failed. The reason is errno's, in the system's words; errno is still that
-// of the call, since a write that succeeds leaves it.
-pub fn fail(program: u8, name: &[u8]) {
-    begin(program);
-    os::fail(name);
+// A call on the named input or output has failed. The reason is that of the error, in the system's words.
+pub fn fail(errors: &impl Print, program: u8, name: &[u8], error: io::Error) {
+    begin(errors, program);
+    put(errors, name);
+    put(errors, b": ");
+    put_reason(errors, error);
+    put(errors, b"\n");
 }
 
-pub fn fail_output(program: u8) {
-    fail(program, b"standard output");
+pub fn fail_output(errors: &impl Print, program: u8, error: io::Error) {
+    fail(errors, program, b"standard output", error);
 }
 
-pub fn refuse_option(program: u8, text: &[u8], reason: &[u8]) {
-    begin(program);
-    io::write_all(STDERR_FILENO, text);
-    io::write_all(STDERR_FILENO, b": ");
-    io::write_all(STDERR_FILENO, reason);
-    io::write_all(STDERR_FILENO, b" (try ");
-    write_name(program, STDERR_FILENO);
-    io::write_all(STDERR_FILENO, b" --help)\n");
+pub fn refuse_option(errors: &impl Print, program: u8, text: &[u8], reason: &[u8]) {
+    begin(errors, program);
+    put(errors, text);
+    put(errors, b": ");
+    put(errors, reason);
+    put(errors, b" (try ");
+    let _ = write_name(errors, program);
+    put(errors, b" --help)\n");
 }
 
 // The same of an option for an image.
-pub fn refuse_image_option(program: u8, writing: bool, reason: &[u8]) {
+pub fn refuse_image_option(errors: &impl Print, program: u8, writing: bool, reason: &[u8]) {
     if writing {
-        refuse_option(program, b"--write-image", reason);
+        refuse_option(errors, program, b"--write-image", reason);
     } else {
-        refuse_option(program, b"--read-image", reason);
+        refuse_option(errors, program, b"--read-image", reason);
     }
 }
 
 // An argument that does not fit its buffer is named by its place: its first bytes would be another name.
-pub fn refuse_long(program: u8, place: usize) {
-    begin(program);
-    io::write_all(STDERR_FILENO, b"argument ");
-    io::print_decimal(STDERR_FILENO, place as u64);
-    io::write_all(STDERR_FILENO, b": longer than 4096 bytes\n");
+pub fn refuse_long(errors: &impl Print, program: u8, place: usize) {
+    begin(errors, program);
+    put(errors, b"argument ");
+    let _ = errors.print(place);
+    put(errors, b": longer than 4096 bytes\n");
 }
 
 // The image in the named file, or for it, is refused with this number.
-pub fn refuse_image(program: u8, name: &[u8], number: u8) {
-    begin(program);
-    io::write_all(STDERR_FILENO, name);
-    io::write_all(STDERR_FILENO, b": image refused with ");
-    io::print_decimal(STDERR_FILENO, number as u64);
-    io::write_all(STDERR_FILENO, b"\n");
+pub fn refuse_image(errors: &impl Print, program: u8, name: &[u8], number: u8) {
+    begin(errors, program);
+    put(errors, name);
+    put(errors, b": image refused with ");
+    let _ = errors.print(number);
+    put(errors, b"\n");
 }
 
 // The named file is left as it is, for this reason.
-pub fn leave(program: u8, name: &[u8], reason: &[u8]) {
-    begin(program);
-    io::write_all(STDERR_FILENO, name);
-    io::write_all(STDERR_FILENO, b": ");
-    io::write_all(STDERR_FILENO, reason);
-    io::write_all(STDERR_FILENO, b", left as it is\n");
+pub fn leave(errors: &impl Print, program: u8, name: &[u8], reason: &[u8]) {
+    begin(errors, program);
+    put(errors, name);
+    put(errors, b": ");
+    put(errors, reason);
+    put(errors, b", left as it is\n");
 }
 
-// Writes the program's name, and answers whether the descriptor took it.
-pub fn write_name(program: u8, fd: i32) -> bool {
+// Writes the program's name.
+pub fn write_name(rt: &impl Print, program: u8) -> io::Result<()> {
     if program == PLAY {
-        return io::write_all(fd, b"play");
+        return rt.write_all(b"play");
     }
     if program == EXPLAIN {
-        return io::write_all(fd, b"explain");
+        return rt.write_all(b"explain");
     }
-    io::write_all(fd, b"traffic")
+    rt.write_all(b"traffic")
 }
 
-fn begin(program: u8) {
-    write_name(program, STDERR_FILENO);
-    io::write_all(STDERR_FILENO, b": ");
+// Writes the bytes to standard error, if it takes them.
+pub fn put(errors: &impl Print, bytes: &[u8]) {
+    let _ = errors.write_all(bytes);
+}
+
+fn begin(errors: &impl Print, program: u8) {
+    let _ = write_name(errors, program);
+    put(errors, b": ");
+}
+
+// The error's text without what stands in brackets after the system's words, its number.
+fn put_reason(errors: &impl Print, error: io::Error) {
+    let mut text = Cursor::new([0u8; 256]);
+    let _ = write!(text, "{error}");
+    let bytes: &[u8] = text.get_ref();
+    let end = bytes.len().min(text.position() as usize);
+    put(errors, words_of(&bytes[..end]));
+}
+
+fn words_of(text: &[u8]) -> &[u8] {
+    let Ok(text) = std::str::from_utf8(text) else {
+        return text;
+    };
+    match text.split_once(" (os error ") {
+        Some((words, _)) => words.as_bytes(),
+        None => text.as_bytes(),
+    }
 }

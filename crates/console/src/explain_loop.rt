@@ -10,12 +10,14 @@ use explaining::Session;
 use ledger::{BEGINNINGS, NOTES, REFUSAL_NUMBERS};
 use service::{FLAGS, held_service, hold};
 use sizes::{MAX_CELLS, MAX_PLACES};
+use std::io;
+use std::io::Read;
 use words::WORDS;
 
-// Explains what the descriptor gives, from this start on. A read or a write that fails ends it before the picture.
+// Explains what the input gives, from this start on. A read or a write that fails ends it before the picture.
 // The loop counts its turns down, since nothing says that an input ends. The service, and what is
 // noted beside it, are in the arrays, and no turn copies them.
-pub fn explain(start: Start, fd: i32) -> End {
+pub fn explain(rt: &impl Print, start: Start, input: &mut impl Read) -> End {
     let mut buffer = input_buffer();
     let mut out = output_buffer();
     let mut table = [0u64; WORDS];
@@ -40,19 +42,20 @@ pub fn explain(start: Start, fd: i32) -> End {
         &mut dirty,
     );
     let mut session = session_from(start);
-    let mut reads = true;
-    let mut writes = true;
+    let mut read_failure = None;
+    let mut write_failure = None;
     let mut turns = u64::MAX;
     while (turns > 0) & !session.done {
         let wanted = !(session.paused | session.over);
-        let got = read_if(wanted, fd, &mut buffer, session.rest);
-        if got < 0 {
-            reads = false;
-            break;
-        }
-        let count = io::count(got, &buffer);
+        let got = match read_if(wanted, input, &mut buffer, session.rest) {
+            Ok(got) => got,
+            Err(error) => {
+                read_failure = Some(error);
+                break;
+            }
+        };
         let turn = session.advance(
-            count,
+            got,
             &mut buffer,
             &mut out,
             &mut table,
@@ -69,14 +72,14 @@ pub fn explain(start: Start, fd: i32) -> End {
         );
         let after = turn.session;
         session = after;
-        if !write(&out, turn.written) {
-            writes = false;
+        if let Err(error) = write(rt, &out, turn.written) {
+            write_failure = Some(error);
             break;
         }
         turns -= 1;
     }
     end_of(
-        session, reads, writes, &table, &flags, &blocks, &copies, &held, &dirty,
+        session, read_failure, write_failure, &table, &flags, &blocks, &copies, &held, &dirty,
     )
 }
 
@@ -101,8 +104,8 @@ fn output_buffer() -> [u8; 1048576] {
 // How it ended, with the service that the arrays hold.
 fn end_of(
     session: Session,
-    reads: bool,
-    writes: bool,
+    read_failure: Option<io::Error>,
+    write_failure: Option<io::Error>,
     table: &[u64; WORDS],
     flags: &[bool; FLAGS],
     blocks: &[u64; MAX_PLACES],
@@ -117,8 +120,8 @@ fn end_of(
 {
     let sizes = session.sizes;
     End {
-        reads,
-        writes,
+        read_failure,
+        write_failure,
         done: session.done,
         service: held_service(sizes, table, flags, blocks, copies, held, dirty),
     }

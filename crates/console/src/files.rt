@@ -1,74 +1,149 @@
 // Small files, read and written as a whole. What fails is told of.
-ghost use Rattle.std.specs.Prelude.{◌+◌, ◌≤◌, length};
-ghost use Rattle.io.specs.Counts.{IsPrefixLen};
+ghost use Rattle.std.specs.Prelude.{◌≡◌, ◌+◌, ◌≤◌, length, take};
 
 use crate::errors::fail;
 use input::{Content, read_to_end};
+use std::fs::{File, OpenFile, OpenOptions};
+use std::io;
+use std::io::Write;
+use std::rt::Files;
+
+// EILSEQ: the system's number for bytes that are no text.
+const NO_TEXT: i32 = 84;
+
+// The name as a path, which is UTF-8.
+pub fn path_of(name: &[u8]) -> io::Result<&str> {
+    match std::str::from_utf8(name) {
+        Ok(path) => Ok(path),
+        Err(_) => Err(io::Error::from_raw_os_error(NO_TEXT)),
+    }
+}
+
+// Opens the file for reading.
+pub fn open_read<R: Files>(rt: &R, name: &[u8]) -> io::Result<R::File> {
+    File::open(rt, path_of(name)?)
+}
+
+// Opens the file for reading and writing, and leaves its bytes as they are.
+pub fn open_update<R: Files>(rt: &R, name: &[u8]) -> io::Result<R::File> {
+    OpenOptions::new()
+        .read(true)
+        .write(true)
+        .open(rt, path_of(name)?)
+}
 
 // Reads the file to its end, or as far as the buffer goes. It has failed if it could not be opened, or not be read.
-pub fn read_file(program: u8, name: &[u8], buffer: &mut [u8]) -> Content
-    ensures { IsPrefixLen result.count buffer.new }
+pub fn read_file(
+    rt: &impl Files,
+    errors: &impl Print,
+    program: u8,
+    name: &[u8],
+    buffer: &mut [u8],
+) -> Content
+    ensures within { result.count ≤ length buffer.new }
+    ensures prefix { result.count ≡ length (take result.count buffer.new) }
 {
-    let fd = os::open_read(name);
-    if fd < 0 {
-        fail(program, name);
-        return Content {
-            count: 0,
-            failed: true,
-        };
+    match open_read(rt, name) {
+        Ok(mut file) => {
+            let content = read_to_end(&mut file, buffer);
+            if let Some(error) = content.failure {
+                fail(errors, program, name, error);
+            }
+            content
+        }
+        Err(error) => {
+            fail(errors, program, name, error);
+            Content {
+                count: 0,
+                failure: Some(error),
+            }
+        }
     }
-    let content = read_to_end(fd, buffer);
-    if content.failed {
-        fail(program, name);
-    }
-    libc::close(fd);
-    content
 }
 
 // Puts the bytes into the file: all of them, or the file stays as it is. They go to a new file beside it, which then
 // takes its name. Answers whether they are there.
-pub fn replace_file(program: u8, bytes: &[u8], name: &[u8]) -> bool {
+pub fn replace_file(
+    rt: &impl Files,
+    errors: &impl Print,
+    program: u8,
+    bytes: &[u8],
+    name: &[u8],
+) -> bool {
     let mut new_name = name_buffer();
     let count = name_beside(name, &mut new_name);
-    if !write_new(program, bytes, &new_name[..count]) {
+    if !write_new(rt, errors, program, bytes, &new_name[..count]) {
         return false;
     }
-    take_name(program, &new_name[..count], name)
+    take_name(rt, errors, program, &new_name[..count], name)
 }
 
 // Makes the file and writes the bytes. What an earlier run has left under this name goes; if the bytes cannot be
 // stored, the file goes again.
-fn write_new(program: u8, bytes: &[u8], name: &[u8]) -> bool {
-    os::unlink(name);
-    let fd = os::create(name);
-    if fd < 0 {
-        fail(program, name);
-        return false;
+fn write_new(
+    rt: &impl Files,
+    errors: &impl Print,
+    program: u8,
+    bytes: &[u8],
+    name: &[u8],
+) -> bool {
+    remove(rt, name);
+    match create(rt, name) {
+        Ok(mut file) => match store(&mut file, bytes) {
+            Ok(()) => true,
+            Err(error) => {
+                fail(errors, program, name, error);
+                remove(rt, name);
+                false
+            }
+        },
+        Err(error) => {
+            fail(errors, program, name, error);
+            false
+        }
     }
-    let stored = store(fd, bytes);
-    if !stored {
-        fail(program, name);
-        os::unlink(name);
+}
+
+// Makes a file that is not there yet, for writing.
+fn create<R: Files>(rt: &R, name: &[u8]) -> io::Result<R::File> {
+    OpenOptions::new()
+        .write(true)
+        .create_new(true)
+        .open(rt, path_of(name)?)
+}
+
+// The file goes, if there is one.
+fn remove(rt: &impl Files, name: &[u8]) {
+    if let Ok(path) = path_of(name) {
+        let _ = std::fs::remove_file(rt, path);
     }
-    libc::close(fd);
-    stored
 }
 
 // Writes the bytes, and waits until they are stored.
-fn store(fd: i32, bytes: &[u8]) -> bool {
-    if !io::write_all(fd, bytes) {
-        return false;
-    }
-    libc::fsync(fd) == 0
+fn store(file: &mut (impl Write + OpenFile), bytes: &[u8]) -> io::Result<()> {
+    file.write_all(bytes)?;
+    file.sync_all()
 }
 
-fn take_name(program: u8, new_name: &[u8], name: &[u8]) -> bool {
-    if os::rename(new_name, name) < 0 {
-        fail(program, name);
-        os::unlink(new_name);
-        return false;
+fn take_name(
+    rt: &impl Files,
+    errors: &impl Print,
+    program: u8,
+    new_name: &[u8],
+    name: &[u8],
+) -> bool {
+    match rename(rt, new_name, name) {
+        Ok(()) => true,
+        Err(error) => {
+            fail(errors, program, name, error);
+            remove(rt, new_name);
+            false
+        }
     }
-    true
+}
+
+fn rename(rt: &impl Files, from: &[u8], to: &[u8]) -> io::Result<()> {
+    std::fs::rename(rt, path_of(from)?, path_of(to)?)
 }
 
 // A name has at most 4,096 bytes, and `.new` comes after it.
@@ -79,7 +154,8 @@ pub fn name_buffer() -> [u8; 4100] {
 // Puts the name and `.new` into the buffer, and answers their length. A name that does not fit gives none: cut short,
 // it would be another file's.
 pub fn name_beside(name: &[u8], buffer: &mut [u8]) -> usize
-    ensures { IsPrefixLen result buffer.new }
+    ensures within { result ≤ length buffer.new }
+    ensures prefix { result ≡ length (take result buffer.new) }
 {
     if buffer.len() < 4 {
         return 0;

@@ -1,18 +1,20 @@
 // The file that an image is to be written to, looked at before anything is played, so that no other file is lost. What
 // is left as it is, is told of.
-ghost use Rattle.std.specs.Prelude.{◌<◌, ◌≡◌, not, length};
-ghost use Rattle.libc.specs.Io.{Ended};
+ghost use Rattle.std.specs.Prelude.{◌≡◌, not};
 ghost use Rattle.protocol.specs.Reply.{is_refused};
 ghost use Rattle.service.specs.Fresh.{fresh};
 ghost use Rattle.restore.specs.Reading.{reading_of, sizes_in};
 
+use crate::arguments::{argument_at, argument_buffer};
 use crate::errors::{fail, leave};
-use crate::files::{name_beside, name_buffer};
+use crate::files::{name_beside, name_buffer, open_update, path_of};
 use crate::images::{image_buffer, reading_of};
-use check::same;
 use input::read_to_end;
-use libc::PATH_MAX;
 use protocol::Reply;
+use std::fs::{Metadata, OpenFile};
+use std::io;
+use std::io::{ErrorKind, Read};
+use std::rt::{Env, Files};
 
 // The places of the arguments that name the image to begin with and the image to write at the end; 0: there is none.
 #[derive(Clone, Copy)]
@@ -23,78 +25,93 @@ pub struct Images {
 
 // Whether the image may be written. It goes to the name beside its own first, and what stood there goes: neither name
 // may be that of the input, and the name beside not that of the image to begin with.
-pub fn may_write(program: u8, input: &[u8], images: Images) -> bool {
+pub fn may_write(
+    rt: &(impl Env + Files),
+    errors: &impl Print,
+    program: u8,
+    input: &[u8],
+    images: Images,
+) -> bool {
     if images.written == 0 {
         return true;
     }
-    let mut name = io::buffer();
-    let length = os::arg(images.written, &mut name);
+    let mut name = argument_buffer();
+    let length = argument_at(rt, images.written, &mut name);
     let mut new_name = name_buffer();
     let count = name_beside(&name[..length], &mut new_name);
-    if same(input, &name[..length]) | same(input, &new_name[..count]) {
-        leave(program, input, b"an input of this run");
+    if (input == &name[..length]) | (input == &new_name[..count]) {
+        leave(errors, program, input, b"an input of this run");
         return false;
     }
-    if is_read(images.read, &new_name[..count]) {
-        leave(program, &new_name[..count], b"an input of this run");
+    if is_read(rt, images.read, &new_name[..count]) {
+        leave(errors, program, &new_name[..count], b"an input of this run");
         return false;
     }
-    is_free(program, &name[..length], false) && is_free(program, &new_name[..count], true)
+    is_free(rt, errors, program, &name[..length], false)
+        && is_free(rt, errors, program, &new_name[..count], true)
 }
 
 // Whether the argument at this place is the name.
-fn is_read(place: usize, name: &[u8]) -> bool {
+fn is_read(rt: &impl Env, place: usize, name: &[u8]) -> bool {
     if place == 0 {
         return false;
     }
-    let mut text = io::buffer();
-    let length = os::arg(place, &mut text);
-    same(&text[..length], name)
+    let mut text = argument_buffer();
+    let length = argument_at(rt, place, &mut text);
+    &text[..length] == name
 }
 
 // Whether no file has the name, or an empty one, or an image; or, whatever it holds, a plain file.
-fn is_free(program: u8, name: &[u8], whatever: bool) -> bool {
-    if is_link(name) {
-        leave(program, name, b"a link");
+fn is_free(
+    rt: &impl Files,
+    errors: &impl Print,
+    program: u8,
+    name: &[u8],
+    whatever: bool,
+) -> bool {
+    if is_link(rt, name) {
+        leave(errors, program, name, b"a link");
         return false;
     }
     // For reading and writing, since the open of a FIFO for reading alone waits for a writer.
-    let fd = os::open_update(name);
-    if fd < 0 {
-        return is_missing(program, name);
+    match open_update(rt, name) {
+        Ok(mut file) => is_free_file(errors, program, name, &mut file, whatever),
+        Err(error) => is_missing(errors, program, name, error),
     }
-    let free = is_free_file(program, name, fd, whatever);
-    libc::close(fd);
-    free
 }
 
 // The open has failed. There is no file of this name, or a directory, whose place no file takes; what else stands there
 // is left.
-fn is_missing(program: u8, name: &[u8]) -> bool {
-    let error = os::errno();
-    if (error == libc::ENOENT) | (error == libc::ENOTDIR) | (error == libc::EISDIR) {
-        return true;
+fn is_missing(errors: &impl Print, program: u8, name: &[u8], error: io::Error) -> bool {
+    match error.kind() {
+        ErrorKind::NotFound | ErrorKind::NotADirectory | ErrorKind::IsADirectory => true,
+        ErrorKind::InvalidFilename => true,
+        _ => {
+            fail(errors, program, name, error);
+            false
+        }
     }
-    if error == libc::ENAMETOOLONG {
-        return true;
-    }
-    fail(program, name);
-    false
 }
 
-// A FIFO and a device have no bytes that could be stored: fsync fails.
-fn is_free_file(program: u8, name: &[u8], fd: i32, whatever: bool) -> bool {
-    if libc::fsync(fd) != 0 {
-        leave(program, name, b"not a plain file");
+// A FIFO and a device have no bytes that could be stored: the sync fails.
+fn is_free_file(
+    errors: &impl Print,
+    program: u8,
+    name: &[u8],
+    file: &mut (impl Read + OpenFile),
+    whatever: bool,
+) -> bool {
+    if file.sync_all().is_err() {
+        leave(errors, program, name, b"not a plain file");
         return false;
     }
     if whatever {
         return true;
     }
     let mut bytes = image_buffer();
-    let content = read_to_end(fd, &mut bytes);
-    if content.failed {
-        fail(program, name);
+    let content = read_to_end(file, &mut bytes);
+    if let Some(error) = content.failure {
+        fail(errors, program, name, error);
         return false;
     }
     if content.count == 0 {
@@ -103,7 +120,7 @@ fn is_free_file(program: u8, name: &[u8], fd: i32, whatever: bool) -> bool {
     if is_image(&bytes[..content.count]) {
         return true;
     }
-    leave(program, name, b"not an image");
+    leave(errors, program, name, b"not an image");
     false
 }
 
@@ -131,26 +148,14 @@ fn is_accepted(reply: Reply) -> bool
     }
 }
 
-fn is_link(name: &[u8]) -> bool {
-    if name.len() >= PATH_MAX {
-        return false;
+fn is_link(rt: &impl Files, name: &[u8]) -> bool {
+    match found_at(rt, name) {
+        Ok(found) => found.is_symlink(),
+        Err(_) => false,
     }
-    let path = ended(name);
-    let mut text = [0u8; 1];
-    libc::readlink(&path, &mut text) >= 0
 }
 
-// The name and zeros after it.
-fn ended(name: &[u8]) -> [u8; PATH_MAX]
-    requires { length name.now < 4096 }
-    ensures { Ended result }
-{
-    let mut path = io::buffer();
-    let mut i = 0;
-    while i < name.len() {
-        path[i] = name[i];
-        i += 1;
-    }
-    path[PATH_MAX - 1] = 0;
-    path
+// What stands at the name, where a link is not followed.
+fn found_at(rt: &impl Files, name: &[u8]) -> io::Result<Metadata> {
+    std::fs::symlink_metadata(rt, path_of(name)?)
 }

@@ -1,25 +1,36 @@
 // What `--help` and `--version` print.
 use crate::errors::{fail_output, write_name};
-use libc::STDOUT_FILENO;
 use options::{EXPLAIN, PLAY};
+use std::io;
 
-pub fn print_version(program: u8) {
-    if !(write_name(program, STDOUT_FILENO) && io::write_all(STDOUT_FILENO, b" 0.1.0\n")) {
-        fail_output(program);
+pub fn print_version(rt: &impl Print, errors: &impl Print, program: u8) {
+    if let Err(error) = write_version(rt, program) {
+        fail_output(errors, program, error);
     }
 }
 
-pub fn print_help(program: u8) {
-    if !(write_purpose(program) && write_options() && write_lines(program) && write_end(program)) {
-        fail_output(program);
+pub fn print_help(rt: &impl Print, errors: &impl Print, program: u8) {
+    if let Err(error) = write_help(rt, program) {
+        fail_output(errors, program, error);
     }
 }
 
-// Each of these writes a part of the help, and answers whether standard output took it.
-fn write_purpose(program: u8) -> bool {
+fn write_version(rt: &impl Print, program: u8) -> io::Result<()> {
+    write_name(rt, program)?;
+    rt.write_all(b" 0.1.0\n")
+}
+
+fn write_help(rt: &impl Print, program: u8) -> io::Result<()> {
+    write_purpose(rt, program)?;
+    write_options(rt)?;
+    write_lines(rt, program)?;
+    write_end(rt, program)
+}
+
+// Each of these writes a part of the help to standard output.
+fn write_purpose(rt: &impl Print, program: u8) -> io::Result<()> {
     if program == PLAY {
-        return io::write_all(
-            STDOUT_FILENO,
+        return rt.write_all(
             b"Usage: play [--help] [--version] [--read-image IMAGE] [--write-image IMAGE]\n\
               \x20           [--] [FILE..]\n\
               \n\
@@ -30,8 +41,7 @@ fn write_purpose(program: u8) -> bool {
         );
     }
     if program == EXPLAIN {
-        return io::write_all(
-            STDOUT_FILENO,
+        return rt.write_all(
             b"Usage: explain [--help] [--version] [--read-image IMAGE] [--write-image IMAGE]\n\
               \x20              [--] [FILE..]\n\
               \n\
@@ -42,8 +52,7 @@ fn write_purpose(program: u8) -> bool {
               \n",
         );
     }
-    io::write_all(
-        STDOUT_FILENO,
+    rt.write_all(
         b"Usage: traffic [--help] [--version] [--read-image IMAGE] [--write-image IMAGE]\n\
           \x20              [--] [FILE..]\n\
           \n\
@@ -55,9 +64,8 @@ fn write_purpose(program: u8) -> bool {
     )
 }
 
-fn write_options() -> bool {
-    io::write_all(
-        STDOUT_FILENO,
+fn write_options(rt: &impl Print) -> io::Result<()> {
+    rt.write_all(
         b"\x20 --help                 print this text, and play nothing\n\
           \x20 --version              print the version, and play nothing\n\
           \x20 --read-image IMAGE     begin with the server whose image this file has, in\n\
@@ -69,13 +77,13 @@ fn write_options() -> bool {
     )
 }
 
-fn write_lines(program: u8) -> bool {
-    write_steps() && write_replies(program)
+fn write_lines(rt: &impl Print, program: u8) -> io::Result<()> {
+    write_steps(rt)?;
+    write_replies(rt, program)
 }
 
-fn write_steps() -> bool {
-    io::write_all(
-        STDOUT_FILENO,
+fn write_steps(rt: &impl Print) -> io::Result<()> {
+    rt.write_all(
         b"Steps, one to a line. C is a client, F a file, B a block, V a value:\n\
           \x20 OR C F      open for reading        OW C F      open for writing\n\
           \x20 CR C F      close for reading       CW C F      close for writing\n\
@@ -93,10 +101,9 @@ fn write_steps() -> bool {
 }
 
 // `traffic` prints none.
-fn write_replies(program: u8) -> bool {
+fn write_replies(rt: &impl Print, program: u8) -> io::Result<()> {
     if (program == PLAY) | (program == EXPLAIN) {
-        return io::write_all(
-            STDOUT_FILENO,
+        return rt.write_all(
             b"Replies, each after the number of its line:\n\
               \x20 G LATEST PREVIOUS PERMISSION         the open is granted\n\
               \x20 W C:KIND ..                          the open waits for these callbacks:\n\
@@ -109,21 +116,19 @@ fn write_replies(program: u8) -> bool {
               \n",
         );
     }
-    true
+    Ok(())
 }
 
-fn write_end(program: u8) -> bool {
+fn write_end(rt: &impl Print, program: u8) -> io::Result<()> {
     if program == PLAY {
-        return io::write_all(
-            STDOUT_FILENO,
+        return rt.write_all(
             b"Summary: `files` and a count, then for each file F STATE VERSION LAST-WRITER.\n\
               \n\
               Errors go to standard error. docs/STEPFILE.md is the manual.\n",
         );
     }
     if program == EXPLAIN {
-        return io::write_all(
-            STDOUT_FILENO,
+        return rt.write_all(
             b"A sentence calls a client a station. Picture: whether the server runs, the files\n\
               with the stations that have them open or hold blocks, and the refusals counted.\n\
               \n\
@@ -131,8 +136,7 @@ fn write_end(program: u8) -> bool {
               has the sentences.\n",
         );
     }
-    io::write_all(
-        STDOUT_FILENO,
+    rt.write_all(
         b"A station is a client. The numbers of a line, in this order:\n\
           \x20 1 opens granted                     5 calls received\n\
           \x20 2 closes done                       6 steps refused\n\

@@ -4,14 +4,15 @@ ghost use Rattle.sizes.specs.Sizes.{default_sizes};
 ghost use Rattle.service.specs.Fresh.{fresh};
 ghost use Rattle.restore.specs.Reading.{reading_of, sizes_in};
 
-use crate::errors::refuse_image;
+use crate::arguments::{argument_at, argument_buffer};
+use crate::errors::{put, refuse_image};
 use crate::files::{read_file, replace_file};
 use image::{ImageWritten, write_image};
-use libc::STDERR_FILENO;
 use protocol::Reply;
 use restore::{image_sizes, read_image};
 use service::{Outcome, Service};
 use sizes::Sizes;
+use std::rt::{Env, Files};
 use unsaved::write_unsaved;
 
 // Where a play begins.
@@ -25,13 +26,18 @@ pub struct Start {
 }
 
 // With the fresh service, or with the image in the file that the argument at this place names.
-pub fn start_of(program: u8, place: usize) -> Start {
+pub fn start_of(
+    rt: &(impl Env + Files),
+    errors: &impl Print,
+    program: u8,
+    place: usize,
+) -> Start {
     if place == 0 {
         return fresh_start(true);
     }
-    let mut name = io::buffer();
-    let length = os::arg(place, &mut name);
-    start_from(program, &name[..length])
+    let mut name = argument_buffer();
+    let length = argument_at(rt, place, &mut name);
+    start_from(rt, errors, program, &name[..length])
 }
 
 fn fresh_start(found: bool) -> Start
@@ -45,17 +51,17 @@ fn fresh_start(found: bool) -> Start
     }
 }
 
-fn start_from(program: u8, name: &[u8]) -> Start {
+fn start_from(rt: &impl Files, errors: &impl Print, program: u8, name: &[u8]) -> Start {
     let mut bytes = image_buffer();
-    let content = read_file(program, name, &mut bytes);
-    if content.failed {
+    let content = read_file(rt, errors, program, name, &mut bytes);
+    if content.failure.is_some() {
         return fresh_start(false);
     }
     let outcome = reading_of(&bytes[..content.count]);
     let reply = outcome.reply;
     let service = outcome.service;
     if let Reply::Refused(number) = reply {
-        refuse_image(program, name, number);
+        refuse_image(errors, program, name, number);
         return fresh_start(false);
     }
     Start {
@@ -73,30 +79,36 @@ pub fn reading_of(bytes: &[u8]) -> Outcome
 }
 
 // Writes the image of the server to the file that the argument at this place names.
-pub fn save(program: u8, service: Service, place: usize) {
-    let mut name = io::buffer();
-    let length = os::arg(place, &mut name);
-    save_as(program, service, &name[..length]);
+pub fn save(
+    rt: &(impl Env + Files),
+    errors: &impl Print,
+    program: u8,
+    service: Service,
+    place: usize,
+) {
+    let mut name = argument_buffer();
+    let length = argument_at(rt, place, &mut name);
+    save_as(rt, errors, program, service, &name[..length]);
 }
 
 // A refusal is told of, and leaves the file as it is. Blocks that the image does not have are told of too.
-fn save_as(program: u8, service: Service, name: &[u8]) {
+fn save_as(rt: &impl Files, errors: &impl Print, program: u8, service: Service, name: &[u8]) {
     let mut bytes = image_buffer();
     let written = write_image(service, &mut bytes);
     match written {
         ImageWritten::Length(count) => {
-            if replace_file(program, &bytes[..count], name) {
-                tell_unsaved(program, service);
+            if replace_file(rt, errors, program, &bytes[..count], name) {
+                tell_unsaved(errors, program, service);
             }
         }
-        ImageWritten::Refused(number) => refuse_image(program, name, number),
+        ImageWritten::Refused(number) => refuse_image(errors, program, name, number),
     }
 }
 
-fn tell_unsaved(program: u8, service: Service) {
+fn tell_unsaved(errors: &impl Print, program: u8, service: Service) {
     let mut lines = lines_buffer();
     let count = write_unsaved(&mut lines, 0, program, service);
-    io::write_all(STDERR_FILENO, &lines[..count]);
+    put(errors, &lines[..count]);
 }
 
 // Room for UNSAVED_ROOM bytes.

@@ -1,16 +1,17 @@
 // What every program does at a turn: one read into the input buffer, one write of what the turn left in the output.
-ghost use Rattle.std.specs.Prelude.{◌≤◌, length};
+ghost use Rattle.std.specs.Prelude.{◌+◌, ◌≤◌, length, IfOk};
 
 use input::read_after;
-use libc::STDOUT_FILENO;
 use service::Service;
+use std::io;
+use std::io::Read;
 
 // How a play ended.
 #[derive(Clone, Copy)]
 pub struct End {
-    // The input could be read, and standard output took all that was written. Where one is false, errno says why.
-    pub reads: bool,
-    pub writes: bool,
+    // Why the input could not be read, and why standard output did not take all that was written, where so.
+    pub read_failure: Option<io::Error>,
+    pub write_failure: Option<io::Error>,
     // The whole input is played, and its summary, picture or table is written.
     pub done: bool,
     pub service: Service,
@@ -22,18 +23,24 @@ pub fn input_buffer() -> [u8; 262144] {
 }
 
 // One read into the buffer after the rest; no read, and 0, if none is wanted.
-pub fn read_if(wanted: bool, fd: i32, buffer: &mut [u8], rest: usize) -> isize
+pub fn read_if(
+    wanted: bool,
+    input: &mut impl Read,
+    buffer: &mut [u8],
+    rest: usize,
+) -> io::Result<usize>
     requires { rest ≤ length buffer.old }
+    ensures { IfOk result (λ more. rest + more ≤ length buffer.new) }
 {
     if !wanted {
-        return 0;
+        return Ok(0);
     }
-    read_after(fd, buffer, rest)
+    read_after(input, buffer, rest)
 }
 
-// Writes the first bytes of out, and answers whether all were written.
-pub fn write(out: &[u8], count: usize) -> bool
+// Writes the first bytes of out to standard output.
+pub fn write(rt: &impl Print, out: &[u8], count: usize) -> io::Result<()>
     requires { count ≤ length out.now }
 {
-    io::write_all(STDOUT_FILENO, &out[..count])
+    rt.write_all(&out[..count])
 }

@@ -1,41 +1,53 @@
-// Reads from a descriptor. No contract can say what a read gives; these say how much of the buffer it may be.
-ghost use Rattle.std.specs.Prelude.{◌≤◌, length};
-ghost use Rattle.io.specs.Counts.{IsPrefixLen};
+// Reads into a lent buffer. No contract can say what a read gives; these say how much of the buffer it may be.
+ghost use Rattle.std.specs.Prelude.{◌≡◌, ◌+◌, ◌≤◌, length, take, IfOk};
+
+use std::io;
+use std::io::Read;
 
 // What was read of an input.
 #[derive(Clone, Copy)]
 pub struct Content {
     // How many bytes stand at the start of the buffer.
     pub count: usize,
-    // The input could not be read to its end.
-    pub failed: bool,
+    // Why the input could not be read to its end, where it could not.
+    pub failure: Option<io::Error>,
 }
 
 // Reads to the end of the input, or as far as the buffer goes.
-pub fn read_to_end(fd: i32, buffer: &mut [u8]) -> Content
-    ensures { IsPrefixLen result.count buffer.new }
+pub fn read_to_end(input: &mut impl Read, buffer: &mut [u8]) -> Content
+    ensures within { result.count ≤ length buffer.new }
+    ensures prefix { result.count ≡ length (take result.count buffer.new) }
 {
     let mut count: usize = 0;
     while count < buffer.len() {
-        let got = read_after(fd, buffer, count);
-        let more = io::count(got, &buffer[count..]);
-        if more == 0 {
-            return Content {
-                count,
-                failed: got < 0,
-            };
+        match read_after(input, buffer, count) {
+            Ok(more) => {
+                if more == 0 {
+                    return Content {
+                        count,
+                        failure: None,
+                    };
+                }
+                count += more;
+            }
+            Err(error) => {
+                return Content {
+                    count,
+                    failure: Some(error),
+                };
+            }
         }
-        count += more;
     }
     Content {
         count,
-        failed: false,
+        failure: None,
     }
 }
 
 // One read into the buffer after so many bytes.
-pub fn read_after(fd: i32, buffer: &mut [u8], count: usize) -> isize
+pub fn read_after(input: &mut impl Read, buffer: &mut [u8], count: usize) -> io::Result<usize>
     requires { count ≤ length buffer.old }
+    ensures { IfOk result (λ more. count + more ≤ length buffer.new) }
 {
-    libc::read(fd, &mut buffer[count..])
+    input.read(&mut buffer[count..])
 }

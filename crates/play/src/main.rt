@@ -1,6 +1,6 @@
 // Plays step files: the reply to each line, and a summary at the end.
 #![tactic(auto)]
 
-fn main() {
-    console::run(console::PLAY);
+fn main(rt: HostRuntime) {
+    console::run(&rt, &rt.stderr(), console::PLAY);
 }

@@ -1,6 +1,6 @@
 // Counts step files: no reply to a line, and a table of each station's traffic at the end.
 #![tactic(auto)]
 
-fn main() {
-    console::run(console::TRAFFIC);
+fn main(rt: HostRuntime) {
+    console::run(&rt, &rt.stderr(), console::TRAFFIC);
 }
