@@ -7,15 +7,8 @@ use Rattle.protocol.specs.declared.reply.Reply.{Reply}
 use Rattle.ledger.specs.Ledger.{entered, lines_at}
 use Rattle.sentences.specs.Scene.{scene_held, whole_held}
 use Rattle.sentences.specs.Explained.{said_of, explained_text}
-use Rattle.writer.proofs.Buffers.{wrote_as, wrote_then, wrote_if_room, no_room_wrote}
+use Rattle.writer.proofs.Buffers.{wrote_as, wrote_then, wrote_if_room}
 use Rattle.sentences.proofs.explained.explain_step.Goals as goal
-
-pub returns-then-out-lt-EXPLAINED_ROOM-clause-wrote_if_room : goal.returns-then-out-lt-EXPLAINED_ROOM-clause-wrote_if_room
-returns-then-out-lt-EXPLAINED_ROOM-clause-wrote_if_room c reply calls granted says called =
-    no_room_wrote _ _ _ _ (omega arith)
-
-pub returns-then-out-at-clause-wrote_if_room : goal.returns-then-out-at-clause-wrote_if_room
-returns-then-out-at-clause-wrote_if_room c reply calls granted says called = no_room_wrote _ _ _ _ (omega arith)
 
 pub returns-clause-wrote_if_room : goal.returns-clause-wrote_if_room
 unfolding explained_text
