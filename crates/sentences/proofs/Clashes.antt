@@ -11,7 +11,7 @@ use lib.Seq.{get_or-take}
 use borrow.Author.Tests.{ltb-true, le-ltb, lt-ltb}
 use Rattle.sizes.specs.declared.sizes.Sizes.{Sizes}
 use Rattle.sizes.specs.Sizes.{Permitted, max_clients}
-use Rattle.sizes.proofs.Choosing.{split, when, unless, and_right}
+use Rattle.sizes.proofs.Choosing.{split, when, unless}
 use Rattle.decision.proofs.Beyond.{get_d_past}
 use Rattle.decision.proofs.Finding.{first_agree, first_none, first_has}
 use Rattle.protocol.specs.declared.client.ClientFile.{ClientFile}
@@ -68,19 +68,6 @@ module _
       unless (clash_on_text z.clients p (e f) (own f) i f) [] not
       ∙ sym (unless (clash_on_text z.clients q (e' f) (own' f) i f) [] not))
       ∙ ap (λ (g : ℕ). cond (ltb g z.files) (clash_on_text z.clients q (e' g) (own' g) i g) []) file_agree
-
--- ---- a file on which it clashes
-
--- a report that does not clash alone clashes with one that was accepted
-pub with_another :
-    (n : ℕ) (p : ℕ → Bool) (e : Entry) (own : ClientFile)
-    → clashes_on n p e own ≡ true
-    → clash own no_client ≡ false
-    → clashes_with n p e own < n
-with_another n p e own clashes alone =
-    ltb-true (clashes_with n p e own) n
-    (sym (ap (λ (b : Bool). b || ltb (clashes_with n p e own) n) alone)
-    ∙ and_right (says_anything own) (clash own no_client || ltb (clashes_with n p e own) n) clashes)
 
 -- ---- in lent arrays
 

@@ -89,14 +89,6 @@ module _ (z : Sizes) (w : Whole) (x : Step) {q : Numbers} (is : q ≡ numbers_of
   same_kind : eqb q.kind 12 ≡ is_embargo x
   same_kind = ap (λ (r : Numbers). eqb r.kind 12) is
 
-  pub an_embargo :
-      (other : List ℕ)
-      → eqb q.kind 12 ≡ true
-      → embargoed_text z w q.client ≡ cond (is_embargo x) (embargoed_text z w (client_of x)) other
-  an_embargo other e =
-      ap (λ (i : ℕ). embargoed_text z w i) (client_named x is)
-      ∙ sym (when (embargoed_text z w (client_of x)) other (sym same_kind ∙ e))
-
   pub no_embargo :
       (other : List ℕ)
       → eqb q.kind 12 ≡ false
