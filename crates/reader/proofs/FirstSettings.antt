@@ -1,15 +1,15 @@
 -- What the first line of an input sets, as it is found; and a line that sets something is no step. Assumes nothing.
 use Prim.Native.Nat.{ℕ, ◌+◌, ◌-◌, ◌≤◌}
-use mathlib.Core.Path.{◌≡◌, refl, sym, ap, subst, ◌∙◌}
+use mathlib.Core.Path.{◌≡◌, refl, sym, ap, ◌∙◌}
 use mathlib.Core.Bool.{Bool, true, false, true≢false, false≢true, ◌&&◌}
-use mathlib.Core.List.{List, [], ◌∷◌, ◌++◌}
+use mathlib.Core.List.{List, [], ◌∷◌}
 use native.Mathlib.Nat.{zero-add}
 use native.Mathlib.Omega.{arith}
 use lib.Dec.{eqb}
-use lib.ListN.{length, take, drop, length-append}
+use lib.ListN.{length, take, length-append}
 use lib.Seq.{take_at}
 use borrow.Author.Tests.{eqb-true}
-use Rattle.sizes.proofs.Choosing.{when, unless, split, and_left, and_right}
+use Rattle.sizes.proofs.Choosing.{unless, split, and_left, and_right}
 use Rattle.stepfile.specs.declared.parsed.Parsed.{Parsed}
 use Rattle.stepfile.specs.declared.parsed.Parsed.TheVariants.{NoStep}
 use Rattle.stepfile.specs.declared.parsed.Read.{Read}
@@ -19,7 +19,6 @@ use Rattle.stepfile.specs.Grammar.{Reading, found, nothing, shape_of, shaped, st
 use Rattle.stepfile.specs.Input.{first_line, line_read, read_at, no_step_at}
 use Rattle.stepfile.specs.Setting.{begins_with_set, setting_of}
 use Rattle.stepfile.proofs.FirstLines.{first_line_lem}
-use Rattle.reader.specs.declared.setting.FirstSetting.{FirstSetting}
 use Rattle.reader.specs.FirstLine.{is_set, setting_in, first_setting}
 
 abbrev is_line : Read → Bool

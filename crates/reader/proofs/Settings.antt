@@ -1,34 +1,26 @@
 -- The numbers of a settings line, one after the other, as the reader finds them. Assumes nothing.
-use Prim.Native.Nat.{ℕ, ◌≤◌, ◌<◌}
+use Prim.Native.Nat.{ℕ, ◌<◌}
 use mathlib.Core.Path.{◌≡◌, sym, ◌∙◌, ap}
-use mathlib.Core.List.{List, []}
-use lib.ListN.{length, drop, drop_of_length-le}
+use mathlib.Core.List.{List}
+use lib.ListN.{length, drop}
 use Rattle.sizes.specs.declared.sizes.Sizes.{Sizes}
-use Rattle.sizes.specs.Sizes.{max_places}
-use Rattle.stepfile.specs.declared.setting.Setting.{Setting}
 use Rattle.stepfile.specs.declared.setting.Setting.TheVariants.{Missing as NoSetting}
 use Rattle.reader.specs.declared.number.Number.{Number}
-use Rattle.reader.specs.declared.number.Number.TheVariants.{Is, Missing}
-use Rattle.stepfile.specs.Grammar.{Reading, found, nothing, onward, argument}
+use Rattle.reader.specs.declared.number.Number.TheVariants.{Is}
+use Rattle.stepfile.specs.Grammar.{Reading, found, onward, argument}
 use Rattle.stepfile.specs.Setting.{store_at, sizes_at, settled}
 use Rattle.reader.specs.Offsets.{number_in}
 use Rattle.stepfile.proofs.Digits.{at_offset}
 
--- the size of the store: not given where the bytes end, else a number
+-- the size of the store: given where the bytes do not end
 module _ (s : List ℕ) (at : ℕ) where
-  pub store_stop : length s ≤ at → store_at (drop at s) ≡ found max_places (drop at s)
-  store_stop h = rw (drop_of_length-le s h)
-
   pub store_given : at < length s → store_at (drop at s) ≡ argument (drop at s)
   store_given h = rw (at_offset s at h)
 
--- a number that was looked for is there, or not
+-- a number that was looked for is there
 module _ (s : List ℕ) (looked : Reading ℕ) (r : Number) (read : looked ≡ number_in s r) where
   is_there : (value next : ℕ) → r ≡ Is value next → looked ≡ found value (drop next s)
   is_there value next e = read ∙ ap (number_in s) e
-
-  is_missing_lem : r ≡ Missing → looked ≡ nothing
-  is_missing_lem e = read ∙ ap (number_in s) e
 
 -- what follows a number, and four of them
 abbrev with_store : ℕ → ℕ → ℕ → Reading ℕ → Reading Sizes
@@ -44,32 +36,17 @@ abbrev with_clients : Reading ℕ → Reading Sizes
 with_clients r = onward r (λ n second. with_files n (argument second))
 
 module _ (s : List ℕ) (at : ℕ) (r₁ : Number) (read₁ : argument (drop at s) ≡ number_in s r₁) where
-  pub first_missing : r₁ ≡ Missing → NoSetting ≡ settled (sizes_at (drop at s))
-  first_missing e = sym (ap (λ r. settled (with_clients r)) (is_missing_lem s (argument (drop at s)) r₁ read₁ e))
-
   module _ (n second : ℕ) (is₁ : r₁ ≡ Is n second) (r₂ : Number) (read₂ : argument (drop second s) ≡ number_in s r₂) where
     past_first : sizes_at (drop at s) ≡ with_files n (argument (drop second s))
     past_first = ap with_clients (is_there s (argument (drop at s)) r₁ read₁ n second is₁)
-
-    pub second-missing : r₂ ≡ Missing → NoSetting ≡ settled (sizes_at (drop at s))
-    second-missing e =
-        sym (ap settled past_first ∙ ap (λ r. settled (with_files n r)) (is_missing_lem s (argument (drop second s)) r₂ read₂ e))
 
     module _ (f third : ℕ) (is₂ : r₂ ≡ Is f third) (r₃ : Number) (read₃ : argument (drop third s) ≡ number_in s r₃) where
       past-second : sizes_at (drop at s) ≡ with_blocks n f (argument (drop third s))
       past-second = past_first ∙ ap (with_files n) (is_there s (argument (drop second s)) r₂ read₂ f third is₂)
 
-      pub third-missing : r₃ ≡ Missing → NoSetting ≡ settled (sizes_at (drop at s))
-      third-missing e =
-          sym (ap settled past-second ∙ ap (λ r. settled (with_blocks n f r)) (is_missing_lem s (argument (drop third s)) r₃ read₃ e))
-
       module _ (b fourth : ℕ) (is₃ : r₃ ≡ Is b fourth) (r₄ : Number) (read₄ : store_at (drop fourth s) ≡ number_in s r₄) where
         past-third : sizes_at (drop at s) ≡ with_store n f b (store_at (drop fourth s))
         past-third = past-second ∙ ap (with_blocks n f) (is_there s (argument (drop third s)) r₃ read₃ b fourth is₃)
-
-        pub fourth-missing : r₄ ≡ Missing → NoSetting ≡ settled (sizes_at (drop at s))
-        fourth-missing e =
-            sym (ap settled past-third ∙ ap (λ r. settled (with_store n f b r)) (is_missing_lem s (store_at (drop fourth s)) r₄ read₄ e))
 
         module _ (m past : ℕ) (is₄ : r₄ ≡ Is m past) where
           abbrev sizes : Sizes
@@ -80,6 +57,3 @@ module _ (s : List ℕ) (at : ℕ) (r₁ : Number) (read₁ : argument (drop at 
 
           pub more-follows : past < length s → NoSetting ≡ settled (sizes_at (drop at s))
           more-follows h = sym (ap settled (all_there ∙ ap (found sizes) (at_offset s past h)))
-
-          pub none-follows : (t : Setting) → length s ≤ past → t ≡ settled (found sizes []) → t ≡ settled (sizes_at (drop at s))
-          none-follows t h is = is ∙ sym (ap settled (all_there ∙ ap (found sizes) (drop_of_length-le s h)))

@@ -37,10 +37,6 @@ module _ (s : List ℕ) (x : ℕ → Step) (r : Number) where
   pub alone_missing : r ≡ Missing → onward (number_in s r) (λ a rest. found (x a) rest) ≡ nothing
   alone_missing e = ap (λ t. onward (number_in s t) (λ a rest. found (x a) rest)) e
 
-  pub alone_there : (a next : ℕ) → r ≡ Is a next
-      → onward (number_in s r) (λ a rest. found (x a) rest) ≡ found (x a) (drop next s)
-  alone_there a next e = ap (λ t. onward (number_in s t) (λ a rest. found (x a) rest)) e
-
 -- two
 module _ (s : List ℕ) (f : ℕ → ℕ → Shape) (r : Pair) where
   pub pair_missing : r ≡ NoPair → pair_in s f r ≡ nothing
@@ -58,26 +54,11 @@ module _ (s : List ℕ) (f : ℕ → ℕ → ℕ → Shape) (r : Triple) where
   triple_there a b d next e = ap (triple_in s f) e
 
 -- what is there is not missing
-pub begun_is : (r : Begun) (x : Step) (next : ℕ) → r ≡ IsStep x next → r ≡ NoStep → ⊥
-begun_is r x next is e = let z : ◌≡◌ {A = ℕ} 0 1 = cc in omega arith
-
 pub number_is : (r : Number) (a next : ℕ) → r ≡ Is a next → r ≡ Missing → ⊥
 number_is r a next is e = let z : ◌≡◌ {A = ℕ} 0 1 = cc in omega arith
 
 pub pair_is : (r : Pair) (a b next : ℕ) → r ≡ ArePair a b next → r ≡ NoPair → ⊥
 pair_is r a b next is e = let z : ◌≡◌ {A = ℕ} 0 1 = cc in omega arith
-
--- the offset past it
-pub number_next : {a b m n : ℕ} → Is a m ≡ Is b n → m ≡ n
-number_next e = cc
-
-pub pair_next : {a b a₂ b₂ m n : ℕ} → ArePair a b m ≡ ArePair a₂ b₂ n → m ≡ n
-pair_next e = cc
-
--- a short reader of a number that answers that it is missing says nothing
-pub number_unsaid : {A : Type 0} {B : ℕ → Type 0}
-    → ((Missing ≡ Missing → ⊥) → A) × ((a next : ℕ) → Missing ≡ Is a next → B next)
-number_unsaid = (λ there. absurd (there refl), λ a next e. absurd (number_is _ _ _ e refl))
 
 -- a step is there, so the numbers that it was made of are
 begun_missing : (s : List ℕ) (r : Begun) → begun_in s r ≡ nothing → r ≡ NoStep

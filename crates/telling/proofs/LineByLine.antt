@@ -15,7 +15,7 @@ use Rattle.stepfile.specs.Input.{first_line, line_read, read_at, whole_lines}
 use Rattle.stepfile.specs.Transcript.{lines, transcript}
 use Rattle.sizes.proofs.Choosing.{and_left, and_right}
 use Rattle.stepfile.proofs.FirstLines.{whole_none}
-use Rattle.writer.specs.Buffer.{written, Wrote, WroteIfRoom}
+use Rattle.writer.specs.Buffer.{written, WroteIfRoom}
 use Rattle.writer.proofs.Buffers.{length_written, wrote_none, wrote_then, wrote_as, if_room_wrote}
 use Rattle.telling.specs.Lines.{Telling, Reach, Tells, last_number, is_number, can_tell, said_over, stopped_at, reach_of, reach}
 use Rattle.telling.specs.Reached.{At, Reached}

@@ -14,7 +14,6 @@ use Rattle.stepfile.specs.Transcript.{lines}
 use Rattle.sizes.proofs.Choosing.{when, unless, split}
 use Rattle.stepfile.proofs.Splitting.{NoLF}
 use Rattle.stepfile.proofs.Transcripts.{after_on, transcript_on}
-use Rattle.writer.specs.Buffer.{written}
 use Rattle.writer.proofs.Buffers.{length_written}
 use Rattle.stepfile.proofs.LongLines.{Blind}
 use Rattle.telling.specs.Lines.{Telling, Reach, can_tell, said_over, state_after, reach, out_told}

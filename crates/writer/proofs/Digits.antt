@@ -1,7 +1,7 @@
 -- The digits of a number in groups: its decimal text is that of its front, then its last two, four or eight digits. Assumes
 -- nothing.
-use Prim.Native.Nat.{ℕ, ◌+◌, ◌-◌, ◌*◌, ◌/◌, ◌%◌, ◌≤◌, ◌<◌}
-use mathlib.Core.Path.{◌≡◌, refl, sym, ◌∙◌, ap, subst}
+use Prim.Native.Nat.{ℕ, ◌+◌, ◌*◌, ◌/◌, ◌%◌, ◌≤◌, ◌<◌}
+use mathlib.Core.Path.{◌≡◌, sym, ◌∙◌, ap, subst}
 use mathlib.Core.Bool.{cond}
 use mathlib.Core.List.{List, [], ◌∷◌, ◌++◌, append_assoc}
 use native.Mathlib.Omega.{arith}
@@ -97,40 +97,6 @@ leading_digits n low high =
     let under : n ≤ 99 = ltb-false 99 n two in
     let all : n % 100 ≡ n = omega arith in
     unless _ _ two ∙ ap two_text all ∙ two_digits n low (omega arith)))
-
--- the two pairs of four digits in one number, and the tens of both by one multiplication
-pub pairs_are : (n : ℕ) → n * 65536 - n / 100 * 6553599 ≡ n / 100 + 65536 * (n % 100)
-pairs_are n = omega arith
-
-tenth : (a : ℕ) → a < 100 → a * 103 / 1024 ≡ a / 10
-tenth a h = omega arith
-
-module _ (a b t : ℕ) (ha : a < 100) (hb : b < 100) (is : t ≡ (a + 65536 * b) * 103 / 1024) where
-  tenths : t ≡ a / 10 + 6592 * b
-  tenths =
-      let apart : (a + 65536 * b) * 103 / 1024 ≡ a * 103 / 1024 + 6592 * b = omega arith in
-      is ∙ apart ∙ ap (λ k. k + 6592 * b) (tenth a ha)
-
-  first_tens : t % 16 ≡ a / 10
-  first_tens = omega (arith, tenths)
-
-  second_tens : t / 65536 % 16 ≡ b / 10
-  second_tens =
-      let small : a / 10 < 10 = omega arith in
-      let high : t / 65536 ≡ b * 103 / 1024 = omega (arith, tenths, small) in
-      let below : b / 10 % 16 ≡ b / 10 = omega arith in
-      ap (λ k. k % 16) (high ∙ tenth b hb) ∙ below
-
-  pub tens_are : t % 16 + t / 65536 % 16 * 65536 ≡ a / 10 + 65536 * (b / 10)
-  tens_are = omega (arith, first_tens, second_tens)
-
--- the bytes of both: p is the pairs, and q their tens
-module _ (a b p q : ℕ) (ha : a < 100) (hb : b < 100) (pairs : p ≡ a + 65536 * b) (tens : q ≡ a / 10 + 65536 * (b / 10)) where
-  pub bytes_are : p * 256 - q * 2559 + 808464432 ≡ 48 + a / 10 + 256 * (48 + a % 10) + 65536 * (48 + b / 10 + 256 * (48 + b % 10))
-  bytes_are = omega (arith, pairs, tens)
-
-  pub bytes_fit : q * 2559 ≤ p * 256
-  bytes_fit = omega (arith, pairs, tens)
 
 -- four bytes in one number
 module _ (a b c d t : ℕ) (ha : a < 10) (hb : b < 10) (hc : c < 10) (hd : d < 10) (is : t ≡ 48 + a + 256 * (48 + b) + 65536 * (48 + c + 256 * (48 + d))) where

@@ -1,7 +1,6 @@
 -- The texts of what is said: word after word, and the line of the reply that is said. Assumes nothing.
-use Prim.Native.Nat.{ℕ, suc, ◌+◌, ◌<◌}
+use Prim.Native.Nat.{ℕ, ◌+◌, ◌<◌}
 use mathlib.Core.Path.{◌≡◌, refl, sym, ◌∙◌, ap}
-use mathlib.Core.Bool.{Bool, true, false, cond}
 use mathlib.Core.List.{List, [], ◌∷◌, ◌++◌, append_assoc, append-nil}
 use native.Mathlib.Numerals.{add-one}
 use lib.ListN.{length, take, get_or}
@@ -11,11 +10,10 @@ use Rattle.sizes.specs.Sizes.{max_clients}
 use Rattle.decision.specs.Callback.{ordered_calls}
 use Rattle.protocol.specs.declared.reply.Granting.{Granting}
 use Rattle.protocol.specs.declared.reply.Reply.{Reply}
-use Rattle.protocol.specs.Reply.{letter_of, values_of}
+use Rattle.protocol.specs.Reply.{letter_of}
 use Rattle.stepfile.specs.Text.{decimal, argument_text, values_text}
 use Rattle.stepfile.specs.Line.{calls_text, fields_text, reply_text, line_text}
-use Rattle.words.specs.Words.{calls_held}
-use Rattle.words.specs.Said.{calls?, letter_said, words_said, Says}
+use Rattle.words.specs.Said.{calls?, letter_said, Says}
 use Rattle.writer.specs.Said.{fields_said, said_text}
 
 values_append : (a b : List ℕ) → values_text (a ++ b) ≡ values_text a ++ values_text b

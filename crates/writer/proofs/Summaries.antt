@@ -1,24 +1,14 @@
 -- The texts of the summary, as the writer puts them together. Assumes nothing.
 use Prim.Native.Nat.{ℕ, ◌+◌}
 use mathlib.Core.Path.{◌≡◌, sym, ◌∙◌, ap}
-use mathlib.Core.Bool.{Bool, true, false, not}
+use mathlib.Core.Bool.{Bool, true, false}
 use mathlib.Core.List.{List, [], ◌++◌}
 use native.Mathlib.Numerals.{add-one}
 use lib.ListN.{get_or}
-use borrow.Author.Tests.{eq-eqb, ne_eqb}
 use Rattle.protocol.specs.declared.entry.Entry.{Entry}
-use Rattle.records.specs.Version.{as_read, is_first_version}
 use Rattle.table.specs.TableStep.{no_entry}
 use Rattle.stepfile.specs.Summary.{code_in, version_in, is_listed, fields_text, file_text, files_text}
 use Rattle.sizes.proofs.Choosing.{when, unless}
-
--- k is the state code of a file, and n the number of clients
-module _ (n : ℕ) (e : Entry) (k : ℕ) (code : k ≡ code_in n e) where
-  pub listed_state : (k ≡ 0 → ⊥) → true ≡ is_listed n e
-  listed_state h = rw (ne_eqb (code_in n e) 0 (λ q. h (code ∙ q)))
-
-  pub listed_version : k ≡ 0 → not (is_first_version (as_read e.version)) ≡ is_listed n e
-  listed_version z = rw (eq-eqb (code_in n e) 0 (sym code ∙ z))
 
 -- one file more
 pub files_next :

@@ -1,5 +1,5 @@
 -- `two_digits_at` meets its contract: a space, and one or two digits with no digit after them. Assumes nothing.
-use mathlib.Core.Path.{◌≡◌, sym, ◌∙◌, ap}
+use mathlib.Core.Path.{sym, ◌∙◌, ap}
 use mathlib.Core.Bool.{cond}
 use native.Mathlib.Omega.{arith}
 use Rattle.reader.proofs.Numbers.{argument_short}

@@ -1,10 +1,9 @@
 -- `read_first_setting` meets its contract: the first line is read up to its LF. Assumes nothing.
-use Prim.Native.Nat.{ℕ, ◌-◌}
+use Prim.Native.Nat.{◌-◌}
 use mathlib.Core.Path.{sym, ap, ◌∙◌}
 use native.Mathlib.Omega.{arith}
 use lib.Seq.{length-take-le}
 use Rattle.stepfile.specs.declared.setting.Setting.{Setting}
-use Rattle.reader.specs.declared.setting.FirstSetting.{FirstSetting}
 use Rattle.reader.proofs.FirstSettings.{first_found}
 use Rattle.reader.proofs.setting.read_first_setting.Goals as goal
 
