@@ -7,7 +7,6 @@ ghost use Rattle.std.specs.Prelude.{◌≤◌};
 ghost use Rattle.batch.specs.Batch.{max_openings};
 
 use batch::{MAX_OPENINGS, OpenReply, open_batch};
-use libc::STDOUT_FILENO;
 use protocol::{Reply, Step};
 use records::Mode;
 use service::Service;
@@ -15,7 +14,7 @@ use sizes::{MAX_CLIENTS, Sizes};
 use words::{SAID, say};
 use writer::{LINE_ROOM, write_said};
 
-fn main() {
+fn main(rt: HostRuntime) {
     let fresh = Service::new(Sizes::default());
     let opened = fresh.step(Step::Open {
         mode: Mode::Write,
@@ -24,47 +23,47 @@ fn main() {
     });
     let busy = opened.service;
 
-    io::write_all(STDOUT_FILENO, b"closing run\n");
+    let _ = rt.write_all(b"closing run\n");
     let files: [usize; 5] = [1, 3, 32, 3, 1];
     let writes = [false, true, false, false, true];
     let run = open_batch(busy, 5, &files, &writes);
     let run_reply = run.reply;
     let run_replies = run.replies;
-    print(run_reply, run.count, run_replies);
+    print(&rt, run_reply, run.count, run_replies);
 
-    io::write_all(STDOUT_FILENO, b"list of 17\n");
+    let _ = rt.write_all(b"list of 17\n");
     let many: [usize; 17] = [0; 17];
     let long = open_batch(busy, 5, &many, &writes);
     let long_reply = long.reply;
     let long_replies = long.replies;
-    print(long_reply, long.count, long_replies);
+    print(&rt, long_reply, long.count, long_replies);
 
-    io::write_all(STDOUT_FILENO, b"empty list\n");
+    let _ = rt.write_all(b"empty list\n");
     let empty = open_batch(busy, 5, &many[..0], &writes);
     let empty_reply = empty.reply;
     let empty_replies = empty.replies;
-    print(empty_reply, empty.count, empty_replies);
+    print(&rt, empty_reply, empty.count, empty_replies);
 }
 
 // The lines of a batch.
-fn print(reply: Reply, count: usize, replies: [OpenReply; MAX_OPENINGS])
+fn print(rt: &impl Print, reply: Reply, count: usize, replies: [OpenReply; MAX_OPENINGS])
     requires { count ≤ max_openings }
 {
-    print_line(0, reply, [0; MAX_CLIENTS]);
+    print_line(rt, 0, reply, [0; MAX_CLIENTS]);
     let mut k: usize = 0;
     while k < count {
         let told = replies[k];
         let told_reply = told.reply;
         let told_calls = told.calls;
         k += 1;
-        print_line(k as u64, told_reply, told_calls);
+        print_line(rt, k as u64, told_reply, told_calls);
     }
 }
 
-fn print_line(number: u64, reply: Reply, calls: [u8; MAX_CLIENTS]) {
+fn print_line(rt: &impl Print, number: u64, reply: Reply, calls: [u8; MAX_CLIENTS]) {
     let mut words = [0u64; SAID];
     let mut out = [0u8; LINE_ROOM];
     let said = say(reply, calls, &mut words);
     let end = write_said(&mut out, 0, number, said, &words);
-    io::write_all(STDOUT_FILENO, &out[0..end]);
+    let _ = rt.write_all(&out[0..end]);
 }

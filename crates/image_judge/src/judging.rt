@@ -3,7 +3,6 @@ ghost use Rattle.std.specs.Prelude.{◌≤◌};
 
 use decision::{FileState, state_of};
 use image::{ImageWritten, write_image};
-use libc::STDOUT_FILENO;
 use protocol::{Reply, Step};
 use records::Mode;
 use restore::read_image;
@@ -54,14 +53,14 @@ fn with_write(service: Service, file: usize, value: u64) -> Service {
 }
 
 // Takes the steps before the reading, reads the string as an image, recovers, and tells what came of it.
-pub fn judged(service: Service, before: u8, bytes: &[u8]) -> Service {
+pub fn judged(rt: &impl Print, service: Service, before: u8, bytes: &[u8]) -> Service {
     let outcome = read_image(before_reading(service, before), bytes);
     let reply = outcome.reply;
     let read = outcome.service;
     let verdict = verdict_of(reply);
     let open = count_open(read);
     let recovered = recovered(read);
-    tell(verdict, open, recovered);
+    tell(rt, verdict, open, recovered);
     recovered
 }
 
@@ -137,7 +136,7 @@ fn free_places(service: Service) -> usize {
 
 // The verdict, the number of files that are not CLOSED, the free places, and the image with its length; or two zeros and
 // the refusal.
-fn tell(verdict: u8, open: u8, service: Service) {
+fn tell(rt: &impl Print, verdict: u8, open: u8, service: Service) {
     let free = free_places(service);
     let mut bytes = image_buffer();
     let written = write_image(service, &mut bytes);
@@ -151,8 +150,8 @@ fn tell(verdict: u8, open: u8, service: Service) {
                 (count % 256) as u8,
                 (count / 256 % 256) as u8,
             ];
-            io::write_all(STDOUT_FILENO, &head);
-            io::write_all(STDOUT_FILENO, &bytes[..within(count)]);
+            let _ = rt.write_all(&head);
+            let _ = rt.write_all(&bytes[..within(count)]);
         }
         ImageWritten::Refused(number) => {
             let head = [
@@ -164,7 +163,7 @@ fn tell(verdict: u8, open: u8, service: Service) {
                 0,
                 number,
             ];
-            io::write_all(STDOUT_FILENO, &head);
+            let _ = rt.write_all(&head);
         }
     }
 }

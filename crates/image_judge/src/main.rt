@@ -8,7 +8,6 @@ mod judging;
 
 use input::read_to_end;
 use judging::{judged, prepared};
-use libc::{STDIN_FILENO, STDOUT_FILENO};
 use service::Service;
 use sizes::Sizes;
 
@@ -16,11 +15,11 @@ use sizes::Sizes;
 // length.
 const HEAD: usize = 8;
 
-fn main() {
+fn main(rt: HostRuntime) {
     let mut input = input_buffer();
-    let content = read_to_end(STDIN_FILENO, &mut input);
-    judge_all(&input[..content.count]);
-    io::write_all(STDOUT_FILENO, b"\n");
+    let content = read_to_end(&mut rt.stdin(), &mut input);
+    judge_all(&rt, &input[..content.count]);
+    let _ = rt.write_all(b"\n");
 }
 
 // The most that is sent in one run.
@@ -29,7 +28,7 @@ fn input_buffer() -> [u8; 65536] {
 }
 
 // One string after the other, by one service as long as the sizes stay.
-fn judge_all(input: &[u8]) {
+fn judge_all(rt: &impl Print, input: &[u8]) {
     let mut sizes = Sizes {
         clients: 0,
         files: 0,
@@ -51,7 +50,7 @@ fn judge_all(input: &[u8]) {
             sizes = given;
         }
         let end = start + count;
-        service = judged(service, before, &input[start..end]);
+        service = judged(rt, service, before, &input[start..end]);
         at = end;
     }
 }
