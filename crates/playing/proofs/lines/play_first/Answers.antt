@@ -1,12 +1,11 @@
 -- `play_first` meets its contract: a first line that chooses the sizes is played by what it sets, and no other is. Assumes
 -- nothing.
 use Prim.Native.Nat.{ℕ}
-use mathlib.Core.Path.{◌≡◌, refl}
-use mathlib.Core.Bool.{Bool, true}
+use mathlib.Core.Path.{refl, ap}
+use mathlib.Core.Bool.{not}
 use mathlib.Core.List.{List}
 use native.Mathlib.Omega.{arith}
 use lib.ListN.{length}
-use borrow.Author.Tests.{not-true, not-false}
 use Rattle.blocks.specs.Stores.{lent}
 use Rattle.service.specs.declared.service.Service.{Service}
 use Rattle.service.specs.Lent.{service_held}
@@ -31,7 +30,7 @@ returns-then-not-chooses-can_tell c =
       chosen =
           left_alone a.settable a.first a.input.now c.read_first_setting-line.result c.read_first_setting-line.ensures
           c.is_set.result c.can_tell.result c.is_set.ensures line_room (length a.out.now) c.can_tell.ensures
-          (not-true _ c.if-not-chooses-can_tell.true);
+          (ap not c.if-not-chooses-can_tell.true);
       long = record { rows = refl; reports = refl };
     }
 
@@ -44,7 +43,7 @@ returns c =
     let line = read.result in
     let set = c.is_set in
     let asked = c.can_tell in
-    let left = not-false _ c.if-not-chooses-can_tell.false in
+    let left = ap not c.if-not-chooses-can_tell.false in
     let can = can-be-told a.settable a.first a.input.now line read.ensures set.result asked.result set.ensures line_room room asked.ensures left in
     let outcome =
     set_outcome_lem a.settable came a.first (line_bytes a.input.now 0 line.next) line.setting

@@ -58,19 +58,19 @@ pub returns-in-Are-clause-wrote_if_room : goal.returns-in-Are-clause-wrote_if_ro
 returns-in-Are-clause-wrote_if_room c =
     let wrote = c.write_said in
     λ s.
-        subst (Writes c.args.out.now c.args.number s wrote.new.out wrote.result) (sym c.in-Are.is)
-        (wrote.ensures.wrote_if_room Done no_calls no_grants (says-done _))
+    subst (Writes c.args.out.now c.args.number s wrote.new.out wrote.result) (sym c.in-Are.is)
+    (wrote.ensures.wrote_if_room Done no_calls no_grants (says-done _))
 
 pub returns-in-OutOfRange-clause-wrote_if_room : goal.returns-in-OutOfRange-clause-wrote_if_room
 returns-in-OutOfRange-clause-wrote_if_room c =
     let wrote = c.write_said-in-OutOfRange in
     λ s.
-        subst (Writes c.args.out.now c.args.number s wrote.new.out wrote.result) (sym c.in-OutOfRange.is)
-        (wrote.ensures.wrote_if_room (Refused 19) no_calls no_grants says-19)
+    subst (Writes c.args.out.now c.args.number s wrote.new.out wrote.result) (sym c.in-OutOfRange.is)
+    (wrote.ensures.wrote_if_room (Refused 19) no_calls no_grants says-19)
 
 pub returns-in-Missing-clause-wrote_if_room : goal.returns-in-Missing-clause-wrote_if_room
 returns-in-Missing-clause-wrote_if_room c =
     let wrote = c.write_said-in-Missing in
     λ s.
-        subst (Writes c.args.out.now c.args.number s wrote.new.out wrote.result) (sym c.in-Missing.is)
-        (wrote.ensures.wrote_if_room (Refused 1) no_calls no_grants says-1)
+    subst (Writes c.args.out.now c.args.number s wrote.new.out wrote.result) (sym c.in-Missing.is)
+    (wrote.ensures.wrote_if_room (Refused 1) no_calls no_grants says-1)
