@@ -18,16 +18,16 @@ pub returns-then-not-chooses-can_tell : goal.returns-then-not-chooses-can_tell
 returns-then-not-chooses-can_tell c =
     let a = c.args in
     λ l.
-        let came =
-        state_held a.sizes a.table.now a.flags.now (lent a.blocks.now a.copies.now a.held.now a.dirty.now) l a.refusals.now in
-        record {
-          reached = none_yet (explaining a.fresh) came a.first a.input.now a.out.now;
-          chosen =
-              left_alone a.fresh a.first a.input.now c.read_first_setting-line.result c.read_first_setting-line.ensures
-              c.is_set.result c.can_tell.result c.is_set.ensures explained_room (length a.out.now) c.can_tell.ensures
-              (ap not c.if-not-chooses-can_tell.true);
-          long = record { rows = refl; reports = refl };
-        }
+    let came =
+    state_held a.sizes a.table.now a.flags.now (lent a.blocks.now a.copies.now a.held.now a.dirty.now) l a.refusals.now in
+    record {
+      reached = none_yet (explaining a.fresh) came a.first a.input.now a.out.now;
+      chosen =
+          left_alone a.fresh a.first a.input.now c.read_first_setting-line.result c.read_first_setting-line.ensures
+          c.is_set.result c.can_tell.result c.is_set.ensures explained_room (length a.out.now) c.can_tell.ensures
+          (ap not c.if-not-chooses-can_tell.true);
+      long = record { rows = refl; reports = refl };
+    }
 
 pub returns : goal.returns
 returns c =
@@ -44,16 +44,16 @@ returns c =
     first-sets a.fresh a.first a.input.now line read.ensures set.result asked.result set.ensures explained_room room asked.ensures left
     ∙ sym (when _ _ (is-first a.fresh a.first a.input.now line read.ensures set.result asked.result set.ensures explained_room room asked.ensures left)) in
     λ l.
-        let came =
-        state_held a.sizes a.table.now a.flags.now (lent a.blocks.now a.copies.now a.held.now a.dirty.now) l a.refusals.now in
-        record {
-          reached =
-              line_told a.fresh came a.first a.input.now a.out.now came a.first 0 0 a.out.now NoStep line.next _
-              c.tell_setting-set.result.to _
-              (none_yet (explaining a.fresh) came a.first a.input.now a.out.now)
-              (first_read a.fresh a.first a.input.now line read.ensures set.result asked.result set.ensures explained_room room asked.ensures left)
-              can
-              (c.tell_setting-set.ensures.tells_line a.fresh l (line_bytes a.input.now 0 line.next) is);
-          chosen = none_later a.fresh a.first _ _ (from_1 explained_room room 0 a.first can);
-          long = c.tell_setting-set.ensures.long;
-        }
+    let came =
+    state_held a.sizes a.table.now a.flags.now (lent a.blocks.now a.copies.now a.held.now a.dirty.now) l a.refusals.now in
+    record {
+      reached =
+          line_told a.fresh came a.first a.input.now a.out.now came a.first 0 0 a.out.now NoStep line.next _
+          c.tell_setting-set.result.to _
+          (none_yet (explaining a.fresh) came a.first a.input.now a.out.now)
+          (first_read a.fresh a.first a.input.now line read.ensures set.result asked.result set.ensures explained_room room asked.ensures left)
+          can
+          (c.tell_setting-set.ensures.tells_line a.fresh l (line_bytes a.input.now 0 line.next) is);
+      chosen = none_later a.fresh a.first _ _ (from_1 explained_room room 0 a.first can);
+      long = c.tell_setting-set.ensures.long;
+    }

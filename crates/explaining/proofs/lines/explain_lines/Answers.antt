@@ -4,7 +4,6 @@ use Prim.Native.Nat.{ℕ}
 use mathlib.Core.Path.{refl, sym, subst, ◌∙◌}
 use mathlib.Core.Bool.{Bool}
 use mathlib.Core.List.{List}
-use native.Mathlib.Omega.{arith}
 use lib.ListN.{length}
 use borrow.Author.Rules.{rules}
 use Rattle.blocks.specs.Stores.{lent}
@@ -27,17 +26,19 @@ longer :
 longer v w = record { rows = w.rows ∙ v.rows; reports = w.reports ∙ v.reports }
 
 pub loop-force-init : goal.loop-force-init
-loop-force-init c = (
-  λ s n out w. w,
-  ((c.explain_first-begun.ensures _).chosen, (record { rows = refl; reports = refl }, (search rules, search rules))),
-)
+loop-force-init c =
+    let a = c.args in
+    let first = c.explain_first-begun.ensures (entered a.written.now a.writers.now a.copied.now a.since.now) in (
+      λ s n out w. w,
+      (first.chosen, (record { rows = refl; reports = refl }, (search rules, search rules))),
+    )
 
 -- ---- a line that gives no step
 
 pub loop-force-smaller-in_default-parsed : goal.loop-force-smaller-in_default-parsed
 loop-force-smaller-in_default-parsed c =
     let l = c.loop-force in
-    let reached = l.invariant.0 _ _ _ (c.explain_first-begun.ensures _).reached in
+    let reached = l.invariant.0 _ _ _ (c.explain_first-begun.ensures (entered c.args.written.now c.args.writers.now c.args.copied.now c.args.since.now)).reached in
     fewer c.args.input.now l.used _ _
     (read_line c.args.input.now l.used c.in-Line.parsed c.in-Line.next reached.at.inside (sym c.in-Line.ensures))
 
@@ -49,7 +50,7 @@ loop-force-preserved-in_default-parsed c =
     let stands =
     state_held c.explain_first-begun.result.sizes l.table l.flags (lent l.blocks l.copies l.held l.dirty) ledger l.refusals in
     let line = c.in-Line in
-    let reached = l.invariant.0 _ _ _ (c.explain_first-begun.ensures _).reached in
+    let reached = l.invariant.0 _ _ _ (c.explain_first-begun.ensures (entered c.args.written.now c.args.writers.now c.args.copied.now c.args.since.now)).reached in
     let is_read = sym line.ensures in
     let can = sym c.can_tell.ensures ∙ c.loop-force-test.true in
     let text = line_bytes a.input.now l.used line.next in
@@ -57,11 +58,14 @@ loop-force-preserved-in_default-parsed c =
     not_chosen a.fresh l.number a.input.now l.used line.parsed line.next _
     (read_line a.input.now l.used line.parsed line.next reached.at.inside is_read) l.invariant.1.0 can in
     let told = c.tell_no_step-to in
-    let tells = told.ensures.tells_line a.fresh _ ledger text (sets_nothing a.fresh l.number text plain) in (
+    let tells = told.ensures.tells_line a.fresh _ ledger text (sets_nothing a.fresh l.number text plain) in
+    let after =
+    state_held c.explain_first-begun.result.sizes l.table l.flags (lent l.blocks l.copies l.held l.dirty) ledger
+    told.new.refusals in (
       λ s n out w.
-          line_told a.fresh s n a.input.now out stands l.number l.used l.to l.out line.parsed line.next _ told.result _
+          line_told a.fresh s n a.input.now out stands l.number l.used l.to l.out line.parsed line.next after told.result told.new.out
           (l.invariant.0 s n out w) is_read can
-          (subst (λ (k : Parsed). TellsLine a.fresh stands l.number text k l.out l.to _ _ told.result)
+          (subst (λ (k : Parsed). TellsLine a.fresh stands l.number text k l.out l.to after told.new.out told.result)
           (sym c.in_default-parsed.is) tells),
       (
         none_later a.fresh l.number _ _ (from_1 explained_room (length l.out) l.to l.number can),
@@ -74,7 +78,7 @@ loop-force-preserved-in_default-parsed c =
 pub loop-force-smaller : goal.loop-force-smaller
 loop-force-smaller c =
     let l = c.loop-force in
-    let reached = l.invariant.0 _ _ _ (c.explain_first-begun.ensures _).reached in
+    let reached = l.invariant.0 _ _ _ (c.explain_first-begun.ensures (entered c.args.written.now c.args.writers.now c.args.copied.now c.args.since.now)).reached in
     fewer c.args.input.now l.used _ _
     (read_line c.args.input.now l.used c.in-Line.parsed c.in-Line.next reached.at.inside (sym c.in-Line.ensures))
 
@@ -87,7 +91,7 @@ loop-force-preserved c =
     let stands = state_held given l.table l.flags (lent l.blocks l.copies l.held l.dirty) ledger l.refusals in
     let first = c.explain_first-begun.ensures ledger in
     let line = c.in-Line in
-    let reached = l.invariant.0 _ _ _ (c.explain_first-begun.ensures _).reached in
+    let reached = l.invariant.0 _ _ _ (c.explain_first-begun.ensures (entered c.args.written.now c.args.writers.now c.args.copied.now c.args.since.now)).reached in
     let is_read = sym line.ensures in
     let can = sym c.can_tell.ensures ∙ c.loop-force-test.true in
     let text = line_bytes a.input.now l.used line.next in
@@ -100,11 +104,16 @@ loop-force-preserved c =
     (l.invariant.1.1.0.rows ∙ first.long.rows ∙ c.requires.table_len)
     ledger _ _ l.invariant.1.1.1.1 c.keep_before.ensures seen.result seen.ensures.caching_value seen.ensures.told_value
     seen.ensures.holds_value l.refusals l.out l.to _ _ _ told.result told.ensures.wrote_if_room told.ensures.upper_bound
-    told.ensures.since_after told.ensures.refusals_after text in (
+    told.ensures.since_after told.ensures.refusals_after text in
+    let taken = c.take_step-said.new in
+    let after =
+    state_held given taken.table taken.flags (lent taken.blocks taken.copies taken.held taken.dirty)
+    (entered told.new.written told.new.writers told.new.copied told.new.since) told.new.refusals in (
       λ s n out w.
-          line_told a.fresh s n a.input.now out stands l.number l.used l.to l.out line.parsed line.next _ told.result _
+          line_told a.fresh s n a.input.now out stands l.number l.used l.to l.out line.parsed line.next after told.result told.new.out
           (l.invariant.0 s n out w) is_read can
-          (subst (λ (k : Parsed). TellsLine a.fresh stands l.number text k l.out l.to _ _ told.result) (sym c.in-Is.is) tells),
+          (subst (λ (k : Parsed). TellsLine a.fresh stands l.number text k l.out l.to after told.new.out told.result)
+          (sym c.in-Is.is) tells),
       (
         none_later a.fresh l.number _ _ (from_1 explained_room (length l.out) l.to l.number can),
         (

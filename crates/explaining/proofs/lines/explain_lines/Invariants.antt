@@ -1,5 +1,5 @@
 -- The lines before this one are told, no line that can be told chooses the sizes, and the arrays have their lengths.
-use Prim.Native.Nat.{ℕ, ◌-◌}
+use Prim.Native.Nat.{◌-◌}
 use mathlib.Core.Path.{◌≡◌}
 use mathlib.Core.Bool.{false, ◌&&◌}
 use lib.ListN.{length, drop}
