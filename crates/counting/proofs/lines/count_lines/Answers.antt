@@ -1,10 +1,9 @@
 -- `count_lines` meets its contract: what the setting and each step comes to is in the arrays, its records are lent, and
 -- `line_counted` carries it from line to line. Assumes nothing.
 use Prim.Native.Nat.{ℕ}
-use mathlib.Core.Path.{refl, sym, ap, ◌∙◌}
+use mathlib.Core.Path.{sym, ap, ◌∙◌}
 use mathlib.Core.Bool.{Bool}
 use mathlib.Core.List.{List, []}
-use native.Mathlib.Omega.{arith}
 use Rattle.sizes.specs.declared.sizes.Sizes.{Sizes}
 use Rattle.blocks.specs.Stores.{lent}
 use Rattle.service.specs.Lent.{outcome_asked}
