@@ -1,21 +1,16 @@
 -- `play_first` meets its contract: a first line that chooses the sizes is played by what it sets, and no other is. Assumes
 -- nothing.
-use Prim.Native.Nat.{ℕ}
 use mathlib.Core.Path.{refl, ap}
 use mathlib.Core.Bool.{not}
-use mathlib.Core.List.{List}
 use native.Mathlib.Omega.{arith}
 use lib.ListN.{length}
 use Rattle.blocks.specs.Stores.{lent}
-use Rattle.service.specs.declared.service.Service.{Service}
 use Rattle.service.specs.Lent.{service_held}
 use Rattle.stepfile.specs.declared.parsed.Parsed.TheVariants.{NoStep}
 use Rattle.stepfile.specs.Played.{set_outcome}
-use Rattle.reader.specs.declared.setting.FirstSetting.{FirstSetting}
 use Rattle.writer.specs.Buffer.{line_room}
-use Rattle.telling.specs.Lines.{can_tell}
 use Rattle.telling.proofs.Reaching.{line_bytes}
-use Rattle.telling.proofs.LineByLine.{from_1, has_number, none_yet}
+use Rattle.telling.proofs.LineByLine.{from_1, none_yet}
 use Rattle.playing.specs.Lines.{playing}
 use Rattle.playing.proofs.FirstLines.{none_later, left_alone, can-be-told, is-first, first_read, first-sets}
 use Rattle.playing.proofs.Playing.{set_outcome_lem, line_played}

@@ -1,10 +1,9 @@
 -- `play_lines` meets its contract: what the setting and each step comes to is in the arrays and the words, and
 -- `line_played` carries it from line to line. Assumes nothing.
 use Prim.Native.Nat.{ℕ}
-use mathlib.Core.Path.{refl, sym, ◌∙◌}
+use mathlib.Core.Path.{sym, ◌∙◌}
 use mathlib.Core.Bool.{Bool}
 use mathlib.Core.List.{List}
-use native.Mathlib.Omega.{arith}
 use lib.ListN.{length}
 use Rattle.blocks.specs.Stores.{lent}
 use Rattle.service.specs.Lent.{service_held, outcome_asked}
