@@ -2,6 +2,7 @@
 use crate::errors::{fail_output, write_name};
 use options::{EXPLAIN, PLAY};
 use std::io;
+use std::io::{Cursor, Write};
 
 pub fn print_version(rt: &impl Print, errors: &impl Print, program: u8) {
     if let Err(error) = write_version(rt, program) {
@@ -20,17 +21,26 @@ fn write_version(rt: &impl Print, program: u8) -> io::Result<()> {
     rt.write_all(b" 0.1.0\n")
 }
 
+// In one write: where the reader takes the first line and goes, no later write can fail.
 fn write_help(rt: &impl Print, program: u8) -> io::Result<()> {
-    write_purpose(rt, program)?;
-    write_options(rt)?;
-    write_lines(rt, program)?;
-    write_end(rt, program)
+    let mut text = Cursor::new([0u8; 8192]);
+    put_help(&mut text, program)?;
+    let bytes: &[u8] = text.get_ref();
+    let end = bytes.len().min(text.position() as usize);
+    rt.write_all(&bytes[..end])
 }
 
-// Each of these writes a part of the help to standard output.
-fn write_purpose(rt: &impl Print, program: u8) -> io::Result<()> {
+// Each of these puts a part of the help into the text, which has room for the whole.
+fn put_help(text: &mut impl Write, program: u8) -> io::Result<()> {
+    put_purpose(text, program)?;
+    put_options(text)?;
+    put_lines(text, program)?;
+    put_end(text, program)
+}
+
+fn put_purpose(text: &mut impl Write, program: u8) -> io::Result<()> {
     if program == PLAY {
-        return rt.write_all(
+        return text.write_all(
             b"Usage: play [--help] [--version] [--read-image IMAGE] [--write-image IMAGE]\n\
               \x20           [--] [FILE..]\n\
               \n\
@@ -41,7 +51,7 @@ fn write_purpose(rt: &impl Print, program: u8) -> io::Result<()> {
         );
     }
     if program == EXPLAIN {
-        return rt.write_all(
+        return text.write_all(
             b"Usage: explain [--help] [--version] [--read-image IMAGE] [--write-image IMAGE]\n\
               \x20              [--] [FILE..]\n\
               \n\
@@ -52,7 +62,7 @@ fn write_purpose(rt: &impl Print, program: u8) -> io::Result<()> {
               \n",
         );
     }
-    rt.write_all(
+    text.write_all(
         b"Usage: traffic [--help] [--version] [--read-image IMAGE] [--write-image IMAGE]\n\
           \x20              [--] [FILE..]\n\
           \n\
@@ -64,8 +74,8 @@ fn write_purpose(rt: &impl Print, program: u8) -> io::Result<()> {
     )
 }
 
-fn write_options(rt: &impl Print) -> io::Result<()> {
-    rt.write_all(
+fn put_options(text: &mut impl Write) -> io::Result<()> {
+    text.write_all(
         b"\x20 --help                 print this text, and play nothing\n\
           \x20 --version              print the version, and play nothing\n\
           \x20 --read-image IMAGE     begin with the server whose image this file has, in\n\
@@ -77,13 +87,13 @@ fn write_options(rt: &impl Print) -> io::Result<()> {
     )
 }
 
-fn write_lines(rt: &impl Print, program: u8) -> io::Result<()> {
-    write_steps(rt)?;
-    write_replies(rt, program)
+fn put_lines(text: &mut impl Write, program: u8) -> io::Result<()> {
+    put_steps(text)?;
+    put_replies(text, program)
 }
 
-fn write_steps(rt: &impl Print) -> io::Result<()> {
-    rt.write_all(
+fn put_steps(text: &mut impl Write) -> io::Result<()> {
+    text.write_all(
         b"Steps, one to a line. C is a client, F a file, B a block, V a value:\n\
           \x20 OR C F      open for reading        OW C F      open for writing\n\
           \x20 CR C F      close for reading       CW C F      close for writing\n\
@@ -101,9 +111,9 @@ fn write_steps(rt: &impl Print) -> io::Result<()> {
 }
 
 // `traffic` prints none.
-fn write_replies(rt: &impl Print, program: u8) -> io::Result<()> {
+fn put_replies(text: &mut impl Write, program: u8) -> io::Result<()> {
     if (program == PLAY) | (program == EXPLAIN) {
-        return rt.write_all(
+        return text.write_all(
             b"Replies, each after the number of its line:\n\
               \x20 G LATEST PREVIOUS PERMISSION         the open is granted\n\
               \x20 W C:KIND ..                          the open waits for these callbacks:\n\
@@ -119,16 +129,16 @@ fn write_replies(rt: &impl Print, program: u8) -> io::Result<()> {
     Ok(())
 }
 
-fn write_end(rt: &impl Print, program: u8) -> io::Result<()> {
+fn put_end(text: &mut impl Write, program: u8) -> io::Result<()> {
     if program == PLAY {
-        return rt.write_all(
+        return text.write_all(
             b"Summary: `files` and a count, then for each file F STATE VERSION LAST-WRITER.\n\
               \n\
               Errors go to standard error. docs/STEPFILE.md is the manual.\n",
         );
     }
     if program == EXPLAIN {
-        return rt.write_all(
+        return text.write_all(
             b"A sentence calls a client a station. Picture: whether the server runs, the files\n\
               with the stations that have them open or hold blocks, and the refusals counted.\n\
               \n\
@@ -136,7 +146,7 @@ fn write_end(rt: &impl Print, program: u8) -> io::Result<()> {
               has the sentences.\n",
         );
     }
-    rt.write_all(
+    text.write_all(
         b"A station is a client. The numbers of a line, in this order:\n\
           \x20 1 opens granted                     5 calls received\n\
           \x20 2 closes done                       6 steps refused\n\
