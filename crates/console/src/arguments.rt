@@ -23,7 +23,12 @@ pub fn run(rt: &(impl Env + Files + Input + Print), errors: &impl Print, program
     let act = request.act(count);
     match act {
         Act::Nothing => {}
-        Act::RefuseName { writing } => refuse_image_option(errors, program, writing, b"no file name"),
+        Act::RefuseName { writing } => refuse_image_option(
+            errors,
+            program,
+            writing,
+            b"no file name",
+        ),
         Act::PrintHelp => print_help(rt, errors, program),
         Act::PrintVersion => print_version(rt, errors, program),
         Act::RefuseInputs { writing } => refuse_image_option(
@@ -130,7 +135,16 @@ fn play_names(
     let mut i = 1;
     while i < count {
         let next = i + 1;
-        standing = play_argument(rt, errors, program, i, next, standing.request, headed, images);
+        standing = play_argument(
+            rt,
+            errors,
+            program,
+            i,
+            next,
+            standing.request,
+            headed,
+            images,
+        );
         if !standing.writes {
             return;
         }

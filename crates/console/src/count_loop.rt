@@ -67,7 +67,15 @@ pub fn count(rt: &impl Print, start: Start, input: &mut impl Read) -> End {
         turns -= 1;
     }
     end_of(
-        session, read_failure, write_failure, &table, &flags, &blocks, &copies, &held, &dirty,
+        session,
+        read_failure,
+        write_failure,
+        &table,
+        &flags,
+        &blocks,
+        &copies,
+        &held,
+        &dirty,
     )
 }
 

@@ -80,13 +80,7 @@ pub fn replace_file(
 
 // Makes the file and writes the bytes. What an earlier run has left under this name goes; if the bytes cannot be
 // stored, the file goes again.
-fn write_new(
-    rt: &impl Files,
-    errors: &impl Print,
-    program: u8,
-    bytes: &[u8],
-    name: &[u8],
-) -> bool {
+fn write_new(rt: &impl Files, errors: &impl Print, program: u8, bytes: &[u8], name: &[u8]) -> bool {
     remove(rt, name);
     match create(rt, name) {
         Ok(mut file) => match store(&mut file, bytes) {

@@ -62,13 +62,7 @@ fn is_read(rt: &impl Env, place: usize, name: &[u8]) -> bool {
 }
 
 // Whether no file has the name, or an empty one, or an image; or, whatever it holds, a plain file.
-fn is_free(
-    rt: &impl Files,
-    errors: &impl Print,
-    program: u8,
-    name: &[u8],
-    whatever: bool,
-) -> bool {
+fn is_free(rt: &impl Files, errors: &impl Print, program: u8, name: &[u8], whatever: bool) -> bool {
     if is_link(rt, name) {
         leave(errors, program, name, b"a link");
         return false;

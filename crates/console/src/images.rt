@@ -26,12 +26,7 @@ pub struct Start {
 }
 
 // With the fresh service, or with the image in the file that the argument at this place names.
-pub fn start_of(
-    rt: &(impl Env + Files),
-    errors: &impl Print,
-    program: u8,
-    place: usize,
-) -> Start {
+pub fn start_of(rt: &(impl Env + Files), errors: &impl Print, program: u8, place: usize) -> Start {
     if place == 0 {
         return fresh_start(true);
     }
