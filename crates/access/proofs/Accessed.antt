@@ -10,6 +10,8 @@ use lib.Dec.{leb}
 use lib.ListN.{get_or, set}
 use lib.Seq.{set-get_or}
 use borrow.Author.Tests.{leb-false}
+use Rattle.std.specs.Prelude.{⊤, Ok, Err}
+use Rattle.std.specs.declared.result.Result.{Result}
 use Rattle.sizes.proofs.Choosing.{split}
 use Rattle.sizes.specs.declared.sizes.Sizes.{Sizes}
 use Rattle.sizes.specs.Sizes.{max_clients, max_files, max_blocks, Permitted, place, cell}
@@ -17,35 +19,51 @@ use Rattle.decision.specs.Lists.{first_of}
 use Rattle.protocol.specs.declared.client.Accessed.{Accessed}
 use Rattle.protocol.specs.declared.client.BlockCopy.{BlockCopy}
 use Rattle.protocol.specs.declared.client.ClientFile.{ClientFile}
+use Rattle.protocol.specs.declared.refusal.Refusal.{Refusal}
 use Rattle.protocol.specs.declared.reply.Reply.{Reply}
 use Rattle.protocol.specs.declared.reply.Reply.TheVariants.{Refused}
 use Rattle.protocol.specs.declared.step.Step.TheVariants.{Read, Write}
 use Rattle.protocol.specs.Access.{client_read, client_written}
 use Rattle.protocol.specs.Refusal.{Test, read_tests, write_tests}
-use Rattle.protocol.proofs.Tested.{when_refused}
-use Rattle.blocks.specs.Stores.{Stores, lent, held_in, block_in}
+use Rattle.protocol.specs.Refused.{refusal_in, refused_with}
+use Rattle.protocol.proofs.Refused.{refused_by, not_refused_by}
+use Rattle.blocks.specs.declared.stores.Stores.{Stores}
+use Rattle.blocks.specs.Stores.{lent, held_in, block_in}
 use Rattle.access.specs.BlockStep.{BlockAfter, unless_tested, after_read, after_write, block_step, Leaves}
 
 -- what a step leaves, said in another way
-pub leaves_as :
-    (r : Reply) (b c : List ℕ) (h d : List Bool) (o o' : BlockAfter)
+leaves_as :
+    (r : Reply) (s : Stores) (o o' : BlockAfter)
     → o ≡ o'
-    → Leaves o' r b c h d
-    → Leaves o r b c h d
-leaves_as r b c h d o o' e l = subst⁻¹ (λ (x : BlockAfter). Leaves x r b c h d) e l
+    → Leaves o' r s
+    → Leaves o r s
+leaves_as r s o o' e l = subst⁻¹ (λ (x : BlockAfter). Leaves x r s) e l
 
 -- a refused step has left the lent arrays as they came
 pub leaves_refused :
-    (ts : List Test) (b c : List ℕ) (h d : List Bool) (after o : BlockAfter) (k : ℕ) (r : Reply)
-    → o ≡ unless_tested ts (lent b c h d) after
-    → k ≡ first_of ts
-    → (k ≡ 0 → ⊥)
-    → r ≡ Refused k
-    → Leaves o r b c h d
-leaves_refused ts b c h d after o k r step is some told =
-    leaves_as r b c h d o (record { stores = lent b c h d; reply = Refused k })
-    (step ∙ when_refused ts (λ n. record { stores = lent b c h d; reply = Refused n }) after k is some)
+    (ts : List Test) (after : BlockAfter) {s : Stores} {o : BlockAfter} {r : Result ⊤ Refusal} {refusal : Refusal} {reply : Reply}
+    → o ≡ unless_tested ts s after
+    → refusal_in r ≡ first_of ts
+    → r ≡ Err refusal
+    → reply ≡ refused_with refusal
+    → Leaves o reply s
+leaves_refused ts after {s} {o} {r} {refusal} {reply} step tests is told =
+    leaves_as reply s o (record { stores = s; reply = refused_with refusal })
+    (step ∙ refused_by ts (λ n. record { stores = s; reply = Refused n }) after tests is)
     (record { reply_after = told; stores_after = refl })
+
+-- another has left what the read or the write leaves
+pub leaves_done :
+    (ts : List Test) (a : Stores) {after o : BlockAfter} {r : Result ⊤ Refusal} {u : ⊤} {reply : Reply} {s : Stores}
+    → o ≡ unless_tested ts a after
+    → refusal_in r ≡ first_of ts
+    → r ≡ Ok u
+    → Leaves after reply s
+    → Leaves o reply s
+leaves_done ts a {after} {o} {r} {u} {reply} {s} step tests done left =
+    leaves_as reply s o after
+    (step ∙ not_refused_by ts (λ n. record { stores = a; reply = Refused n }) after tests done)
+    left
 
 module _
     (z : Sizes) (embargoed recovering reported : Bool) (own : ClientFile) (takes full : Bool) (a : Stores) (i f b : ℕ) where
@@ -114,40 +132,38 @@ flag_written false l k = set-get_or l k false
 
 -- ---- what a read and a write leave, from what the client's own leaves of its copy and of the block
 
-module _ (own : ClientFile) (i f b : ℕ) (blocks copies : List ℕ) (held dirty : List Bool) where
-  abbrev a : Stores
-  a = lent blocks copies held dirty
-
+module _ (own : ClientFile) (i f b : ℕ) (a : Stores) where
   -- the client's copy at a place
   abbrev copy_at : ℕ → BlockCopy
-  copy_at at = record { value = get_or copies at 0; held = get_or held at false; dirty = get_or dirty at false }
+  copy_at at = record { value = get_or a.copies at 0; held = get_or a.held at false; dirty = get_or a.dirty at false }
 
   module _ (after : Accessed) (at to : ℕ) (is_at : at ≡ cell i f b) (is-to : to ≡ place f b) where
     pub read-leaves :
-        after ≡ client_read own (copy_at at) (get_or blocks to 0)
-        → Leaves (after_read own a i f b) after.reply blocks (set copies at after.copy.value)
-        (set held at after.copy.held) dirty
+        after ≡ client_read own (copy_at at) (get_or a.blocks to 0)
+        → Leaves (after_read own a i f b) after.reply
+        (lent a.blocks (set a.copies at after.copy.value) (set a.held at after.copy.held) a.dirty)
     read-leaves is =
         let c : Bool = own.opens.caching in
         rw (is, is_at, is-to)
         (record {
           reply_after = refl;
           stores_after = λ k.
-              lent blocks (copy_read c (held_in a i f b) copies (cell i f b) (block_in a f b) k)
-              (held_read c held (cell i f b) k) dirty;
+              lent a.blocks (copy_read c (held_in a i f b) a.copies (cell i f b) (block_in a f b) k)
+              (held_read c a.held (cell i f b) k) a.dirty;
         })
 
     pub write-leaves :
         (v : ℕ)
-        → after ≡ client_written own (copy_at at) (get_or blocks to 0) v
-        → Leaves (after_write own a i f b v) after.reply (set blocks to after.block)
-        (set copies at after.copy.value) (set held at after.copy.held) (set dirty at after.copy.dirty)
+        → after ≡ client_written own (copy_at at) (get_or a.blocks to 0) v
+        → Leaves (after_write own a i f b v) after.reply
+        (lent (set a.blocks to after.block) (set a.copies at after.copy.value) (set a.held at after.copy.held)
+        (set a.dirty at after.copy.dirty))
     write-leaves v is =
         let c : Bool = own.opens.caching in
         rw (is, is_at, is-to)
         (record {
           reply_after = refl;
           stores_after = λ k.
-              lent (block_written c blocks (place f b) v k) (value_written c copies (cell i f b) v k)
-              (flag_written c held (cell i f b) k) (flag_written c dirty (cell i f b) k);
+              lent (block_written c a.blocks (place f b) v k) (value_written c a.copies (cell i f b) v k)
+              (flag_written c a.held (cell i f b) k) (flag_written c a.dirty (cell i f b) k);
         })

@@ -9,7 +9,8 @@ use Rattle.protocol.specs.declared.reply.Reply.TheVariants.{Value, Refused, Done
 use Rattle.protocol.specs.declared.step.Step.{Step}
 use Rattle.protocol.specs.Step.{BlockAct, reads, writes, nothing, block_act}
 use Rattle.protocol.specs.Refusal.{Test, tested, read_tests, write_tests}
-use Rattle.blocks.specs.Stores.{Stores, lent, held_in, value_read, read_stores, written_stores}
+use Rattle.blocks.specs.declared.stores.Stores.{Stores}
+use Rattle.blocks.specs.Stores.{held_in, value_read, read_stores, written_stores}
 
 -- what a step leaves: the blocks and copies, and the reply
 pub record BlockAfter : Type 0 where
@@ -44,6 +45,6 @@ block_step z embargoed recovering reported own takes full a x =
 
 -- what the program's step replies, and what it leaves in the lent arrays, are what the definition says
 pub record Leaves
-    (after : BlockAfter) (reply : Reply) (blocks copies : List ℕ) (held dirty : List Bool) : Type 0 where
+    (after : BlockAfter) (reply : Reply) (stores : Stores) : Type 0 where
   pub reply_after : reply ≡ after.reply
-  pub stores_after : lent blocks copies held dirty ≡ after.stores
+  pub stores_after : stores ≡ after.stores

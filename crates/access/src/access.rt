@@ -1,13 +1,12 @@
 // Reads and writes of one block. What stands at a wrapped place counts only where the step is not refused before.
 ghost use Rattle.std.specs.Prelude.{◌≡◌, Bool};
 ghost use Rattle.sizes.specs.Sizes.{Permitted};
-ghost use Rattle.blocks.specs.Stores.{lent};
 ghost use Rattle.access.specs.BlockStep.{block_step, Leaves};
 
 use crate::refusal::{read_refusal, write_refusal};
-use blocks::{cell_of, place_of};
+use blocks::{Stores, cell_of, place_of};
 use protocol::{BlockCopy, ClientFile, Reply, Step};
-use sizes::{MAX_CELLS, MAX_PLACES, Sizes};
+use sizes::Sizes;
 
 // Reads a block: the client's copy where it may cache and holds it; else the server's, which a client that may cache
 // then holds.
@@ -20,36 +19,30 @@ pub fn read_block(
     client: usize,
     file: usize,
     block: usize,
-    blocks: &mut [u64; MAX_PLACES],
-    copies: &mut [u64; MAX_CELLS],
-    held: &mut [bool; MAX_CELLS],
-    dirty: &mut [bool; MAX_CELLS],
+    stores: &mut Stores,
 ) -> Reply
     requires { Permitted sizes }
     ensures { (takes full : Bool) → Leaves
-        (block_step sizes embargoed recovering reported own takes full
-        (lent blocks.old copies.old held.old dirty.old)
+        (block_step sizes embargoed recovering reported own takes full stores.old
         (Step.Read client file block))
-        result blocks.new copies.new held.new dirty.new }
+        result stores.new }
 {
     let cell = cell_of(client, file, block);
-    let is_held = held[cell];
-    let refusal = read_refusal(
+    let is_held = stores.held[cell];
+    if let Err(refusal) = read_refusal(
         sizes, embargoed, recovering, reported, own, is_held, client, file, block,
-    );
-    if refusal != 0 {
-        return Reply::Refused(refusal);
+    ) {
+        return Reply::from(refusal);
     }
     let place = place_of(file, block);
     let copy = BlockCopy {
-        value: copies[cell],
+        value: stores.copies[cell],
         held: is_held,
-        dirty: dirty[cell],
+        dirty: stores.dirty[cell],
     };
-    let after = own.read(copy, blocks[place]);
-    let left = after.copy;
-    copies[cell] = left.value;
-    held[cell] = left.held;
+    let after = own.read(copy, stores.blocks[place]);
+    stores.copies[cell] = after.copy.value;
+    stores.held[cell] = after.copy.held;
     after.reply
 }
 
@@ -67,36 +60,30 @@ pub fn write_block(
     file: usize,
     block: usize,
     value: u64,
-    blocks: &mut [u64; MAX_PLACES],
-    copies: &mut [u64; MAX_CELLS],
-    held: &mut [bool; MAX_CELLS],
-    dirty: &mut [bool; MAX_CELLS],
+    stores: &mut Stores,
 ) -> Reply
     requires { Permitted sizes }
     ensures { Leaves
-        (block_step sizes embargoed recovering reported own takes full
-        (lent blocks.old copies.old held.old dirty.old)
+        (block_step sizes embargoed recovering reported own takes full stores.old
         (Step.Write client file block value))
-        result blocks.new copies.new held.new dirty.new }
+        result stores.new }
 {
-    let refusal = write_refusal(
+    if let Err(refusal) = write_refusal(
         sizes, embargoed, recovering, reported, own, takes, full, client, file, block,
-    );
-    if refusal != 0 {
-        return Reply::Refused(refusal);
+    ) {
+        return Reply::from(refusal);
     }
     let cell = cell_of(client, file, block);
     let place = place_of(file, block);
     let copy = BlockCopy {
-        value: copies[cell],
-        held: held[cell],
-        dirty: dirty[cell],
+        value: stores.copies[cell],
+        held: stores.held[cell],
+        dirty: stores.dirty[cell],
     };
-    let after = own.write(copy, blocks[place], value);
-    let left = after.copy;
-    copies[cell] = left.value;
-    held[cell] = left.held;
-    dirty[cell] = left.dirty;
-    blocks[place] = after.block;
+    let after = own.write(copy, stores.blocks[place], value);
+    stores.copies[cell] = after.copy.value;
+    stores.held[cell] = after.copy.held;
+    stores.dirty[cell] = after.copy.dirty;
+    stores.blocks[place] = after.block;
     after.reply
 }

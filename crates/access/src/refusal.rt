@@ -1,23 +1,14 @@
-// The refusals of reads and writes: each function tests exactly its own numbers, lowest first; 0 is none.
-ghost use Rattle.std.specs.Prelude.{◌≡◌, cond, ◌&&◌, ◌||◌, ℕ};
+// The refusals of reads and writes: each function tests exactly its own, in the order in which they are tested.
+ghost use Rattle.std.specs.Prelude.{◌≡◌, ℕ};
 ghost use Rattle.decision.specs.Lists.{first_of};
+ghost use Rattle.protocol.specs.Refused.{refusal_in};
 ghost use Rattle.protocol.specs.Refusal.{read_tests, write_tests};
 
-use protocol::{
-    ClientFile, IN_RECOVERY, NO_BLOCK, NO_CLIENT, NO_FILE, NO_PLACE, NOT_OPEN, UNDER_EMBARGO,
-    refused_if,
-};
+use protocol::{ClientFile, Refusal, refuse_if};
 use sizes::Sizes;
 
-// A step that needs the server is refused to a client under embargo, and in a recovery; there every step of a client that
-// has reported is. Else the step is refused for what is given, 0 for nothing.
-fn away_refusal(embargoed: bool, recovering: bool, reported: bool, needs: bool, otherwise: u8) -> u8
-    ensures { result ≡ cond (needs && embargoed) 20 (cond ((reported || needs) && recovering) 5 otherwise) }
-{
-    let cut_off = refused_if((reported | needs) & recovering, IN_RECOVERY, otherwise);
-    refused_if(needs & embargoed, UNDER_EMBARGO, cut_off)
-}
-
+// Stays: reads and writes each have the tests of the embargo and of the recovery in their chain: with a function of its own
+// for the two, the proof of `write_refusal` did not close.
 pub fn read_refusal(
     sizes: Sizes,
     embargoed: bool,
@@ -28,22 +19,16 @@ pub fn read_refusal(
     client: usize,
     file: usize,
     block: usize,
-) -> u8
-    ensures { result ≡ first_of (read_tests sizes embargoed recovering reported own held client file block) }
+) -> Result<(), Refusal>
+    ensures { refusal_in result ≡ first_of (read_tests sizes embargoed recovering reported own held client file block) }
 {
-    let opens = own.opens;
-    let closed = refused_if(!opens.is_open(), NOT_OPEN, 0);
-    let needs = own.read_needs_server(held);
-    let away = away_refusal(embargoed, recovering, reported, needs, closed);
-    refused_if(
-        sizes.clients <= client,
-        NO_CLIENT,
-        refused_if(
-            sizes.files <= file,
-            NO_FILE,
-            refused_if(sizes.blocks <= block, NO_BLOCK, away),
-        ),
-    )
+    let fetches = own.read_needs_server(held);
+    refuse_if(sizes.clients <= client, Refusal::NoClient)?;
+    refuse_if(sizes.files <= file, Refusal::NoFile)?;
+    refuse_if(sizes.blocks <= block, Refusal::NoBlock)?;
+    refuse_if(fetches & embargoed, Refusal::UnderEmbargo)?;
+    refuse_if((reported | fetches) & recovering, Refusal::InRecovery)?;
+    refuse_if(!own.opens.is_open(), Refusal::NotOpen)
 }
 
 pub fn write_refusal(
@@ -57,22 +42,16 @@ pub fn write_refusal(
     client: usize,
     file: usize,
     block: usize,
-) -> u8
-    ensures { (v : ℕ) → result
+) -> Result<(), Refusal>
+    ensures { (v : ℕ) → refusal_in result
         ≡ first_of (write_tests sizes embargoed recovering reported own takes full client file block v) }
 {
-    let opens = own.opens;
-    let crowded = refused_if(takes & full, NO_PLACE, 0);
-    let closed = refused_if(opens.writers == 0, NOT_OPEN, crowded);
-    let needs = own.write_needs_server() | takes;
-    let away = away_refusal(embargoed, recovering, reported, needs, closed);
-    refused_if(
-        sizes.clients <= client,
-        NO_CLIENT,
-        refused_if(
-            sizes.files <= file,
-            NO_FILE,
-            refused_if(sizes.blocks <= block, NO_BLOCK, away),
-        ),
-    )
+    let sends = own.write_needs_server() | takes;
+    refuse_if(sizes.clients <= client, Refusal::NoClient)?;
+    refuse_if(sizes.files <= file, Refusal::NoFile)?;
+    refuse_if(sizes.blocks <= block, Refusal::NoBlock)?;
+    refuse_if(sends & embargoed, Refusal::UnderEmbargo)?;
+    refuse_if((reported | sends) & recovering, Refusal::InRecovery)?;
+    refuse_if(own.opens.writers == 0, Refusal::NotOpen)?;
+    refuse_if(takes & full, Refusal::NoPlace)
 }

@@ -23,7 +23,8 @@ use Rattle.protocol.specs.Needs.{needs_server}
 use Rattle.protocol.specs.Refusal.{under_embargo, cut_off, not_open_in, not_open_at_all, no_place, read_tests, write_tests}
 use Rattle.protocol.specs.Reply.{is_refused}
 use Rattle.protocol.proofs.Tested.{named_block}
-use Rattle.blocks.specs.Stores.{Stores, block_in, copy_in, held_in, read_stores, written_stores}
+use Rattle.blocks.specs.declared.stores.Stores.{Stores}
+use Rattle.blocks.specs.Stores.{block_in, copy_in, held_in, read_stores, written_stores}
 use Rattle.access.specs.BlockStep.{BlockAfter, after_read, after_write, acted, block_step}
 use Rattle.apart.specs.Agree.{AgreeOn, copies_of, StoresOn, StoresOff}
 use Rattle.apart.proofs.Agreeing.{agree_refl, set_both, set_off, cell_in, place_in}

@@ -20,7 +20,7 @@ use Rattle.protocol.specs.declared.step.Step.TheVariants.{Restart, Embargo, Lift
 use Rattle.protocol.specs.Client.{side_of}
 use Rattle.protocol.specs.Reply.{is_refused, no_calls, no_grants}
 use Rattle.protocol.specs.Step.{class_of, OnFile, OnBlock, client_of, file_of}
-use Rattle.blocks.specs.Stores.{Stores}
+use Rattle.blocks.specs.declared.stores.Stores.{Stores}
 use Rattle.access.specs.BlockStep.{BlockAfter, block_step}
 use Rattle.file.specs.FileStep.{FileAfter, file_step}
 use Rattle.table.specs.TableStep.{is_reported, is_embargoed}

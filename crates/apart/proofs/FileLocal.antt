@@ -26,7 +26,8 @@ use Rattle.protocol.specs.Entry.{call_to, calls_out, calls_for, grant_of, answer
 use Rattle.protocol.specs.Reply.{is_refused}
 use Rattle.protocol.specs.Refusal.{Test, open_tests, close_tests, flush_tests, answer_tests}
 use Rattle.protocol.proofs.Tested.{named, named_block}
-use Rattle.blocks.specs.Stores.{Stores, dirty_in, sent_blocks, dropped_unless}
+use Rattle.blocks.specs.declared.stores.Stores.{Stores}
+use Rattle.blocks.specs.Stores.{dirty_in, sent_blocks, dropped_unless}
 use Rattle.file.specs.FileStep.{FileAfter, leaving, unless_tested, closed_file, flushed_file, answered, waiter_granted, acted, file_step}
 use Rattle.file.specs.FileStep.{granted, waiting, after_open, after_close, after_flush, after_answer}
 use Rattle.file.proofs.AnswerStep.{waiter-there}

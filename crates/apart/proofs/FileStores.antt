@@ -11,7 +11,8 @@ use Rattle.sizes.specs.Sizes.{max_clients, max_blocks, place, cell, first_place,
 use Rattle.decision.specs.Callback.{writes_back, invalidates}
 use Rattle.decision.proofs.Counting.{count_agree}
 use Rattle.protocol.specs.Client.{kept, sent}
-use Rattle.blocks.specs.Stores.{Stores, copy_in, dirty_in, dirty_blocks, any_dirty, dropped_unless, answered_stores}
+use Rattle.blocks.specs.declared.stores.Stores.{Stores}
+use Rattle.blocks.specs.Stores.{copy_in, dirty_in, dirty_blocks, any_dirty, dropped_unless, answered_stores}
 use Rattle.blocks.specs.Stores.{sent_blocks, flushed_stores}
 use Rattle.apart.specs.Agree.{AgreeOn, blocks_of, copies_of, StoresAgree, StoresOn, StoresOff}
 use Rattle.apart.proofs.Agreeing.{agree_refl, agree_trans, set_both, set_off, stored_both, stored_off}

@@ -80,7 +80,7 @@ pub record Meeting : Type 0 where
   pub one_file : Meets (small []) (OW 0 0) (OR 1 0) (Granted (grant 1 0)) Waiting
 
 pub meeting : Meeting
-unfolding fresh step_of moved spaced any_below sum_below file_step block_step table_step first_below all_step after_forgetting after_dropping forgotten_below grants_below dropped_below state_of permission_at_grant count stored batch_of is_image same_bytes image_bytes low below flat decoded_files decoded_blocks decoded_used decoded_embargoes number_at entries_in placed with_places reading_of
+unfolding fresh step_of moved spaced any_below sum_below file_step block_step table_step first_below all_step after_forgetting after_dropping forgotten_below grants_below dropped_below state_of permission_at_grant count stored batch_of is_image image_bytes low below flat decoded_files decoded_blocks decoded_used decoded_embargoes number_at entries_in placed with_places reading_of
 meeting =
     record {
       crash = record { first = refl; second = refl; differ = refl };

@@ -9,7 +9,7 @@ use Rattle.sizes.specs.declared.sizes.Sizes.{Sizes}
 use Rattle.sizes.proofs.Choosing.{split}
 use Rattle.protocol.specs.declared.client.Sides.{Sides}
 use Rattle.protocol.specs.declared.entry.Entry.{Entry}
-use Rattle.blocks.specs.Stores.{Stores}
+use Rattle.blocks.specs.declared.stores.Stores.{Stores}
 use Rattle.service.specs.declared.service.Service.{Service}
 use Rattle.service.specs.Contents.{table_in, stores_of}
 use Rattle.apart.specs.Agree.{AgreeOn, Agrees, blocks_of, copies_of, On, Off}

@@ -1,7 +1,7 @@
 -- Services that agree on one file, or on all others. Derived: it only helps to follow the proof.
 use Rattle.std.specs.Prelude.{ℕ, ◌+◌, ◌*◌, ◌≡◌, Bool, true, false, not, ◌&&◌, List, eqb, leb, ltb, length, get_or}
 use Rattle.sizes.specs.Sizes.{first_place, first_cell, max_clients, max_blocks}
-use Rattle.blocks.specs.Stores.{Stores}
+use Rattle.blocks.specs.declared.stores.Stores.{Stores}
 use Rattle.service.specs.declared.service.Service.{Service}
 use Rattle.table.specs.TableStep.{no_entry, no_sides}
 use Rattle.service.specs.Contents.{table_in, stores_of}

@@ -3,11 +3,11 @@ ghost use Rattle.std.specs.Prelude.{◌≡◌, ◌≤◌};
 ghost use Rattle.batch.specs.Batch.{max_openings, mode_at, listed, batch_of};
 ghost use Rattle.batch.specs.Demand3.{GoesOn};
 
-use protocol::{LIST_TOO_LONG, Reply, Step, asked};
+use protocol::{Refusal, Reply, Step};
 use records::Mode;
-use service::{FLAGS, Service, held_service, hold, take_step};
-use sizes::{MAX_CELLS, MAX_CLIENTS, MAX_PLACES};
-use words::{SAID, WORDS, calls_with, reply_of};
+use service::{HeldService, Service};
+use sizes::MAX_CLIENTS;
+use words::{SAID, calls_with, reply_of};
 
 // The most openings of a list (document 02: entries).
 pub const MAX_OPENINGS: usize = 16;
@@ -44,8 +44,8 @@ fn mode_at(writes: &[bool], k: usize) -> Mode
 }
 
 // Opens the files for the client, in list order, each for write if its flag says so. The list is as long as the files
-// are: a file past the flags is opened for read, and a flag past the files is passed over. The service is held in
-// arrays once for the whole list, and made of them once.
+// are: a file past the flags is opened for read, and a flag past the files is passed over. The service is held
+// once for the whole list, and made of what is held once.
 pub fn open_batch(service: Service, client: usize, files: &[usize], writes: &[bool]) -> BatchOutcome
     ensures value { result ≡ batch_of service client (listed files.now writes.now) }
     ensures goes_on { GoesOn service result.service }
@@ -60,56 +60,25 @@ pub fn open_batch(service: Service, client: usize, files: &[usize], writes: &[bo
     if count > MAX_OPENINGS {
         return BatchOutcome {
             service,
-            reply: Reply::Refused(LIST_TOO_LONG),
+            reply: Reply::from(Refusal::ListTooLong),
             count: 0,
             replies,
         };
     }
     let sizes = service.sizes;
-    let mut table = [0u64; WORDS];
-    let mut flags = [false; FLAGS];
-    let mut blocks = [0u64; MAX_PLACES];
-    let mut copies = [0u64; MAX_CELLS];
-    let mut held = [false; MAX_CELLS];
-    let mut dirty = [false; MAX_CELLS];
+    let mut held = HeldService::holding(service);
     let mut words = [0u64; SAID];
-    hold(
-        service,
-        &mut table,
-        &mut flags,
-        &mut blocks,
-        &mut copies,
-        &mut held,
-        &mut dirty,
-    );
-    let mut k: usize = 0;
-    while k < count {
+    for k in 0..count {
         let file = files[k];
         let mode = mode_at(writes, k);
-        let numbers = asked(Step::Open { mode, client, file });
-        let said = take_step(
-            sizes,
-            numbers.kind,
-            numbers.client,
-            numbers.file,
-            numbers.block,
-            numbers.value,
-            &mut table,
-            &mut flags,
-            &mut blocks,
-            &mut copies,
-            &mut held,
-            &mut dirty,
-            &mut words,
-        );
+        let said = held.take_step(sizes, Some(Step::Open { mode, client, file }), &mut words);
         replies[k] = OpenReply {
             reply: reply_of(said, &words),
             calls: calls_with(said, &words),
         };
-        k += 1;
     }
     BatchOutcome {
-        service: held_service(sizes, &table, &flags, &blocks, &copies, &held, &dirty),
+        service: held.to_service(sizes),
         reply: Reply::Done,
         count,
         replies,

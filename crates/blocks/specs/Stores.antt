@@ -5,14 +5,9 @@ use Rattle.decision.specs.Lists.{count}
 use Rattle.sizes.specs.Sizes.{place, cell, first_place, first_cell}
 use Rattle.decision.specs.Callback.{writes_back, invalidates}
 use Rattle.protocol.specs.Client.{kept, sent}
+use Rattle.blocks.specs.declared.stores.Stores.{Stores}
 
-pub record Stores : Type 0 where
-  pub blocks : List ℕ
-  pub copies : List ℕ
-  pub held : List Bool
-  pub dirty : List Bool
-
--- the lent arrays, together
+-- the four lists, together
 abbrev pub lent : List ℕ → List ℕ → List Bool → List Bool → Stores
 lent blocks copies held dirty = record { blocks = blocks; copies = copies; held = held; dirty = dirty }
 

@@ -6,7 +6,7 @@
 ghost use Rattle.std.specs.Prelude.{◌≤◌};
 ghost use Rattle.batch.specs.Batch.{max_openings};
 
-use batch::{MAX_OPENINGS, OpenReply, open_batch};
+use batch::{BatchOutcome, open_batch};
 use protocol::{Reply, Step};
 use records::Mode;
 use service::Service;
@@ -26,37 +26,24 @@ fn main(rt: HostRuntime) {
     let _ = rt.write_all(b"closing run\n");
     let files: [usize; 5] = [1, 3, 32, 3, 1];
     let writes = [false, true, false, false, true];
-    let run = open_batch(busy, 5, &files, &writes);
-    let run_reply = run.reply;
-    let run_replies = run.replies;
-    print(&rt, run_reply, run.count, run_replies);
+    print(&rt, &open_batch(busy, 5, &files, &writes));
 
     let _ = rt.write_all(b"list of 17\n");
     let many: [usize; 17] = [0; 17];
-    let long = open_batch(busy, 5, &many, &writes);
-    let long_reply = long.reply;
-    let long_replies = long.replies;
-    print(&rt, long_reply, long.count, long_replies);
+    print(&rt, &open_batch(busy, 5, &many, &writes));
 
     let _ = rt.write_all(b"empty list\n");
-    let empty = open_batch(busy, 5, &many[..0], &writes);
-    let empty_reply = empty.reply;
-    let empty_replies = empty.replies;
-    print(&rt, empty_reply, empty.count, empty_replies);
+    print(&rt, &open_batch(busy, 5, &many[..0], &writes));
 }
 
 // The lines of a batch.
-fn print(rt: &impl Print, reply: Reply, count: usize, replies: [OpenReply; MAX_OPENINGS])
-    requires { count ≤ max_openings }
+fn print(rt: &impl Print, run: &BatchOutcome)
+    requires { run.now.count ≤ max_openings }
 {
-    print_line(rt, 0, reply, [0; MAX_CLIENTS]);
-    let mut k: usize = 0;
-    while k < count {
-        let told = replies[k];
-        let told_reply = told.reply;
-        let told_calls = told.calls;
-        k += 1;
-        print_line(rt, k as u64, told_reply, told_calls);
+    print_line(rt, 0, run.reply, [0; MAX_CLIENTS]);
+    for k in 0..run.count {
+        let told = run.replies[k];
+        print_line(rt, k as u64 + 1, told.reply, told.calls);
     }
 }
 
@@ -65,5 +52,5 @@ fn print_line(rt: &impl Print, number: u64, reply: Reply, calls: [u8; MAX_CLIENT
     let mut out = [0u8; LINE_ROOM];
     let said = say(reply, calls, &mut words);
     let end = write_said(&mut out, 0, number, said, &words);
-    let _ = rt.write_all(&out[0..end]);
+    let _ = rt.write_all(&out[..end]);
 }

@@ -1,60 +1,107 @@
 // What the arguments ask for, and how it is done. All arguments are looked at before anything is played.
 ghost use Rattle.std.specs.Prelude.{◌≡◌, ◌≤◌, length, take};
 
-use crate::errors::{refuse_image_option, refuse_long, refuse_option};
 use crate::guard::Images;
-use crate::help::{print_help, print_version};
-use crate::inputs::{play_file, play_stdin};
+use crate::host::Host;
+use crate::teller::Teller;
 use options::{Act, Argument, Request, argument_of};
 use std::env::FillError;
 use std::rt::{Env, Files};
 
-// Runs the program that has this number. The programs differ in their name, in what they print of a line, and in what
-// they print at the end. Each calls this with a constant, and as a number the compiler follows it everywhere and leaves
-// the other programs' loops out; an enum it does not follow, and with a second loop in it `play` takes a seventh more
-// instructions. Standard error comes by itself, since a line there has names that need not be text.
-pub fn run(rt: &(impl Env + Files + Input + Print), errors: &impl Print, program: u8) {
-    let count = argument_count(rt);
-    let request = request_of(rt, errors, program, count);
-    let images = Images {
-        read: request.read,
-        written: request.written,
-    };
-    let act = request.act(count);
-    match act {
-        Act::Nothing => {}
-        Act::RefuseName { writing } => refuse_image_option(
-            errors,
-            program,
-            writing,
-            b"no file name",
-        ),
-        Act::PrintHelp => print_help(rt, errors, program),
-        Act::PrintVersion => print_version(rt, errors, program),
-        Act::RefuseInputs { writing } => refuse_image_option(
-            errors,
-            program,
-            writing,
-            b"more than one input",
-        ),
-        Act::PlayStdin => {
-            play_stdin(rt, errors, program, false, images);
+impl<R: Env + Files + Input + Print, E: Print> Host<'_, R, E> {
+    // Runs the program: its teller makes of a line, and at the end, what it prints, in this output buffer.
+    pub fn run<T: Teller>(&self, out: &mut [u8]) {
+        let count = argument_count(self.rt);
+        let request = self.request_of(count);
+        let images = Images {
+            read: request.read,
+            written: request.written,
+        };
+        match request.act(count) {
+            Act::Nothing => {}
+            Act::RefuseName { writing } => self.refuse_image_option(writing, b"no file name"),
+            Act::PrintHelp => self.print_help(),
+            Act::PrintVersion => self.print_version(),
+            Act::RefuseInputs { writing } => {
+                self.refuse_image_option(writing, b"more than one input");
+            }
+            Act::PlayStdin => {
+                self.play_stdin::<T>(false, images, out);
+            }
+            Act::PlayNames { headed } => self.play_names::<T>(count, headed, images, out),
         }
-        Act::PlayNames { headed } => play_names(rt, errors, program, count, headed, images),
+    }
+
+    // Plays each input that an argument names, until standard output fails.
+    fn play_names<T: Teller>(&self, count: usize, headed: bool, images: Images, out: &mut [u8]) {
+        let mut request = Request::new();
+        for i in 1..count {
+            let Some(after) = self.play_argument::<T>(i, i + 1, request, headed, images, out) else {
+                return;
+            };
+            request = after;
+        }
+    }
+
+    // Plays what argument i names, and answers the request with it; none if standard output takes no more.
+    fn play_argument<T: Teller>(
+        &self,
+        i: usize,
+        next: usize,
+        request: Request,
+        headed: bool,
+        images: Images,
+        out: &mut [u8],
+    ) -> Option<Request> {
+        let mut text = argument_buffer();
+        let length = argument_at(self.rt, i, &mut text);
+        let argument = argument_of(&text[..length], i, request);
+        let writes = match argument {
+            Argument::Name => self.play_file::<T>(&text[..length], headed, images, out),
+            Argument::Stdin => self.play_stdin::<T>(headed, images, out),
+            _ => true,
+        };
+        writes.then_some(request.with(argument, next))
+    }
+}
+
+impl<R: Env, E: Print> Host<'_, R, E> {
+    // What the arguments ask for. Argument 0 is the program's own name.
+    fn request_of(&self, count: usize) -> Request {
+        let mut request = Request::new();
+        for i in 1..count {
+            request = self.with_argument(i, i + 1, request);
+        }
+        request
+    }
+
+    // The request with argument i; one that is not understood is told of.
+    fn with_argument(&self, i: usize, next: usize, request: Request) -> Request {
+        let mut text = argument_buffer();
+        let Ok(length) = self.rt.arg(i, &mut text) else {
+            self.refuse_long(i);
+            return request.with(Argument::Unknown, next);
+        };
+        let argument = argument_of(&text[..length], i, request);
+        match argument {
+            Argument::Unknown => self.refuse_option(&text[..length], b"unknown option"),
+            Argument::NoName => self.refuse_option(&text[..length], b"no file name"),
+            Argument::Repeated => self.refuse_option(&text[..length], b"given twice"),
+            _ => {}
+        }
+        request.with(argument, next)
     }
 }
 
 // How many arguments there are, the program's own name among them.
 fn argument_count(rt: &impl Env) -> usize {
     let mut text = argument_buffer();
-    let mut count = 0;
-    while count < usize::MAX {
+    for count in 0..usize::MAX {
         if let Err(FillError::NotPresent) = rt.arg(count, &mut text) {
-            break;
+            return count;
         }
-        count += 1;
     }
-    count
+    usize::MAX
 }
 
 // Puts the argument at this place into the buffer, and answers its length; 0 if it is not there or does not fit.
@@ -62,119 +109,10 @@ pub fn argument_at(rt: &impl Env, place: usize, text: &mut [u8]) -> usize
     ensures within { result ≤ length text.new }
     ensures prefix { result ≡ length (take result text.new) }
 {
-    match rt.arg(place, text) {
-        Ok(length) => length,
-        Err(_) => 0,
-    }
+    rt.arg(place, text).unwrap_or(0)
 }
 
 // No path is longer than 4,096 bytes.
 pub fn argument_buffer() -> [u8; 4096] {
     [0; 4096]
-}
-
-// What the arguments ask for. Argument 0 is the program's own name.
-fn request_of(rt: &impl Env, errors: &impl Print, program: u8, count: usize) -> Request {
-    let mut request = Request::new();
-    let mut i = 1;
-    while i < count {
-        let next = i + 1;
-        request = with_argument(rt, errors, program, i, next, request);
-        i = next;
-    }
-    request
-}
-
-// The request with argument i; one that is not understood is told of.
-fn with_argument(
-    rt: &impl Env,
-    errors: &impl Print,
-    program: u8,
-    i: usize,
-    next: usize,
-    request: Request,
-) -> Request {
-    let mut text = argument_buffer();
-    let Ok(length) = rt.arg(i, &mut text) else {
-        refuse_long(errors, program, i);
-        return request.with(Argument::Unknown, next);
-    };
-    let argument = argument_of(&text[..length], i, request);
-    if let Argument::Unknown = argument {
-        refuse_option(errors, program, &text[..length], b"unknown option");
-    }
-    if let Argument::NoName = argument {
-        refuse_option(errors, program, &text[..length], b"no file name");
-    }
-    if let Argument::Repeated = argument {
-        refuse_option(errors, program, &text[..length], b"given twice");
-    }
-    request.with(argument, next)
-}
-
-// What stands between two arguments: what those so far ask for, and whether standard output takes more.
-#[derive(Clone, Copy)]
-struct Standing {
-    request: Request,
-    writes: bool,
-}
-
-// Plays each input that an argument names, until standard output fails.
-fn play_names(
-    rt: &(impl Env + Files + Input + Print),
-    errors: &impl Print,
-    program: u8,
-    count: usize,
-    headed: bool,
-    images: Images,
-) {
-    let mut standing = Standing {
-        request: Request::new(),
-        writes: true,
-    };
-    let mut i = 1;
-    while i < count {
-        let next = i + 1;
-        standing = play_argument(
-            rt,
-            errors,
-            program,
-            i,
-            next,
-            standing.request,
-            headed,
-            images,
-        );
-        if !standing.writes {
-            return;
-        }
-        i = next;
-    }
-}
-
-// Plays what argument i names.
-fn play_argument(
-    rt: &(impl Env + Files + Input + Print),
-    errors: &impl Print,
-    program: u8,
-    i: usize,
-    next: usize,
-    request: Request,
-    headed: bool,
-    images: Images,
-) -> Standing {
-    let mut text = argument_buffer();
-    let length = argument_at(rt, i, &mut text);
-    let argument = argument_of(&text[..length], i, request);
-    let mut standing = Standing {
-        request: request.with(argument, next),
-        writes: true,
-    };
-    if let Argument::Name = argument {
-        standing.writes = play_file(rt, errors, program, &text[..length], headed, images);
-    }
-    if let Argument::Stdin = argument {
-        standing.writes = play_stdin(rt, errors, program, headed, images);
-    }
-    standing
 }

@@ -1,7 +1,7 @@
 // Small files, read and written as a whole. What fails is told of.
 ghost use Rattle.std.specs.Prelude.{◌≡◌, ◌+◌, ◌≤◌, length, take};
 
-use crate::errors::fail;
+use crate::host::Host;
 use input::{Content, read_to_end};
 use std::fs::{File, OpenFile, OpenOptions};
 use std::io;
@@ -13,10 +13,7 @@ const NO_TEXT: i32 = 84;
 
 // The name as a path, which is UTF-8.
 pub fn path_of(name: &[u8]) -> io::Result<&str> {
-    match std::str::from_utf8(name) {
-        Ok(path) => Ok(path),
-        Err(_) => Err(io::Error::from_raw_os_error(NO_TEXT)),
-    }
+    std::str::from_utf8(name).map_err(|_| io::Error::from_raw_os_error(NO_TEXT))
 }
 
 // Opens the file for reading.
@@ -32,68 +29,66 @@ pub fn open_update<R: Files>(rt: &R, name: &[u8]) -> io::Result<R::File> {
         .open(rt, path_of(name)?)
 }
 
-// Reads the file to its end, or as far as the buffer goes. It has failed if it could not be opened, or not be read.
-pub fn read_file(
-    rt: &impl Files,
-    errors: &impl Print,
-    program: u8,
-    name: &[u8],
-    buffer: &mut [u8],
-) -> Content
-    ensures within { result.count ≤ length buffer.new }
-    ensures prefix { result.count ≡ length (take result.count buffer.new) }
-{
-    match open_read(rt, name) {
-        Ok(mut file) => {
-            let content = read_to_end(&mut file, buffer);
-            if let Some(error) = content.failure {
-                fail(errors, program, name, error);
+impl<R: Files, E: Print> Host<'_, R, E> {
+    // Reads the file to its end, or as far as the buffer goes. It has failed if it could not be opened, or not be read.
+    pub fn read_file(&self, name: &[u8], buffer: &mut [u8]) -> Content
+        ensures within { result.count ≤ length buffer.new }
+        ensures prefix { result.count ≡ length (take result.count buffer.new) }
+    {
+        match open_read(self.rt, name) {
+            Ok(mut file) => {
+                let content = read_to_end(&mut file, buffer);
+                if let Some(error) = content.failure {
+                    self.fail(name, error);
+                }
+                content
             }
-            content
-        }
-        Err(error) => {
-            fail(errors, program, name, error);
-            Content {
-                count: 0,
-                failure: Some(error),
-            }
-        }
-    }
-}
-
-// Puts the bytes into the file: all of them, or the file stays as it is. They go to a new file beside it, which then
-// takes its name. Answers whether they are there.
-pub fn replace_file(
-    rt: &impl Files,
-    errors: &impl Print,
-    program: u8,
-    bytes: &[u8],
-    name: &[u8],
-) -> bool {
-    let mut new_name = name_buffer();
-    let count = name_beside(name, &mut new_name);
-    if !write_new(rt, errors, program, bytes, &new_name[..count]) {
-        return false;
-    }
-    take_name(rt, errors, program, &new_name[..count], name)
-}
-
-// Makes the file and writes the bytes. What an earlier run has left under this name goes; if the bytes cannot be
-// stored, the file goes again.
-fn write_new(rt: &impl Files, errors: &impl Print, program: u8, bytes: &[u8], name: &[u8]) -> bool {
-    remove(rt, name);
-    match create(rt, name) {
-        Ok(mut file) => match store(&mut file, bytes) {
-            Ok(()) => true,
             Err(error) => {
-                fail(errors, program, name, error);
-                remove(rt, name);
+                self.fail(name, error);
+                Content {
+                    count: 0,
+                    failure: Some(error),
+                }
+            }
+        }
+    }
+
+    // Puts the bytes into the file: all of them, or the file stays as it is. They go to a new file beside it, which then
+    // takes its name. Answers whether they are there.
+    pub fn replace_file(&self, bytes: &[u8], name: &[u8]) -> bool {
+        let mut new_name = name_buffer();
+        let count = name_beside(name, &mut new_name);
+        self.write_new(bytes, &new_name[..count]) && self.take_name(&new_name[..count], name)
+    }
+
+    // Makes the file and writes the bytes. What an earlier run has left under this name goes; if the bytes cannot be
+    // stored, the file goes again.
+    fn write_new(&self, bytes: &[u8], name: &[u8]) -> bool {
+        remove(self.rt, name);
+        match create(self.rt, name) {
+            Ok(mut file) => match store(&mut file, bytes) {
+                Ok(()) => true,
+                Err(error) => {
+                    self.fail(name, error);
+                    remove(self.rt, name);
+                    false
+                }
+            },
+            Err(error) => {
+                self.fail(name, error);
                 false
             }
-        },
-        Err(error) => {
-            fail(errors, program, name, error);
-            false
+        }
+    }
+
+    fn take_name(&self, new_name: &[u8], name: &[u8]) -> bool {
+        match rename(self.rt, new_name, name) {
+            Ok(()) => true,
+            Err(error) => {
+                self.fail(name, error);
+                remove(self.rt, new_name);
+                false
+            }
         }
     }
 }
@@ -119,23 +114,6 @@ fn store(file: &mut (impl Write + OpenFile), bytes: &[u8]) -> io::Result<()> {
     file.sync_all()
 }
 
-fn take_name(
-    rt: &impl Files,
-    errors: &impl Print,
-    program: u8,
-    new_name: &[u8],
-    name: &[u8],
-) -> bool {
-    match rename(rt, new_name, name) {
-        Ok(()) => true,
-        Err(error) => {
-            fail(errors, program, name, error);
-            remove(rt, new_name);
-            false
-        }
-    }
-}
-
 fn rename(rt: &impl Files, from: &[u8], to: &[u8]) -> io::Result<()> {
     std::fs::rename(rt, path_of(from)?, path_of(to)?)
 }
@@ -151,26 +129,11 @@ pub fn name_beside(name: &[u8], buffer: &mut [u8]) -> usize
     ensures within { result ≤ length buffer.new }
     ensures prefix { result ≡ length (take result buffer.new) }
 {
-    if buffer.len() < 4 {
+    let at = name.len();
+    if buffer.len() < 4 || buffer.len() - 4 < at {
         return 0;
     }
-    if buffer.len() - 4 < name.len() {
-        return 0;
-    }
-    let mut i = 0;
-    while i < name.len() {
-        buffer[i] = name[i];
-        i += 1;
-    }
-    append_new(buffer, i);
-    i + 4
-}
-
-fn append_new(buffer: &mut [u8], at: usize)
-    requires { at + 4 ≤ length buffer.old }
-{
-    buffer[at] = b'.';
-    buffer[at + 1] = b'n';
-    buffer[at + 2] = b'e';
-    buffer[at + 3] = b'w';
+    buffer[..at].copy_from_slice(name);
+    buffer[at..at + 4].copy_from_slice(b".new");
+    at + 4
 }

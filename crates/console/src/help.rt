@@ -1,28 +1,30 @@
 // What `--help` and `--version` print.
-use crate::errors::{fail_output, write_name};
-use options::{EXPLAIN, PLAY};
+use crate::host::Host;
+use options::Program;
 use std::io;
 use std::io::{Cursor, Write};
 
-pub fn print_version(rt: &impl Print, errors: &impl Print, program: u8) {
-    if let Err(error) = write_version(rt, program) {
-        fail_output(errors, program, error);
+impl<R: Print, E: Print> Host<'_, R, E> {
+    pub fn print_version(&self) {
+        if let Err(error) = write_version(self.rt, self.program) {
+            self.fail_output(error);
+        }
+    }
+
+    pub fn print_help(&self) {
+        if let Err(error) = write_help(self.rt, self.program) {
+            self.fail_output(error);
+        }
     }
 }
 
-pub fn print_help(rt: &impl Print, errors: &impl Print, program: u8) {
-    if let Err(error) = write_help(rt, program) {
-        fail_output(errors, program, error);
-    }
-}
-
-fn write_version(rt: &impl Print, program: u8) -> io::Result<()> {
-    write_name(rt, program)?;
+fn write_version(rt: &impl Print, program: Program) -> io::Result<()> {
+    rt.write_all(program.name())?;
     rt.write_all(b" 0.1.0\n")
 }
 
 // In one write: where the reader takes the first line and goes, no later write can fail.
-fn write_help(rt: &impl Print, program: u8) -> io::Result<()> {
+fn write_help(rt: &impl Print, program: Program) -> io::Result<()> {
     let mut text = Cursor::new([0u8; 8192]);
     put_help(&mut text, program)?;
     let bytes: &[u8] = text.get_ref();
@@ -31,27 +33,25 @@ fn write_help(rt: &impl Print, program: u8) -> io::Result<()> {
 }
 
 // Each of these puts a part of the help into the text, which has room for the whole.
-fn put_help(text: &mut impl Write, program: u8) -> io::Result<()> {
+fn put_help(text: &mut impl Write, program: Program) -> io::Result<()> {
     put_purpose(text, program)?;
     put_options(text)?;
     put_lines(text, program)?;
     put_end(text, program)
 }
 
-fn put_purpose(text: &mut impl Write, program: u8) -> io::Result<()> {
-    if program == PLAY {
-        return text.write_all(
+fn put_purpose(text: &mut impl Write, program: Program) -> io::Result<()> {
+    text.write_all(match program {
+        Program::Play => {
             b"Usage: play [--help] [--version] [--read-image IMAGE] [--write-image IMAGE]\n\
               \x20           [--] [FILE..]\n\
               \n\
               Plays step files. Each FILE is played on a fresh file service: every line gets a\n\
               reply, and a summary of the service's files comes last. With no FILE, or where\n\
               FILE is -, standard input is played.\n\
-              \n",
-        );
-    }
-    if program == EXPLAIN {
-        return text.write_all(
+              \n"
+        }
+        Program::Explain => {
             b"Usage: explain [--help] [--version] [--read-image IMAGE] [--write-image IMAGE]\n\
               \x20              [--] [FILE..]\n\
               \n\
@@ -59,19 +59,19 @@ fn put_purpose(text: &mut impl Write, program: u8) -> io::Result<()> {
               fresh file service: every line gets its reply, as play prints it, and after four\n\
               spaces a sentence; a picture of the service comes last. With no FILE, or where\n\
               FILE is -, standard input is played.\n\
-              \n",
-        );
-    }
-    text.write_all(
-        b"Usage: traffic [--help] [--version] [--read-image IMAGE] [--write-image IMAGE]\n\
+              \n"
+        }
+        Program::Traffic => {
+            b"Usage: traffic [--help] [--version] [--read-image IMAGE] [--write-image IMAGE]\n\
           \x20              [--] [FILE..]\n\
           \n\
           Counts step files. Each FILE is played on a fresh file service: no line gets a\n\
           reply, and a table comes last, with a line for each station in force, ascending,\n\
           and one for `all`: the name and eight numbers, one space between. With no FILE,\n\
           or where FILE is -, standard input is played.\n\
-          \n",
-    )
+          \n"
+        }
+    })
 }
 
 fn put_options(text: &mut impl Write) -> io::Result<()> {
@@ -87,7 +87,7 @@ fn put_options(text: &mut impl Write) -> io::Result<()> {
     )
 }
 
-fn put_lines(text: &mut impl Write, program: u8) -> io::Result<()> {
+fn put_lines(text: &mut impl Write, program: Program) -> io::Result<()> {
     put_steps(text)?;
     put_replies(text, program)
 }
@@ -111,8 +111,8 @@ fn put_steps(text: &mut impl Write) -> io::Result<()> {
 }
 
 // `traffic` prints none.
-fn put_replies(text: &mut impl Write, program: u8) -> io::Result<()> {
-    if (program == PLAY) | (program == EXPLAIN) {
+fn put_replies(text: &mut impl Write, program: Program) -> io::Result<()> {
+    if !matches!(program, Program::Traffic) {
         return text.write_all(
             b"Replies, each after the number of its line:\n\
               \x20 G LATEST PREVIOUS PERMISSION         the open is granted\n\
@@ -129,25 +129,22 @@ fn put_replies(text: &mut impl Write, program: u8) -> io::Result<()> {
     Ok(())
 }
 
-fn put_end(text: &mut impl Write, program: u8) -> io::Result<()> {
-    if program == PLAY {
-        return text.write_all(
+fn put_end(text: &mut impl Write, program: Program) -> io::Result<()> {
+    text.write_all(match program {
+        Program::Play => {
             b"Summary: `files` and a count, then for each file F STATE VERSION LAST-WRITER.\n\
               \n\
-              Errors go to standard error. docs/STEPFILE.md is the manual.\n",
-        );
-    }
-    if program == EXPLAIN {
-        return text.write_all(
+              Errors go to standard error. docs/STEPFILE.md is the manual.\n"
+        }
+        Program::Explain => {
             b"A sentence calls a client a station. Picture: whether the server runs, the files\n\
               with the stations that have them open or hold blocks, and the refusals counted.\n\
               \n\
               Errors go to standard error. docs/STEPFILE.md is the manual, and docs/EXPLAIN.md\n\
-              has the sentences.\n",
-        );
-    }
-    text.write_all(
-        b"A station is a client. The numbers of a line, in this order:\n\
+              has the sentences.\n"
+        }
+        Program::Traffic => {
+            b"A station is a client. The numbers of a line, in this order:\n\
           \x20 1 opens granted                     5 calls received\n\
           \x20 2 closes done                       6 steps refused\n\
           \x20 3 blocks fetched from the server    7 reads from the copy (hits)\n\
@@ -155,6 +152,7 @@ fn put_end(text: &mut impl Write, program: u8) -> io::Result<()> {
           A step that names no station in force is not counted.\n\
           \n\
           Errors go to standard error. docs/STEPFILE.md is the manual, and docs/TRAFFIC.md\n\
-          has the columns, with an example.\n",
-    )
+          has the columns, with an example.\n"
+        }
+    })
 }

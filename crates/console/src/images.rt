@@ -5,9 +5,8 @@ ghost use Rattle.service.specs.Fresh.{fresh};
 ghost use Rattle.restore.specs.Reading.{reading_of, sizes_in};
 
 use crate::arguments::{argument_at, argument_buffer};
-use crate::errors::{put, refuse_image};
-use crate::files::{read_file, replace_file};
-use image::{ImageWritten, write_image};
+use crate::host::Host;
+use image::write_image;
 use protocol::Reply;
 use restore::{image_sizes, read_image};
 use service::{Outcome, Service};
@@ -18,51 +17,76 @@ use unsaved::write_unsaved;
 // Where a play begins.
 #[derive(Clone, Copy)]
 pub struct Start {
-    // There is no start if the image could not be read, which is told of.
-    pub found: bool,
     // With the service of an image, which has its sizes; else with the fresh one, whose sizes line 1 may choose.
     pub resumed: bool,
     pub service: Service,
 }
 
-// With the fresh service, or with the image in the file that the argument at this place names.
-pub fn start_of(rt: &(impl Env + Files), errors: &impl Print, program: u8, place: usize) -> Start {
-    if place == 0 {
-        return fresh_start(true);
+impl<R: Env + Files, E: Print> Host<'_, R, E> {
+    // With the fresh service, or with the image in the file that the argument at this place names. There is no start if
+    // the image could not be read, which is told of.
+    pub fn start_of(&self, image: Option<usize>) -> Option<Start> {
+        let Some(place) = image else {
+            return Some(fresh_start());
+        };
+        let mut name = argument_buffer();
+        let length = argument_at(self.rt, place, &mut name);
+        self.start_from(&name[..length])
     }
-    let mut name = argument_buffer();
-    let length = argument_at(rt, place, &mut name);
-    start_from(rt, errors, program, &name[..length])
+
+    fn start_from(&self, name: &[u8]) -> Option<Start> {
+        let mut bytes = image_buffer();
+        let content = self.read_file(name, &mut bytes);
+        if content.failure.is_some() {
+            return None;
+        }
+        let outcome = reading_of(&bytes[..content.count]);
+        let service = outcome.service;
+        if let Reply::Refused(number) = outcome.reply {
+            self.refuse_image(name, number);
+            return None;
+        }
+        Some(Start {
+            resumed: true,
+            service,
+        })
+    }
+
+    // Writes the image of the server to the file that the argument at this place names.
+    pub fn save(&self, service: Service, place: usize) {
+        let mut name = argument_buffer();
+        let length = argument_at(self.rt, place, &mut name);
+        self.save_as(service, &name[..length]);
+    }
+
+    // A refusal is told of, and leaves the file as it is. Blocks that the image does not have are told of too.
+    fn save_as(&self, service: Service, name: &[u8]) {
+        let mut bytes = image_buffer();
+        let written = write_image(service, &mut bytes);
+        match written {
+            Ok(count) => {
+                if self.replace_file(&bytes[..count], name) {
+                    self.tell_unsaved(service);
+                }
+            }
+            Err(refusal) => self.refuse_image(name, refusal.number()),
+        }
+    }
+
+    fn tell_unsaved(&self, service: Service) {
+        let mut lines = lines_buffer();
+        let count = write_unsaved(&mut lines, 0, self.program.number(), service);
+        self.put(&lines[..count]);
+    }
 }
 
-fn fresh_start(found: bool) -> Start
+fn fresh_start() -> Start
     ensures resumed_value { result.resumed ≡ false }
     ensures service_value { result.service ≡ fresh default_sizes }
 {
     Start {
-        found,
         resumed: false,
         service: Service::new(Sizes::default()),
-    }
-}
-
-fn start_from(rt: &impl Files, errors: &impl Print, program: u8, name: &[u8]) -> Start {
-    let mut bytes = image_buffer();
-    let content = read_file(rt, errors, program, name, &mut bytes);
-    if content.failure.is_some() {
-        return fresh_start(false);
-    }
-    let outcome = reading_of(&bytes[..content.count]);
-    let reply = outcome.reply;
-    let service = outcome.service;
-    if let Reply::Refused(number) = reply {
-        refuse_image(errors, program, name, number);
-        return fresh_start(false);
-    }
-    Start {
-        found: true,
-        resumed: true,
-        service,
     }
 }
 
@@ -71,39 +95,6 @@ pub fn reading_of(bytes: &[u8]) -> Outcome
     ensures { result ≡ reading_of (fresh (sizes_in bytes.now)) bytes.now }
 {
     read_image(Service::new(image_sizes(bytes)), bytes)
-}
-
-// Writes the image of the server to the file that the argument at this place names.
-pub fn save(
-    rt: &(impl Env + Files),
-    errors: &impl Print,
-    program: u8,
-    service: Service,
-    place: usize,
-) {
-    let mut name = argument_buffer();
-    let length = argument_at(rt, place, &mut name);
-    save_as(rt, errors, program, service, &name[..length]);
-}
-
-// A refusal is told of, and leaves the file as it is. Blocks that the image does not have are told of too.
-fn save_as(rt: &impl Files, errors: &impl Print, program: u8, service: Service, name: &[u8]) {
-    let mut bytes = image_buffer();
-    let written = write_image(service, &mut bytes);
-    match written {
-        ImageWritten::Length(count) => {
-            if replace_file(rt, errors, program, &bytes[..count], name) {
-                tell_unsaved(errors, program, service);
-            }
-        }
-        ImageWritten::Refused(number) => refuse_image(errors, program, name, number),
-    }
-}
-
-fn tell_unsaved(errors: &impl Print, program: u8, service: Service) {
-    let mut lines = lines_buffer();
-    let count = write_unsaved(&mut lines, 0, program, service);
-    put(errors, &lines[..count]);
 }
 
 // Room for UNSAVED_ROOM bytes.

@@ -3,16 +3,16 @@
 #![tactic(auto)]
 
 mod arguments;
-mod count_loop;
 mod errors;
-mod explain_loop;
 mod files;
 mod guard;
 mod help;
+mod host;
 mod images;
+mod input_loop;
 mod inputs;
-mod play_loop;
+mod programs;
+mod teller;
 mod turns;
 
-pub use arguments::run;
-pub use options::{EXPLAIN, PLAY, TRAFFIC};
+pub use programs::{explain, play, traffic};

@@ -8,7 +8,6 @@ use mathlib.Core.List.{List, [], ◌∷◌, ◌++◌}
 use Rattle.sizes.specs.Sizes.{default_sizes}
 use Rattle.service.specs.declared.service.Service.{Service}
 use Rattle.service.specs.Fresh.{fresh}
-use Rattle.stepfile.specs.declared.parsed.Parsed.{Parsed}
 use Rattle.stepfile.specs.Played.{service_after, end_of}
 use Rattle.stepfile.specs.Transcript.{lines, transcript, after}
 use Rattle.stepfile.proofs.Longest.{no_step}
@@ -24,6 +23,8 @@ use Rattle.counting.specs.Run.{Follows, output, at_end}
 use Rattle.counting.specs.Traffic.{traces_of, traffic_from, traffic_file}
 use Rattle.counting.proofs.Alike.{traffic_alike}
 use Rattle.counting.proofs.Traces.{service_after_lem, total_is}
+use Rattle.protocol.specs.declared.step.Step.{Step}
+use Rattle.std.proofs.Common.{Option}
 
 module _ (settable : Bool) where
   -- of a line of more than 87 bytes the same is counted, whatever it is: nothing
@@ -35,7 +36,7 @@ module _ (settable : Bool) where
             ap (λ (s : Service). record { service = s; totals = (counted_line settable c n l).totals })
             ((reply_blind settable).goes c.service n l m l-long m-long)
             ∙ ap
-            (λ (p : Parsed).
+            (λ (p : Option Step).
             record {
               service = service_after settable c.service n m;
               totals = counted_all (stations_of c.service) (trace_in c.service p) c.totals;

@@ -21,11 +21,10 @@ use Rattle.service.specs.Embargo.{forgotten_below, put_aside, dropped_below, tol
 use Rattle.service.specs.Embargo.{unless_tested, all_step, marked}
 use Rattle.service.specs.Step.{moved, step_of}
 use Rattle.service.specs.Space.{spaced}
-use Rattle.stepfile.specs.declared.parsed.Parsed.{Parsed}
-use Rattle.stepfile.specs.declared.parsed.Parsed.TheVariants.{Is, NoStep}
 use Rattle.stepfile.specs.Grammar.{parse_line}
 use Rattle.stepfile.specs.Played.{refused_with, set_outcome, outcome_of, service_after}
 use Rattle.stepfile.specs.Setting.{setting_of}
+use Rattle.std.proofs.Common.{Option, Some, None}
 
 module _ (z : Sizes) (i : ℕ) where
   dropped_stays : (k : ℕ) (s : Service) → (dropped_below z i k s).sizes ≡ s.sizes
@@ -91,6 +90,6 @@ pub line_stays : (settable : Bool) (s : Service) (n : ℕ) (l : List ℕ) → (s
 unfolding service_after
 line_stays settable s n l e = by (parse_line l)
   where
-    by : (p : Parsed) → (outcome_of settable s n l p).service.sizes ≡ s.sizes
-    by (Is x) = step_stays s x
-    by NoStep = ap (λ (o : Outcome). o.service.sizes) (unless (set_outcome s (setting_of l)) (refused_with s 1) e)
+    by : (p : Option Step) → (outcome_of settable s n l p).service.sizes ≡ s.sizes
+    by (Some x) = step_stays s x
+    by None = ap (λ (o : Outcome). o.service.sizes) (unless (set_outcome s (setting_of l)) (refused_with s 1) e)

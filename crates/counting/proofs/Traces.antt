@@ -12,8 +12,6 @@ use Rattle.sizes.specs.declared.sizes.Sizes.{Sizes}
 use Rattle.sizes.specs.Sizes.{in_force}
 use Rattle.sizes.proofs.InForce.{in_force_permitted}
 use Rattle.service.specs.declared.service.Service.{Service}
-use Rattle.stepfile.specs.declared.parsed.Parsed.{Parsed}
-use Rattle.stepfile.specs.declared.parsed.Parsed.TheVariants.{Is, NoStep}
 use Rattle.stepfile.specs.Grammar.{parse_line}
 use Rattle.stepfile.specs.Played.{outcome_of, service_after, after_lines}
 use Rattle.stepfile.specs.Transcript.{after}
@@ -24,6 +22,8 @@ use Rattle.counting.specs.LineTrace.{stations_of, trace_in, trace_at}
 use Rattle.counting.specs.Lines.{Counted, uncounted, counted_line}
 use Rattle.counting.specs.Traffic.{traces_of}
 use Rattle.counting.proofs.SizesStay.{step_stays, line_stays}
+use Rattle.protocol.specs.declared.step.Step.{Step}
+use Rattle.std.proofs.Common.{Option, Some, None}
 
 module _ (settable : Bool) where
   -- the service goes its way beside the totals
@@ -70,11 +70,11 @@ module _ (settable : Bool) where
   unfolding service_after counted_all
   first_alike s l totals = by (parse_line l)
     where
-      by : (p : Parsed)
+      by : (p : Option Step)
           → counted_all (stations_of s) (trace_in s p) totals
           ≡ counted_all (stations_of (outcome_of settable s 1 l p).service) (trace_in s p) totals
-      by (Is x) = ap (λ (z : Sizes). counted_all (in_force z).clients (trace_in s (Is x)) totals) (sym (step_stays s x))
-      by NoStep = refl
+      by (Some x) = ap (λ (z : Sizes). counted_all (in_force z).clients (trace_in s (Some x)) totals) (sym (step_stays s x))
+      by None = refl
 
   totals_all : (ls : List (List ℕ)) (s : Service) (totals : List ℕ)
       → (after (counted_line settable) (record { service = s; totals = totals }) 1 ls).totals

@@ -2,14 +2,14 @@
 -- Bool `settable` says whether a first line may choose the sizes.
 use Rattle.std.specs.Prelude.{ℕ, ◌≡◌, Bool, false, ◌&&◌, List, [], drop, replicate}
 use Rattle.sizes.specs.declared.sizes.Sizes.{Sizes}
-use Rattle.blocks.specs.Stores.{Stores}
+use Rattle.blocks.specs.declared.stores.Stores.{Stores}
 use Rattle.service.specs.declared.service.Service.{Service}
 use Rattle.service.specs.Lent.{service_held}
 use Rattle.stepfile.specs.Played.{service_after}
 use Rattle.telling.specs.Lines.{Telling, Reach, Tells, can_tell}
 use Rattle.telling.specs.Reached.{Reached}
 use Rattle.playing.specs.declared.lines.Progress.{Progress}
-use Rattle.playing.specs.Lines.{chooses_sizes, Long}
+use Rattle.playing.specs.Lines.{chooses_sizes, reach_with}
 use Rattle.trace.specs.Counted.{totals_room, counted_all}
 use Rattle.trace.specs.Number.{total_at}
 use Rattle.counting.specs.Printed.{traffic_text, traffic_room}
@@ -52,13 +52,7 @@ counted_held z t flags a totals = record { service = service_held z t flags a; t
 
 -- how far it went, with what the arrays hold then
 abbrev pub reach_held : Progress → List ℕ → List Bool → Stores → List ℕ → Reach Counted
-reach_held p t flags a totals =
-    record {
-      state = counted_held p.sizes t flags a totals;
-      number = p.number;
-      used = p.used;
-      written = p.written;
-    }
+reach_held p t flags a totals = reach_with p (counted_held p.sizes t flags a totals)
 
 -- The lines of an input are counted, the first of them numbered n: the arrays hold the service and the totals after
 -- them, and any output buffer stays.
@@ -68,7 +62,6 @@ pub record CountsLines
   pub tells :
       (out : List ℕ)
       → Tells (counting settable) (counted_held z t₀ flags₀ a₀ totals₀) n input out (reach_held p t flags a totals) out
-  pub long : Long t₀ flags₀ t flags
 
 -- An input begins with a line that chooses the sizes, or nothing is done: no line that can be counted next chooses
 -- them. No record is made of it.
@@ -80,4 +73,3 @@ pub record Begins
       → Reached (counting settable) (counted_held z t₀ flags₀ a₀ totals) n input out
       (counted_held p.sizes t flags a totals) p.number p.used 0 out
   pub chosen : (chooses_sizes settable p.number (drop p.used input) && can_tell 0 0 0 p.number) ≡ false
-  pub long : Long t₀ flags₀ t flags

@@ -1,26 +1,18 @@
 -- The counter's session: it stands between two turns as the player's does, with the totals beside the service.
 use Rattle.std.specs.Prelude.{ℕ, ◌≡◌, Bool, List}
-use Rattle.blocks.specs.Stores.{Stores}
+use Rattle.blocks.specs.declared.stores.Stores.{Stores}
 use Rattle.telling.specs.Session.{Standing, Moved, Moves}
 use Rattle.playing.specs.declared.session.Session.{Session}
 use Rattle.playing.specs.declared.session.Advance.{Advance}
-use Rattle.playing.specs.Lines.{Long}
+use Rattle.playing.specs.Session.{standing_with, moved_with}
 use Rattle.counting.specs.Lines.{Counted, counting, counted_held}
 
 -- what stands between two turns, with what the arrays hold
 abbrev pub standing : Session → List ℕ → List Bool → Stores → List ℕ → Standing Counted
-standing σ t flags a totals =
-    record {
-      state = counted_held σ.sizes t flags a totals;
-      number = σ.number;
-      rest = σ.rest;
-      paused = σ.paused;
-      over = σ.over;
-      done = σ.done;
-    }
+standing σ t flags a totals = standing_with σ (counted_held σ.sizes t flags a totals)
 
 abbrev pub moved_held : Advance → List ℕ → List Bool → Stores → List ℕ → Moved Counted
-moved_held r t flags a totals = record { standing = standing r.session t flags a totals; written = r.written }
+moved_held r t flags a totals = moved_with r (counted_held r.session.sizes t flags a totals)
 
 -- the session takes a turn
 pub record Advances
@@ -30,4 +22,3 @@ pub record Advances
       Moves (counting σ.settable) (standing σ t₀ flags₀ a₀ totals₀) got buffer₀ out₀ (moved_held r t flags a totals)
       buffer out
   pub same : r.session.settable ≡ σ.settable
-  pub long : Long t₀ flags₀ t flags

@@ -1,22 +1,15 @@
 -- A turn of the counter, on the service and the totals that lent arrays hold.
 use Rattle.std.specs.Prelude.{ℕ, Bool, List}
 use Rattle.sizes.specs.declared.sizes.Sizes.{Sizes}
-use Rattle.blocks.specs.Stores.{Stores}
+use Rattle.blocks.specs.declared.stores.Stores.{Stores}
 use Rattle.telling.specs.Turn.{Turned, Turns}
 use Rattle.playing.specs.declared.turn.Turn.{Turn}
-use Rattle.playing.specs.Lines.{Long}
+use Rattle.playing.specs.Turn.{turned_with}
 use Rattle.counting.specs.Lines.{Counted, counting, counted_held}
 
 -- what a turn leaves, with what the arrays hold then
 abbrev pub turned_held : Turn → List ℕ → List Bool → Stores → List ℕ → Turned Counted
-turned_held u t flags a totals =
-    record {
-      state = counted_held u.sizes t flags a totals;
-      number = u.number;
-      rest = u.rest;
-      written = u.written;
-      paused = u.paused;
-    }
+turned_held u t flags a totals = turned_with u (counted_held u.sizes t flags a totals)
 
 pub record CountsTurn
     (settable : Bool) (z : Sizes) (n : ℕ) (buffer₀ : List ℕ) (filled : ℕ) (t₀ : List ℕ) (flags₀ : List Bool)
@@ -26,4 +19,3 @@ pub record CountsTurn
       (out : List ℕ)
       → Turns (counting settable) (counted_held z t₀ flags₀ a₀ totals₀) n buffer₀ filled out
       (turned_held u t flags a totals) buffer out
-  pub long : Long t₀ flags₀ t flags

@@ -1,18 +1,17 @@
 // The lines of a buffer, counted.
-ghost use Rattle.std.specs.Prelude.{◌≡◌, length};
-ghost use Rattle.blocks.specs.Stores.{lent};
-ghost use Rattle.words.specs.Rows.{table_words};
-ghost use Rattle.service.specs.Lent.{lent_flags};
+ghost use Rattle.std.specs.Prelude.{◌≡◌};
+ghost use Rattle.trace.specs.Records.{itself_found};
 ghost use Rattle.counting.specs.Lines.{CountsLines, Begins};
 
-use playing::{Progress, choose_sizes, numbers_of};
+use crate::counted_service::CountedService;
+use playing::{Progress, choose_sizes};
+use protocol::Step;
 use reader::{is_set, read_at, read_first_setting};
-use service::{FLAGS, take_step};
-use sizes::{MAX_CELLS, MAX_PLACES, Sizes};
-use stepfile::Read;
+use service::HeldService;
+use sizes::Sizes;
 use telling::can_tell;
 use trace::{TOTALS, count_trace, serves_itself, trace_of};
-use words::{SAID, WORDS};
+use words::SAID;
 
 // Takes the steps of the whole lines of the input, the first of them numbered so, and lends each line's records as a trace,
 // which is counted. If the sizes are settable, line 1 may choose them.
@@ -21,56 +20,32 @@ pub fn count_lines(
     sizes: Sizes,
     first: u64,
     input: &[u8],
-    table: &mut [u64; WORDS],
-    flags: &mut [bool; FLAGS],
-    blocks: &mut [u64; MAX_PLACES],
-    copies: &mut [u64; MAX_CELLS],
-    held: &mut [bool; MAX_CELLS],
-    dirty: &mut [bool; MAX_CELLS],
-    totals: &mut [u64; TOTALS],
+    counted: &mut CountedService,
 ) -> Progress
-    requires table_len { length table.old ≡ table_words }
-    requires flags_len { length flags.old ≡ lent_flags }
-    ensures { CountsLines settable sizes first input.now table.old flags.old
-        (lent blocks.old copies.old held.old dirty.old)
-        totals.old result table.new flags.new
-        (lent blocks.new copies.new held.new dirty.new)
-        totals.new }
+    ensures { CountsLines settable sizes first input.now counted.old.service.table counted.old.service.flags
+        counted.old.service.stores
+        counted.old.totals result counted.new.service.table counted.new.service.flags
+        counted.new.service.stores
+        counted.new.totals }
 {
-    let begun = count_first(
-        settable, sizes, first, input, table, flags, blocks, copies, held, dirty,
-    );
+    let begun = count_first(settable, sizes, first, input, &mut counted.service);
     let given = begun.sizes;
     let force = given.in_force();
     let stations = force.clients;
     let mut words = [0u64; SAID];
     let mut number = begun.number;
     let mut used = begun.used;
+    // Stays: no index is counted, as in crates/playing/src/lines.rt.
     while can_tell(0, 0, 0, number) {
-        let Read::Line { parsed, next } = read_at(input, used) else {
+        let Some(line) = read_at(input, used) else {
             break;
         };
-        used = next;
+        used = line.next;
         number += 1;
-        let named = numbers_of(parsed);
-        let itself = serves_itself(named, table, held);
-        let said = take_step(
-            given,
-            named.kind,
-            named.client,
-            named.file,
-            named.block,
-            named.value,
-            table,
-            flags,
-            blocks,
-            copies,
-            held,
-            dirty,
-            &mut words,
-        );
-        let trace = trace_of(stations, named, itself, said, &words);
-        count_trace(stations, trace, totals);
+        let itself = is_served_alone(line.step, &counted.service);
+        let said = counted.service.take_step(given, line.step, &mut words);
+        let trace = trace_of(stations, line.step, itself, said, &words);
+        count_trace(stations, trace, &mut counted.totals);
     }
     Progress {
         sizes: given,
@@ -86,19 +61,12 @@ fn count_first(
     sizes: Sizes,
     first: u64,
     input: &[u8],
-    table: &mut [u64; WORDS],
-    flags: &mut [bool; FLAGS],
-    blocks: &mut [u64; MAX_PLACES],
-    copies: &mut [u64; MAX_CELLS],
-    held: &mut [bool; MAX_CELLS],
-    dirty: &mut [bool; MAX_CELLS],
+    service: &mut HeldService,
 ) -> Progress
-    requires table_len { length table.old ≡ table_words }
-    requires flags_len { length flags.old ≡ lent_flags }
-    ensures { Begins settable sizes first input.now table.old flags.old
-        (lent blocks.old copies.old held.old dirty.old) result
-        table.new flags.new
-        (lent blocks.new copies.new held.new dirty.new) }
+    ensures { Begins settable sizes first input.now service.old.table service.old.flags
+        service.old.stores result
+        service.new.table service.new.flags
+        service.new.stores }
 {
     let line = read_first_setting(input);
     let setting = line.setting;
@@ -111,11 +79,18 @@ fn count_first(
             written: 0,
         };
     }
-    let chosen = choose_sizes(sizes, setting, table, flags, blocks, copies, held, dirty);
+    let chosen = choose_sizes(sizes, setting, service);
     Progress {
         sizes: chosen,
         number: first + 1,
         used: line.next,
         written: 0,
     }
+}
+
+// Whether a client serves the step itself, from what it holds.
+fn is_served_alone(step: Option<Step>, service: &HeldService) -> bool
+    ensures { result ≡ itself_found step service.now.table service.now.stores.held }
+{
+    serves_itself(step, &service.table, &service.stores.held)
 }

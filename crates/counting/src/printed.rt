@@ -40,10 +40,8 @@ fn put_stations(out: &mut [u8], at: usize, stations: usize, totals: &[u64; TOTAL
     ensures upper_bound { result ≤ at + 1360 }
 {
     let mut next = at;
-    let mut station: usize = 0;
-    while station < stations {
+    for station in 0..stations {
         next = put_station(out, next, station, totals);
-        station += 1;
     }
     next
 }
@@ -56,10 +54,8 @@ fn put_station(out: &mut [u8], at: usize, station: usize, totals: &[u64; TOTALS]
     ensures upper_bound { result ≤ at + 170 }
 {
     let mut next = put_byte(out, at, (48 + station) as u8);
-    let mut column: usize = 0;
-    while column < COLUMNS {
+    for column in 0..COLUMNS {
         next = put_argument(out, next, totals[station * COLUMNS + column]);
-        column += 1;
     }
     put_byte(out, next, b'\n')
 }
@@ -73,10 +69,8 @@ fn put_all(out: &mut [u8], at: usize, stations: usize, totals: &[u64; TOTALS]) -
     let second = put_byte(out, at, b'a');
     let third = put_byte(out, second, b'l');
     let mut next = put_byte(out, third, b'l');
-    let mut column: usize = 0;
-    while column < COLUMNS {
+    for column in 0..COLUMNS {
         next = put_argument(out, next, sum_of(stations, column, totals));
-        column += 1;
     }
     put_byte(out, next, b'\n')
 }
@@ -88,10 +82,8 @@ fn sum_of(stations: usize, column: usize, totals: &[u64; TOTALS]) -> u64
     ensures { result ≡ at_most (sum_of stations (λ i. total_at totals.now i column)) }
 {
     let mut sum: u64 = 0;
-    let mut station: usize = 0;
-    while station < stations {
+    for station in 0..stations {
         sum = sum_at_most(sum, totals[station * COLUMNS + column]);
-        station += 1;
     }
     sum
 }
@@ -100,5 +92,5 @@ fn sum_of(stations: usize, column: usize, totals: &[u64; TOTALS]) -> u64
 fn sum_at_most(a: u64, b: u64) -> u64
     ensures { result ≡ at_most (a + b) }
 {
-    if u64::MAX - a < b { u64::MAX } else { a + b }
+    a.saturating_add(b)
 }

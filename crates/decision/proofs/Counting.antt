@@ -31,6 +31,12 @@ unfolding count
 count_agree zero p q same = refl
 count_agree (suc n) p q same = rw (count_agree n p q (λ i h. same i (omega arith)), same n (omega arith))
 
+-- a property that none has
+pub count_none : (n : ℕ) → count n (λ i. false) ≡ 0
+unfolding count
+count_none zero = refl
+count_none (suc n) = rw (count_none n)
+
 -- how many others than i have the property, and whether i does, as a count
 abbrev others : ℕ → (ℕ → Bool) → ℕ → ℕ
 others n p i = count n (λ j. not (eqb j i) && p j)

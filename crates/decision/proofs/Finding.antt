@@ -8,7 +8,9 @@ use native.Mathlib.Omega.{arith}
 use lib.Dec.{ltb}
 use borrow.Author.Tests.{ltb-true, ltb-false, lt-ltb, le-ltb}
 use Rattle.sizes.proofs.Choosing.{split}
-use Rattle.decision.specs.Lists.{first_below}
+use Rattle.std.specs.Prelude.{Some, None}
+use Rattle.std.specs.Option.{is_some}
+use Rattle.decision.specs.Lists.{first_below, found_below}
 
 -- the numbers below k do not have it
 abbrev pub NoneBelow : ℕ → (ℕ → Bool) → Type 0
@@ -72,3 +74,14 @@ pub first_agree : (n : ℕ) (p q : ℕ → Bool) → ((i : ℕ) → i < n → p 
 unfolding first_below
 first_agree zero p q same = refl
 first_agree (suc n) p q same = rw (first_agree n p q (λ i h. same i (omega arith)), same n (omega arith))
+
+-- ---- the number that was found, or none
+
+pub found_is : (n k m : ℕ) → k < n → m ≡ k → found_below n m ≡ Some k
+found_is n k m below is = rw (is, lt-ltb k n below)
+
+pub found_none : (n m : ℕ) → m ≡ n → found_below n m ≡ None
+found_none n m is = rw (is, le-ltb n n (omega arith))
+
+pub found_some : (n m : ℕ) → is_some (found_below n m) ≡ ltb m n
+found_some n m = split (ltb m n) (λ e. rw e) (λ e. rw e)

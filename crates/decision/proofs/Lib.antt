@@ -6,3 +6,4 @@ pub mod Beyond
 pub mod Storing
 pub mod CallOrder
 pub mod Finding
+pub mod Chains

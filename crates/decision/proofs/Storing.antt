@@ -1,14 +1,18 @@
 -- Storing: `stored n place v l` is the list l with v k stored at place k for each k below n. Its laws, and a loop that
 -- stores one by one. Assumes nothing.
-use Prim.Native.Nat.{ℕ, zero, suc, ◌+◌, ◌≤◌, ◌<◌}
+use Prim.Native.Nat.{ℕ, zero, suc, ◌+◌, ◌-◌, ◌≤◌, ◌<◌}
 use mathlib.Core.Path.{◌≡◌, refl, sym, ap, ◌∙◌}
-use mathlib.Core.List.{List}
+use mathlib.Core.List.{List, ◌++◌}
 use mathlib.Core.Logic.{◌≢◌, ⊎_elim}
 use native.Mathlib.Nat.{eq-or-lt_of_le, le_of_suc-le-suc}
 use native.Mathlib.Numerals.{add-one}
 use native.Mathlib.Omega.{arith}
-use lib.ListN.{length, get_or, set, length-set}
-use lib.Seq.{get_or-set_same, get_or-set_other, set-get_or, ext_get_or}
+use lib.Dec.{ltb}
+use lib.ListN.{length, get_or, set, length-set, get_or-append, drop}
+use lib.Seq.{get_or-set_same, get_or-set_other, set-get_or, ext_get_or, get_or-append_right}
+use borrow.Author.Tests.{ltb-true, ltb-false}
+use Rattle.std.proofs.lemmas.List.{get_or-drop, length-append, length-drop}
+use Rattle.sizes.proofs.Choosing.{split}
 use Rattle.decision.specs.Lists.{stored}
 
 module _ {ℓ} {A : Type ℓ} where
@@ -70,6 +74,30 @@ stored_whole n d l l₀ long long₀ =
     (λ i h.
     let below : i < n = omega (arith, h, size) in
     get_d_stored n (λ k. k) (λ k. get_or l k d) l₀ d i below (omega (arith, below, long₀)) (λ k a b e. omega (arith, a, e)))
+
+-- a list of n values in front of what lies past the first n
+pub stored_first {ℓ} : {A : Type ℓ} (n : ℕ) (d : A) (v : ℕ → A) (ys l : List A) → length ys ≡ n → n ≤ length l
+    → ((k : ℕ) → k < n → get_or ys k d ≡ v k) → ys ++ drop n l ≡ stored n (λ k. k) v l
+stored_first n d v ys l long fits same =
+    let size : length (stored n (λ k. k) v l) ≡ length l = length_stored n (λ k. k) v l in
+    let at-place : (i : ℕ) → n ≤ i → n + (i - n) ≡ i = λ i past. omega arith in
+    let sized : length (ys ++ drop n l) ≡ length l = rw (length-append, long, length-drop) (omega arith) in
+    ext_get_or d (ys ++ drop n l) (stored n (λ k. k) v l) (sized ∙ sym size)
+    (λ i h.
+    let below : i < length l = omega (arith, h, sized) in
+    split (ltb i n)
+    (λ e.
+    let less : i < n = ltb-true i n e in
+    get_or-append ys (drop n l) d i (omega (arith, long))
+    ∙ same i less
+    ∙ sym (get_d_stored n (λ k. k) v l d i less below (λ k a b e. omega (arith, a, e))))
+    (λ e.
+    let past : n ≤ i = ltb-false i n e in
+    get_or-append_right ys (drop n l) i d (omega (arith, long))
+    ∙ ap (λ (j : ℕ). get_or (drop n l) (i - j) d) long
+    ∙ get_or-drop n l (i - n) d
+    ∙ ap (λ (j : ℕ). get_or l j d) (at-place i past)
+    ∙ sym (get_d_stored_other n (λ k. k) v l d i (λ k below e. omega (arith, below, e)))))
 
 -- The invariant of a loop that stores up to n: i values are stored into l₀, which gives l.
 pub record Stored {ℓ} {A : Type ℓ} (n : ℕ) (place : ℕ → ℕ) (v : ℕ → A) (l₀ l : List A) (i : ℕ) : Type ℓ where

@@ -1,5 +1,6 @@
 -- Counting, storing and choosing, for any size.
-use Rattle.std.specs.Prelude.{ℕ, zero, suc, ◌+◌, Bool, cond, List, [], ◌∷◌, ltb, set}
+use Rattle.std.specs.Prelude.{ℕ, zero, suc, ◌+◌, Bool, cond, List, [], ◌∷◌, Some, None, ltb, set}
+use Rattle.std.specs.declared.option.Option.{Option}
 
 -- how many of the numbers below n have the property p
 unfoldable pub count : ℕ → (ℕ → Bool) → ℕ
@@ -10,6 +11,10 @@ count (suc n) p = count n p + cond (p n) 1 0
 unfoldable pub first_below : ℕ → (ℕ → Bool) → ℕ
 first_below zero p = 0
 first_below (suc n) p = cond (ltb (first_below n p) n) (first_below n p) (cond (p n) n (suc n))
+
+-- the number k where it is below n, and so was found
+abbrev pub found_below : ℕ → ℕ → Option ℕ
+found_below n k = cond (ltb k n) (Some k) None
 
 -- the list l with value k stored at place k, for each k below n
 unfoldable pub stored {ℓ} : {A : Type ℓ} → ℕ → (ℕ → ℕ) → (ℕ → A) → List A → List A

@@ -3,11 +3,13 @@
 // of the 1989 paper has them.
 #![tactic(auto)]
 
+mod below;
 mod callback;
 mod kind;
 mod permission;
 mod state;
 
+pub use below::count_below;
 pub use callback::{callback_kind, callbacks_due};
 pub use kind::{asks_nothing, invalidates, writes_back};
 pub use permission::permission_at_grant;

@@ -1,6 +1,5 @@
 // The state of a file, named from the records of its clients.
-ghost use Rattle.std.specs.Prelude.{◌≡◌, cond, ◌&&◌, ◌≤◌, ltb, set};
-ghost use Rattle.records.specs.Record.{is_open};
+ghost use Rattle.std.specs.Prelude.{◌≡◌, cond, ◌≤◌, set};
 ghost use Rattle.sizes.specs.Sizes.{max_clients};
 ghost use Rattle.decision.specs.State.{code_of, record_in, has, tallies_of, state_of};
 
@@ -10,13 +9,13 @@ use sizes::MAX_CLIENTS;
 // The states of the 1989 paper's section 4.3.4.
 #[derive(Clone, Copy)]
 pub enum FileState {
-    Closed,
-    ClosedDirty,
-    OneReader,
-    OneReaderDirty,
-    MultReaders,
-    OneWriter,
-    WriteShared,
+    Closed = 0,
+    ClosedDirty = 1,
+    OneReader = 2,
+    OneReaderDirty = 3,
+    MultReaders = 4,
+    OneWriter = 5,
+    WriteShared = 6,
 }
 
 // What a client is counted for.
@@ -34,15 +33,7 @@ impl FileState {
     pub fn code(self) -> u8
         ensures { result ≡ code_of self }
     {
-        match self {
-            FileState::Closed => 0,
-            FileState::ClosedDirty => 1,
-            FileState::OneReader => 2,
-            FileState::OneReaderDirty => 3,
-            FileState::MultReaders => 4,
-            FileState::OneWriter => 5,
-            FileState::WriteShared => 6,
-        }
+        self as u8
     }
 }
 
@@ -84,7 +75,7 @@ pub fn with_record(
 pub fn one_if(holds: bool) -> usize
     ensures { result ≡ cond holds 1 0 }
 {
-    if holds { 1 } else { 0 }
+    usize::from(holds)
 }
 
 // How many clients are open, open without permission to cache, and open with writers.
@@ -113,13 +104,10 @@ fn tallies_up_to(records: [ClientRecord; MAX_CLIENTS], clients: usize) -> Tallie
     let mut open: usize = 0;
     let mut uncached: usize = 0;
     let mut writing: usize = 0;
-    let mut i = 0;
-    while i < clients {
-        let counted = records[i];
-        open += one_if(has(counted, Property::Open));
-        uncached += one_if(has(counted, Property::Uncached));
-        writing += one_if(has(counted, Property::Writing));
-        i += 1;
+    for i in 0..clients {
+        open += one_if(has(records[i], Property::Open));
+        uncached += one_if(has(records[i], Property::Uncached));
+        writing += one_if(has(records[i], Property::Writing));
     }
     Tallies {
         open,
@@ -133,71 +121,15 @@ pub fn state_of(records: [ClientRecord; MAX_CLIENTS], clients: usize, last: u8) 
     ensures { result ≡ state_of clients (record_in records) last }
 {
     let counted = tallies_of(records, clients);
+    let among = (last as usize) < clients;
     let open = counted.open;
     match open {
-        0 => {
-            if (last as usize) < clients {
-                FileState::ClosedDirty
-            } else {
-                FileState::Closed
-            }
-        }
-        1 => one_open(records, clients, last, counted),
-        _ => {
-            if 0 < counted.uncached {
-                FileState::WriteShared
-            } else {
-                FileState::MultReaders
-            }
-        }
-    }
-}
-
-// The state of a file that one client has open.
-fn one_open(
-    records: [ClientRecord; MAX_CLIENTS],
-    clients: usize,
-    last: u8,
-    counted: Tallies,
-) -> FileState
-    requires counted_value { counted ≡ tallies_of clients (record_in records) }
-    requires open_value { counted.«open» ≡ 1 }
-    ensures { result ≡ state_of clients (record_in records) last }
-{
-    let uncached = counted.uncached;
-    match uncached {
-        0 => one_cached(records, clients, last, counted),
-        _ => FileState::WriteShared,
-    }
-}
-
-// The same, where that client may cache.
-fn one_cached(
-    records: [ClientRecord; MAX_CLIENTS],
-    clients: usize,
-    last: u8,
-    counted: Tallies,
-) -> FileState
-    requires counted_value { counted ≡ tallies_of clients (record_in records) }
-    requires open_value { counted.«open» ≡ 1 }
-    requires uncached_value { counted.uncached ≡ 0 }
-    ensures { result ≡ state_of clients (record_in records) last }
-{
-    let writing = counted.writing;
-    match writing {
-        0 => one_reader(records, clients, last),
-        _ => FileState::OneWriter,
-    }
-}
-
-// The same, where it only reads: it may have been the last to write.
-fn one_reader(records: [ClientRecord; MAX_CLIENTS], clients: usize, last: u8) -> FileState
-    ensures { result ≡ cond (ltb last clients && is_open (record_in records last)) FileState.OneReaderDirty FileState.OneReader }
-{
-    let reader = record_of(records, last as usize);
-    let dirty = one_if(((last as usize) < clients) & reader.is_open());
-    match dirty {
-        0 => FileState::OneReader,
-        _ => FileState::OneReaderDirty,
+        0 if among => FileState::ClosedDirty,
+        0 => FileState::Closed,
+        _ if 0 < counted.uncached => FileState::WriteShared,
+        1 if 0 < counted.writing => FileState::OneWriter,
+        1 if among & record_of(records, last as usize).is_open() => FileState::OneReaderDirty,
+        1 => FileState::OneReader,
+        _ => FileState::MultReaders,
     }
 }

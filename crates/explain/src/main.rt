@@ -2,5 +2,5 @@
 #![tactic(auto)]
 
 fn main(rt: HostRuntime) {
-    console::run(&rt, &rt.stderr(), console::EXPLAIN);
+    console::explain(&rt, &rt.stderr());
 }

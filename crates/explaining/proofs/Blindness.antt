@@ -6,7 +6,6 @@ use mathlib.Core.List.{List}
 use lib.Dec.{eqb}
 use lib.ListN.{length}
 use Rattle.service.specs.declared.outcome.Outcome.{Outcome}
-use Rattle.stepfile.specs.declared.setting.Setting.{Setting}
 use Rattle.stepfile.specs.Grammar.{parse_line}
 use Rattle.stepfile.specs.Played.{outcome_of}
 use Rattle.stepfile.proofs.Longest.{no_step, no_setting}
@@ -16,6 +15,7 @@ use Rattle.ledger.specs.declared.ledger.Ledger.{Ledger}
 use Rattle.ledger.specs.Refusals.{refusals_after}
 use Rattle.ledger.specs.Annotated.{ledger_of, annotated_after}
 use Rattle.sentences.specs.Explained.{no_step_text, setting_text, said_of_line, explained_text, explained_line}
+use Rattle.stepfile.specs.Setting.{Setting}
 
 module _ (fresh : Bool) (t : Annotated) (n : ℕ) where
   -- in words that do not name the line

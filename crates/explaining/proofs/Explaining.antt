@@ -3,7 +3,7 @@
 use Prim.Native.Nat.{ℕ, ◌+◌, ◌%◌, ◌≤◌, ◌<◌}
 use mathlib.Core.Path.{◌≡◌, refl, sym, ap, subst, ◌∙◌}
 use mathlib.Core.Bool.{Bool, true, false, cond, ◌&&◌, true≢false}
-use mathlib.Core.List.{List, []}
+use mathlib.Core.List.{List}
 use native.Mathlib.Omega.{arith}
 use native.Mathlib.Nat.{mod-eq_of_lt}
 use lib.Dec.{eqb, leb}
@@ -24,7 +24,7 @@ use Rattle.protocol.specs.Client.{no_client, side_of}
 use borrow.Author.Tests.{eqb-true, leb-false}
 use Rattle.protocol.specs.Reply.{is_refused, no_calls, no_grants}
 use Rattle.protocol.specs.Step.{numbers_of, client_of, file_of, block_of}
-use Rattle.blocks.specs.Stores.{Stores, lent}
+use Rattle.blocks.specs.declared.stores.Stores.{Stores}
 use Rattle.table.specs.TableStep.{no_entry, no_sides, is_reported}
 use Rattle.words.specs.Words.{side_held}
 use Rattle.words.specs.Rows.{table_words, word_at, entry_held, sides_held, file_held}
@@ -37,22 +37,18 @@ use Rattle.service.specs.Contents.{sizes_of, table_in, entry_at, embargoed_at, s
 use Rattle.service.specs.Step.{step_of}
 use Rattle.service.specs.Lent.{service_held, Stepped}
 use Rattle.service.specs.Demand3.{refused}
-use Rattle.service.proofs.Speaking.{asked_outcome, stepped_outcome}
+use Rattle.service.proofs.Speaking.{stepped_outcome}
 use Rattle.service.proofs.Tests.{split, conflict}
-use Rattle.stepfile.specs.declared.parsed.Parsed.{Parsed}
-use Rattle.stepfile.specs.declared.parsed.Parsed.TheVariants.{Is, NoStep}
-use Rattle.stepfile.specs.declared.setting.Setting.{Setting}
-use Rattle.stepfile.specs.declared.setting.Setting.TheVariants.{Are, OutOfRange, Missing}
-use Rattle.stepfile.specs.Setting.{setting_of}
+use Rattle.stepfile.specs.declared.setting.NoSizes.TheVariants.{OutOfRange, Missing}
+use Rattle.stepfile.specs.Setting.{setting_of, Setting}
 use Rattle.stepfile.specs.Played.{refused_with, set_outcome, outcome_of}
 use Rattle.reader.specs.FirstLine.{is_set}
-use Rattle.stepfile.specs.declared.parsed.Read.TheVariants.{Line}
-use Rattle.stepfile.specs.Input.{read_at}
+use Rattle.stepfile.specs.Input.{read_at, line_of}
 use Rattle.writer.specs.Buffer.{WroteIfRoom}
 use Rattle.ledger.specs.declared.annotated.Annotated.{Annotated}
 use Rattle.ledger.specs.declared.ledger.Ledger.{Ledger}
 use Rattle.ledger.specs.declared.lines.Lines.{Lines}
-use Rattle.ledger.specs.Ledger.{entered, waiting_since, embargoed_since, lines_at, noted, told_of, may_cache, holds_block, is_aside}
+use Rattle.ledger.specs.Ledger.{waiting_since, embargoed_since, lines_at, noted, told_of, may_cache, holds_block, is_aside}
 use Rattle.ledger.specs.Ledger.{step_told, ledger_after}
 use Rattle.ledger.specs.Refusals.{refusals_after}
 use Rattle.ledger.specs.Wrapped.{wrapped_step}
@@ -69,6 +65,7 @@ use Rattle.explaining.specs.declared.tell.Seen.{Seen}
 use Rattle.explaining.specs.Lines.{explaining, setting_at, state_held, TellsLine}
 use Rattle.explaining.proofs.Scenes.{scene_by, clash_said, no_client_refused, said_alike}
 use Rattle.explaining.proofs.Wholes.{kept_whole, kept_row, Alike, opened_agree, forgotten_agree}
+use Rattle.std.proofs.Common.{Option, Some, None, Ok, Err}
 
 -- ---- what is kept from before a step
 
@@ -92,14 +89,14 @@ module _
     (fresh : Bool) (given sizes : Sizes) (sized : sizes ≡ in_force given) (n : ℕ) (x : Step) (q : Numbers)
     (is : q ≡ numbers_of x) (t₀ : List ℕ) (flags₀ : List Bool) (a₀ : Stores) (words₀ t : List ℕ) (flags : List Bool)
     (a : Stores) (words : List ℕ) (said : ℕ)
-    (taken : Stepped given q.kind q.client q.file q.block q.value t₀ flags₀ a₀ words₀ t flags a words said)
+    (taken : Stepped given (Some x) t₀ flags₀ a₀ words₀ t flags a words said)
     (t-long : length t₀ ≡ table_words)
     (l₀ : Ledger) (b₀ before : List ℕ) (b_long : length b₀ ≡ table_words)
     (kept : before ≡ kept_before q.kind q.file t₀ b₀) (seen : Seen)
     (caching : seen.caching ≡ (side_held (word_at before (q.file % max_files) (10 + q.client % max_clients))).opens.caching)
     (told :
     seen.told
-    ≡ told_of seen.caching (lent [] [] a₀.held a₀.dirty) (entered l₀.written l₀.writers l₀.copied [])
+    ≡ told_of seen.caching a₀ l₀
     (q.client % max_clients) (q.file % max_files) (q.block % max_blocks))
     (holds :
     seen.holds
@@ -135,7 +132,7 @@ module _
         grants = grants_said said words;
       })
       o
-  outcome_is = stepped_outcome given x q t₀ flags₀ a₀ words₀ t flags a words said is taken
+  outcome_is = stepped_outcome given x t₀ flags₀ a₀ words₀ t flags a words said taken
 
   service_is : service_held given t flags a ≡ o.service
   service_is = ap (λ (k : Outcome). k.service) outcome_is
@@ -147,8 +144,7 @@ module _
   calls_is = ap (λ (k : Outcome). k.calls) outcome_is
 
   says : Says said words o.reply o.calls o.grants
-  says =
-      subst (λ (k : Outcome). Says said words k.reply k.calls k.grants) (asked_outcome s x q is) taken.says.says
+  says = taken.says.says
 
   -- the row of the file, as it was
   row_is : file_held before f ≡ file_held t₀ f
@@ -174,12 +170,12 @@ module _
         told
             ∙ ap
             (λ (r : Numbers).
-            told_of seen.caching (lent [] [] a₀.held a₀.dirty) (entered l₀.written l₀.writers l₀.copied [])
+            told_of seen.caching a₀ l₀
             (r.client % max_clients) (r.file % max_files) (r.block % max_blocks))
             is
             ∙ ap
             (λ (c : Bool).
-            told_of c (lent [] [] a₀.held a₀.dirty) (entered l₀.written l₀.writers l₀.copied []) i f b)
+            told_of c a₀ l₀ i f b)
             caching_is
             ∙ as-told,
         caching_is ∙ as-cached,
@@ -193,7 +189,7 @@ module _
 
   -- the scene that the arrays hold
   abbrev lines : ℕ → ℕ → Lines
-  lines = lines_at (entered l₀.written l₀.writers [] [])
+  lines = lines_at l₀
 
   abbrev held : List ℕ
   held =
@@ -316,7 +312,7 @@ module _
       ≡ noted n (wrapped_step x) (reply_said said words) seen.caching seen.holds (aside_held flags₀ (client_of x)) l₀
       → refusals ≡ refusals_after (reply_said said words) refusals₀
       → (text : List ℕ)
-      → TellsLine fresh (state_held given t₀ flags₀ a₀ l₀ refusals₀) n text (Is x) out₀ at (state_held given t flags a l refusals) out at'
+      → TellsLine fresh (state_held given t₀ flags₀ a₀ l₀ refusals₀) n text (Some x) out₀ at (state_held given t flags a l refusals) out at'
   step_told_lem refusals₀ out₀ at l refusals out at' wrote most notes counts text =
       let ledger : l ≡ ledger_after n s x l₀ =
       notes
@@ -338,17 +334,17 @@ module _
 
 -- it is told by what it sets
 module _ (fresh : Bool) (s : Service) (n : ℕ) (text : List ℕ) (x : Setting) (set : x ≡ setting_at fresh n text) where
-  outcome_set : set_outcome s x ≡ outcome_of fresh s n text NoStep
+  outcome_set : set_outcome s x ≡ outcome_of fresh s n text None
   outcome_set = ap (set_outcome s) set ∙ by (fresh && eqb n 1)
     where
-      by : (first : Bool) → set_outcome s (cond first (setting_of text) Missing) ≡ cond first (set_outcome s (setting_of text)) (refused_with s 1)
+      by : (first : Bool) → set_outcome s (cond first (setting_of text) (Err Missing)) ≡ cond first (set_outcome s (setting_of text)) (refused_with s 1)
       by true = refl
       by false = refl
 
   said_set : setting_text x ≡ cond (fresh && eqb n 1) (setting_text (setting_of text)) no_step_text
   said_set = ap setting_text set ∙ by (fresh && eqb n 1)
     where
-      by : (first : Bool) → setting_text (cond first (setting_of text) Missing) ≡ cond first (setting_text (setting_of text)) no_step_text
+      by : (first : Bool) → setting_text (cond first (setting_of text) (Err Missing)) ≡ cond first (setting_text (setting_of text)) no_step_text
       by true = refl
       by false = refl
 
@@ -356,17 +352,17 @@ module _ (fresh : Bool) (s : Service) (n : ℕ) (text : List ℕ) (x : Setting) 
   no_calls_lem = by x
     where
       by : (y : Setting) → no_calls ≡ (set_outcome s y).calls
-      by (Are z) = refl
-      by OutOfRange = refl
-      by Missing = refl
+      by (Ok z) = refl
+      by (Err OutOfRange) = refl
+      by (Err Missing) = refl
 
   no_grants_lem : no_grants ≡ (set_outcome s x).grants
   no_grants_lem = by x
     where
       by : (y : Setting) → no_grants ≡ (set_outcome s y).grants
-      by (Are z) = refl
-      by OutOfRange = refl
-      by Missing = refl
+      by (Ok z) = refl
+      by (Err OutOfRange) = refl
+      by (Err Missing) = refl
 
   pub set_told :
       (l : Ledger) (s' : Service) (reply : Reply) (refusals₀ refusals out₀ : List ℕ) (at : ℕ) (out : List ℕ) (at' : ℕ)
@@ -375,10 +371,10 @@ module _ (fresh : Bool) (s : Service) (n : ℕ) (text : List ℕ) (x : Setting) 
       → WroteIfRoom explained_room out₀ at (explained_text n reply no_calls no_grants (setting_text x)) out at'
       → at' ≤ at + explained_room
       → refusals ≡ refusals_after reply refusals₀
-      → TellsLine fresh (record { service = s; ledger = l; refusals = refusals₀ }) n text NoStep out₀ at
+      → TellsLine fresh (record { service = s; ledger = l; refusals = refusals₀ }) n text None out₀ at
       (record { service = s'; ledger = l; refusals = refusals }) out at'
   set_told l s' reply refusals₀ refusals out₀ at out at' goes replies wrote most counts =
-      let o : Outcome = outcome_of fresh s n text NoStep in
+      let o : Outcome = outcome_of fresh s n text None in
       let outcome : ◌≡◌ {A = Outcome} (record { service = s'; reply = reply; calls = no_calls; grants = no_grants }) o =
       (λ k. record { service = goes k; reply = replies k; calls = no_calls_lem k; grants = no_grants_lem k }) ∙ outcome_set in
       let counted : refusals ≡ refusals_after o.reply refusals₀ =
@@ -398,15 +394,15 @@ module _ (fresh : Bool) (s : Service) (n : ℕ) (text : List ℕ) (x : Setting) 
       }
 
 -- a line that does not choose the sizes sets nothing
-pub sets_nothing : (fresh : Bool) (n : ℕ) (text : List ℕ) → ((fresh && eqb n 1) && is_set (setting_of text)) ≡ false → Missing ≡ setting_at fresh n text
+pub sets_nothing : (fresh : Bool) (n : ℕ) (text : List ℕ) → ((fresh && eqb n 1) && is_set (setting_of text)) ≡ false → (Err Missing) ≡ setting_at fresh n text
 sets_nothing fresh n text plain = sym (by (fresh && eqb n 1) plain)
   where
-    unset : (x : Setting) → is_set x ≡ false → x ≡ Missing
-    unset (Are z) e = absurd (true≢false e)
-    unset OutOfRange e = absurd (true≢false e)
-    unset Missing e = refl
+    unset : (x : Setting) → is_set x ≡ false → x ≡ (Err Missing)
+    unset (Ok z) e = absurd (true≢false e)
+    unset (Err OutOfRange) e = absurd (true≢false e)
+    unset (Err Missing) e = refl
 
-    by : (first : Bool) → (first && is_set (setting_of text)) ≡ false → cond first (setting_of text) Missing ≡ Missing
+    by : (first : Bool) → (first && is_set (setting_of text)) ≡ false → cond first (setting_of text) (Err Missing) ≡ (Err Missing)
     by true e = unset (setting_of text) e
     by false e = refl
 
@@ -414,9 +410,9 @@ sets_nothing fresh n text plain = sym (by (fresh && eqb n 1) plain)
 
 pub line_told :
     (fresh : Bool) (s₀ : Annotated) (first : ℕ) (input out₀ : List ℕ) (s : Annotated) (number used to : ℕ) (out₁ : List ℕ)
-    (p : Parsed) (next : ℕ) (s' : Annotated) (to' : ℕ) (out₂ : List ℕ)
+    (p : Option Step) (next : ℕ) (s' : Annotated) (to' : ℕ) (out₂ : List ℕ)
     → Reached (explaining fresh) s₀ first input out₀ s number used to out₁
-    → read_at input used ≡ Line p next
+    → read_at input used ≡ line_of p next
     → can_tell explained_room (length out₁) to number ≡ true
     → TellsLine fresh s number (line_bytes input used next) p out₁ to s' out₂ to'
     → Reached (explaining fresh) s₀ first input out₀ s' (number + 1) next to' out₂

@@ -6,7 +6,7 @@ use mathlib.Core.Path.{◌≡◌, ap}
 use mathlib.Core.Bool.{Bool, true}
 use mathlib.Core.List.{List}
 use Rattle.sizes.specs.Sizes.{default_sizes}
-use Rattle.blocks.specs.Stores.{Stores}
+use Rattle.blocks.specs.declared.stores.Stores.{Stores}
 use Rattle.service.specs.declared.service.Service.{Service}
 use Rattle.service.specs.Fresh.{fresh as fresh_service}
 use Rattle.service.specs.Lent.{service_held}
@@ -18,7 +18,8 @@ use Rattle.telling.specs.Session.{standing_at}
 use Rattle.telling.specs.Run.{Leg, input}
 use Rattle.telling.proofs.WholeRun.{run-tells, run-comes}
 use Rattle.explaining.specs.Lines.{explaining}
-use Rattle.explaining.specs.Session.{fresh_session, resumed_session, standing}
+use Rattle.playing.specs.Session.{fresh_session, resumed_session}
+use Rattle.explaining.specs.Session.{standing}
 use Rattle.explaining.specs.Run.{Follows, output, at_end, explained_from, explained_file}
 use Rattle.explaining.proofs.Blindness.{explained_blind}
 

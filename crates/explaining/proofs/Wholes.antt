@@ -2,7 +2,7 @@
 -- said of such a step looks at the files in force alone. Assumes nothing.
 use Prim.Native.Nat.{ℕ, zero, suc, ◌+◌, ◌*◌, ◌%◌, ◌≤◌, ◌<◌}
 use mathlib.Core.Path.{◌≡◌, refl, ap, ◌∙◌, subst⁻¹, fun_ext}
-use mathlib.Core.Bool.{Bool, true, false, cond}
+use mathlib.Core.Bool.{Bool, true, cond}
 use mathlib.Core.List.{List, ◌++◌}
 use native.Mathlib.Omega.{arith}
 use lib.Dec.{leb}
@@ -15,11 +15,9 @@ use Rattle.decision.specs.Lists.{stored}
 use Rattle.decision.proofs.Counting.{count_agree}
 use Rattle.decision.proofs.Storing.{get_d_stored, length_stored, stored_whole}
 use Rattle.protocol.specs.declared.client.ClientFile.{ClientFile}
-use Rattle.protocol.specs.declared.entry.Entry.{Entry}
-use Rattle.words.specs.Rows.{row_words, table_words, word_at, file_held}
+use Rattle.words.specs.Rows.{row_words, table_words, file_held}
 use Rattle.words.proofs.Places.{same_row}
 use Rattle.stepfile.specs.Text.{bytes}
-use Rattle.ledger.specs.declared.lines.Lines.{Lines}
 use Rattle.phrases.specs.Phrase.{numbers_text, list_text}
 use Rattle.phrases.specs.Accepted.{risks_text}
 use Rattle.sentences.specs.Scene.{Whole, kept_before}

@@ -1,13 +1,11 @@
 -- The lines of a buffer, explained on the service that lent arrays hold and what is noted beside it. The Bool `fresh`
 -- says whether the session began with the fresh service: a first line may choose its sizes then.
-use Rattle.std.specs.Prelude.{ℕ, ◌+◌, ◌≤◌, ◌≡◌, Bool, false, cond, ◌&&◌, List, eqb, length, drop}
+use Rattle.std.specs.Prelude.{ℕ, ◌+◌, ◌≤◌, ◌≡◌, Bool, false, cond, ◌&&◌, List, eqb, length, drop, Option, Err}
 use Rattle.sizes.specs.declared.sizes.Sizes.{Sizes}
-use Rattle.blocks.specs.Stores.{Stores}
+use Rattle.blocks.specs.declared.stores.Stores.{Stores}
 use Rattle.service.specs.Lent.{service_held}
-use Rattle.stepfile.specs.declared.parsed.Parsed.{Parsed}
-use Rattle.stepfile.specs.declared.setting.Setting.{Setting}
-use Rattle.stepfile.specs.declared.setting.Setting.TheVariants.{Missing}
-use Rattle.stepfile.specs.Setting.{setting_of}
+use Rattle.stepfile.specs.declared.setting.NoSizes.TheVariants.{Missing}
+use Rattle.stepfile.specs.Setting.{setting_of, Setting}
 use Rattle.writer.specs.Buffer.{WroteIfRoom}
 use Rattle.ledger.specs.declared.annotated.Annotated.{Annotated}
 use Rattle.ledger.specs.declared.ledger.Ledger.{Ledger}
@@ -16,8 +14,9 @@ use Rattle.sentences.specs.Explained.{explained_line, explained_by, explained_ro
 use Rattle.picture.specs.Picture.{picture_text, picture_room}
 use Rattle.telling.specs.Lines.{Telling, Reach, Tells, can_tell}
 use Rattle.telling.specs.Reached.{Reached}
-use Rattle.playing.specs.Lines.{chooses_sizes, Long}
-use Rattle.explaining.specs.declared.lines.Progress.{Progress}
+use Rattle.playing.specs.Lines.{chooses_sizes, reach_with}
+use Rattle.playing.specs.declared.lines.Progress.{Progress}
+use Rattle.protocol.specs.declared.step.Step.{Step}
 
 -- a line is explained by what `play` prints for it and a sentence, and the end by the picture
 abbrev pub explaining : Bool → Telling Annotated
@@ -36,12 +35,12 @@ state_held z t flags a l refusals = record { service = service_held z t flags a;
 
 -- what line l, numbered n, sets: only the first may, in a session that began with the fresh service
 abbrev pub setting_at : Bool → ℕ → List ℕ → Setting
-setting_at fresh n l = cond (fresh && eqb n 1) (setting_of l) Missing
+setting_at fresh n l = cond (fresh && eqb n 1) (setting_of l) (Err Missing)
 
 -- Line l, numbered n, which gives p, is told from the state s: s' is the state after it, and its text is written from
 -- the offset on, if there is room.
 pub record TellsLine
-    (fresh : Bool) (s : Annotated) (n : ℕ) (l : List ℕ) (p : Parsed) (out₀ : List ℕ) (at : ℕ) (s' : Annotated)
+    (fresh : Bool) (s : Annotated) (n : ℕ) (l : List ℕ) (p : Option Step) (out₀ : List ℕ) (at : ℕ) (s' : Annotated)
     (out : List ℕ) (at' : ℕ) : Type 0 where
   pub next : s' ≡ annotated_by fresh s n l p
   pub wrote : WroteIfRoom explained_room out₀ at (explained_by fresh s n l p) out at'
@@ -49,13 +48,7 @@ pub record TellsLine
 
 -- how far it went, with the state that the arrays hold then
 abbrev pub reach_held : Progress → List ℕ → List Bool → Stores → Ledger → List ℕ → Reach Annotated
-reach_held p t flags a l refusals =
-    record {
-      state = state_held p.sizes t flags a l refusals;
-      number = p.number;
-      used = p.used;
-      written = p.written;
-    }
+reach_held p t flags a l refusals = reach_with p (state_held p.sizes t flags a l refusals)
 
 -- The lines of an input are explained, the first of them numbered n: what is told of them from the state that the
 -- arrays held is in the output buffer, and the arrays hold the state after them.
@@ -65,7 +58,6 @@ pub record Explains
     (refusals : List ℕ) : Type 0 where
   pub tells :
       Tells (explaining fresh) (state_held z t₀ flags₀ a₀ l₀ refusals₀) n input out₀ (reach_held p t flags a l refusals) out
-  pub long : Long t₀ flags₀ t flags
 
 -- An input begins with a line that chooses the sizes, and it is told, or nothing is: no line that can be told next
 -- chooses them. The ledger notes nothing of it.
@@ -80,4 +72,3 @@ pub record Begins
       (chooses_sizes fresh p.number (drop p.used input)
       && can_tell explained_room (length out) p.written p.number)
       ≡ false
-  pub long : Long t₀ flags₀ t flags

@@ -1,33 +1,24 @@
 // The lines of a buffer, explained.
-ghost use Rattle.std.specs.Prelude.{◌≡◌, length};
-ghost use Rattle.blocks.specs.Stores.{lent};
+ghost use Rattle.std.specs.Prelude.{ℕ, ◌≡◌, List, Some, length};
+ghost use Rattle.sizes.specs.Sizes.{in_force};
 ghost use Rattle.words.specs.Rows.{table_words};
-ghost use Rattle.service.specs.Lent.{lent_flags};
+ghost use Rattle.words.specs.Said.{said_room};
 ghost use Rattle.ledger.specs.declared.ledger.Ledger.{Ledger};
-ghost use Rattle.ledger.specs.Ledger.{entered};
-ghost use Rattle.explaining.specs.Lines.{Explains, Begins};
+ghost use Rattle.service.specs.Lent.{lent_flags};
+ghost use Rattle.sentences.specs.Scene.{kept_before};
+ghost use Rattle.explaining.specs.Lines.{Explains, Begins, TellsLine, state_held};
 
+use crate::noted_service::NotedService;
 use crate::tell::{look, tell_no_step, tell_setting, tell_step};
-use ledger::{BEGINNINGS, NOTES, REFUSAL_NUMBERS};
-use protocol::asked;
+use ledger::REFUSAL_NUMBERS;
+use playing::Progress;
+use protocol::{Numbers, Step, asked};
 use reader::{is_set, read_at, read_first_setting};
 use sentences::{EXPLAINED_ROOM, keep_before};
-use service::{FLAGS, take_step};
-use sizes::{MAX_CELLS, MAX_PLACES, Sizes};
-use stepfile::{Parsed, Read};
+use service::HeldService;
+use sizes::Sizes;
 use telling::can_tell;
 use words::{SAID, WORDS};
-
-// How far a buffer was explained.
-#[derive(Clone, Copy)]
-pub struct Progress {
-    pub sizes: Sizes,
-    // The number of the next line.
-    pub number: u64,
-    // The bytes of the input that were explained, and those of the output that were written.
-    pub used: usize,
-    pub written: usize,
-}
 
 // Explains the whole lines of the input, the first of them numbered so, from the start of out on, as long as another
 // line can be told. If the session began with the fresh service, line 1 may choose the sizes.
@@ -37,31 +28,25 @@ pub fn explain_lines(
     first: u64,
     input: &[u8],
     out: &mut [u8],
-    table: &mut [u64; WORDS],
-    flags: &mut [bool; FLAGS],
-    blocks: &mut [u64; MAX_PLACES],
-    copies: &mut [u64; MAX_CELLS],
-    held: &mut [bool; MAX_CELLS],
-    dirty: &mut [bool; MAX_CELLS],
-    written: &mut [u64; NOTES],
-    writers: &mut [u8; NOTES],
-    copied: &mut [u64; MAX_CELLS],
-    since: &mut [u64; BEGINNINGS],
-    refusals: &mut [u64; REFUSAL_NUMBERS],
+    noted: &mut NotedService,
 ) -> Progress
-    requires table_len { length table.old ≡ table_words }
-    requires flags_len { length flags.old ≡ lent_flags }
-    ensures { Explains fresh sizes first input.now out.old table.old
-        flags.old
-        (lent blocks.old copies.old held.old dirty.old)
-        (entered written.old writers.old copied.old since.old)
-        refusals.old result out.new table.new flags.new
-        (lent blocks.new copies.new held.new dirty.new)
-        (entered written.new writers.new copied.new since.new)
-        refusals.new }
+    ensures { Explains fresh sizes first input.now out.old noted.old.service.table
+        noted.old.service.flags
+        noted.old.service.stores
+        noted.old.ledger
+        noted.old.refusals result out.new noted.new.service.table noted.new.service.flags
+        noted.new.service.stores
+        noted.new.ledger
+        noted.new.refusals }
 {
     let begun = explain_first(
-        fresh, sizes, first, input, out, table, flags, blocks, copies, held, dirty, refusals,
+        fresh,
+        sizes,
+        first,
+        input,
+        out,
+        &mut noted.service,
+        &mut noted.refusals,
     );
     let given = begun.sizes;
     let force = given.in_force();
@@ -70,39 +55,29 @@ pub fn explain_lines(
     let mut number = begun.number;
     let mut used = begun.used;
     let mut to = begun.written;
+    // Stays: no index is counted, as in crates/playing/src/lines.rt.
     while can_tell(EXPLAINED_ROOM, out.len(), to, number) {
-        let Read::Line { parsed, next } = read_at(input, used) else {
+        let Some(line) = read_at(input, used) else {
             break;
         };
-        let line = number;
-        used = next;
+        let told = number;
+        used = line.next;
         number += 1;
-        let Parsed::Is(step) = parsed else {
-            to = tell_no_step(out, to, line, &mut words, refusals);
+        let Some(step) = line.step else {
+            to = tell_no_step(out, to, told, &mut words, &mut noted.refusals);
             continue;
         };
-        let named = asked(step);
-        keep_before(table, named.kind, named.file, &mut before);
-        let came = *flags;
-        let seen = look(named, &before, held, dirty, written, writers, copied);
-        let said = take_step(
+        to = explain_line(
+            out,
+            to,
+            told,
+            fresh,
             given,
-            named.kind,
-            named.client,
-            named.file,
-            named.block,
-            named.value,
-            table,
-            flags,
-            blocks,
-            copies,
-            held,
-            dirty,
+            force,
+            step,
             &mut words,
-        );
-        to = tell_step(
-            out, to, line, fresh, force, step, said, &words, &before, &came, seen, table, dirty,
-            written, writers, copied, since, refusals,
+            &mut before,
+            noted,
         );
     }
     Progress {
@@ -113,6 +88,68 @@ pub fn explain_lines(
     }
 }
 
+// Takes the step of a line, and explains it. The sizes are those that the session has, and those in force.
+fn explain_line(
+    out: &mut [u8],
+    at: usize,
+    line: u64,
+    fresh: bool,
+    given: Sizes,
+    force: Sizes,
+    step: Step,
+    words: &mut [u64; SAID],
+    before: &mut [u64; WORDS],
+    noted: &mut NotedService,
+) -> usize
+    requires force_value { force ≡ in_force given }
+    requires words_len { length words.old ≡ said_room }
+    requires before_len { length before.old ≡ table_words }
+    ensures tells_line { (text : List ℕ) → TellsLine fresh
+        (state_held given noted.old.service.table noted.old.service.flags
+        noted.old.service.stores
+        noted.old.ledger noted.old.refusals)
+        line text (Some step) out.old at
+        (state_held given noted.new.service.table noted.new.service.flags
+        noted.new.service.stores
+        noted.new.ledger noted.new.refusals)
+        out.new result }
+    ensures words_len_unchanged { length words.new ≡ length words.old }
+    ensures before_len_unchanged { length before.new ≡ length before.old }
+{
+    let named = asked(step);
+    keep_in(&noted.service, named, before);
+    let came = noted.service.flags;
+    let seen = look(named, before, &noted.service.stores, &noted.ledger);
+    let said = noted.service.take_step(given, Some(step), words);
+    tell_step(
+        out,
+        at,
+        line,
+        fresh,
+        force,
+        step,
+        said,
+        words,
+        before,
+        &came,
+        seen,
+        &noted.service,
+        &mut noted.ledger,
+        &mut noted.refusals,
+    )
+}
+
+// Keeps what a sentence looks at of the service's table before the step that has these numbers. Its clauses also give the
+// lengths of its table and flags.
+fn keep_in(service: &HeldService, named: Numbers, before: &mut [u64; WORDS])
+    requires { length before.old ≡ table_words }
+    ensures kept { before.new ≡ kept_before named.kind named.file service.now.table before.old }
+    ensures table_len { length service.now.table ≡ table_words }
+    ensures flags_len { length service.now.flags ≡ lent_flags }
+{
+    keep_before(&service.table, named.kind, named.file, before);
+}
+
 // Explains the line that chooses the sizes, if the input begins with one: the sizes are then those of all other lines.
 fn explain_first(
     fresh: bool,
@@ -120,21 +157,14 @@ fn explain_first(
     first: u64,
     input: &[u8],
     out: &mut [u8],
-    table: &mut [u64; WORDS],
-    flags: &mut [bool; FLAGS],
-    blocks: &mut [u64; MAX_PLACES],
-    copies: &mut [u64; MAX_CELLS],
-    held: &mut [bool; MAX_CELLS],
-    dirty: &mut [bool; MAX_CELLS],
+    service: &mut HeldService,
     refusals: &mut [u64; REFUSAL_NUMBERS],
 ) -> Progress
-    requires table_len { length table.old ≡ table_words }
-    requires flags_len { length flags.old ≡ lent_flags }
     ensures { (l : Ledger) → Begins fresh sizes first input.now out.old
-        table.old flags.old
-        (lent blocks.old copies.old held.old dirty.old) l
-        refusals.old result out.new table.new flags.new
-        (lent blocks.new copies.new held.new dirty.new)
+        service.old.table service.old.flags
+        service.old.stores l
+        refusals.old result out.new service.new.table service.new.flags
+        service.new.stores
         refusals.new }
 {
     let line = read_first_setting(input);
@@ -148,9 +178,7 @@ fn explain_first(
             written: 0,
         };
     }
-    let set = tell_setting(
-        out, 0, first, sizes, setting, table, flags, blocks, copies, held, dirty, refusals,
-    );
+    let set = tell_setting(out, 0, first, sizes, setting, service, refusals);
     let after = set.sizes;
     Progress {
         sizes: after,

@@ -1,35 +1,32 @@
 // One line explained: what it finds is looked at, its text is written, and the line is noted beside the service.
-ghost use Rattle.std.specs.Prelude.{◌≡◌, Bool, false, List, [], ℕ, ◌+◌, ◌/◌, ◌%◌, ◌≤◌, length, get_or};
+ghost use Rattle.std.specs.Prelude.{◌≡◌, Bool, Err, None, false, List, ℕ, ◌+◌, ◌/◌, ◌%◌, ◌≤◌, length, get_or};
 ghost use Rattle.sizes.specs.Sizes.{max_clients, max_files, max_blocks, Permitted, cell};
 ghost use Rattle.protocol.specs.declared.reply.Granting.{Granting};
 ghost use Rattle.protocol.specs.declared.reply.Reply.{Reply};
 ghost use Rattle.protocol.specs.Step.{client_of};
-ghost use Rattle.blocks.specs.Stores.{lent};
 ghost use Rattle.words.specs.Words.{side_held};
 ghost use Rattle.words.specs.Rows.{table_words, word_at};
 ghost use Rattle.words.specs.Said.{said_room, calls_said, reply_said, Says};
 ghost use Rattle.service.specs.declared.service.Service.{Service};
 ghost use Rattle.service.specs.Lent.{lent_flags};
-ghost use Rattle.stepfile.specs.declared.parsed.Parsed.TheVariants.{NoStep};
-ghost use Rattle.stepfile.specs.declared.setting.Setting.TheVariants as settings;
+ghost use Rattle.stepfile.specs.declared.setting.NoSizes.TheVariants.{Missing};
 ghost use Rattle.writer.specs.Buffer.{WroteIfRoom};
 ghost use Rattle.ledger.specs.declared.ledger.Ledger.{Ledger};
-ghost use Rattle.ledger.specs.Ledger.{entered, lines_at, noted, told_of};
+ghost use Rattle.ledger.specs.Ledger.{lines_at, noted, told_of};
 ghost use Rattle.ledger.specs.Refusals.{refusals_after};
 ghost use Rattle.ledger.specs.Wrapped.{wrapped_step};
 ghost use Rattle.sentences.specs.Scene.{aside_held, scene_held, whole_held};
 ghost use Rattle.sentences.specs.Explained.{said_of, explained_text, explained_room};
-ghost use Rattle.playing.specs.Lines.{Long};
 ghost use Rattle.explaining.specs.Lines.{setting_at, state_held, TellsLine};
 
-use blocks::cell_of;
-use ledger::{BEGINNINGS, NOTES, REFUSAL_NUMBERS, Told, count_refusal, note_line, read_told};
+use blocks::{Stores, cell_of};
+use ledger::{Ledger, REFUSAL_NUMBERS, Told, count_refusal};
 use playing::{choose_sizes, reply_to};
-use protocol::{NO_STEP, Numbers, Reply, Step, asked};
+use protocol::{Numbers, Refusal, Reply, Step, asked};
 use sentences::{explain_setting, explain_step};
-use service::FLAGS;
-use sizes::{MAX_CELLS, MAX_CLIENTS, MAX_FILES, MAX_PLACES, Sizes};
-use stepfile::Setting;
+use service::{FLAGS, HeldService};
+use sizes::{MAX_CLIENTS, MAX_FILES, Sizes};
+use stepfile::{NoSizes, Setting};
 use words::{ROW, SAID, WORDS, reply_of, say, side_of};
 
 // What a line looks at before its step is taken.
@@ -43,22 +40,13 @@ pub struct Seen {
 }
 
 // Looks at what the step names, in the row of its file before the step and beside it. The numbers are wrapped.
-pub fn look(
-    named: Numbers,
-    before: &[u64; WORDS],
-    held: &[bool; MAX_CELLS],
-    dirty: &[bool; MAX_CELLS],
-    written: &[u64; NOTES],
-    writers: &[u8; NOTES],
-    copied: &[u64; MAX_CELLS],
-) -> Seen
+pub fn look(named: Numbers, before: &[u64; WORDS], stores: &Stores, ledger: &Ledger) -> Seen
     requires { length before.now ≡ table_words }
     ensures caching_value { result.caching
         ≡ (side_held (word_at before.now (named.file % max_files) (10 + named.client % max_clients))).opens.caching }
-    ensures told_value { result.told ≡ told_of result.caching (lent [] [] held.now dirty.now)
-        (entered written.now writers.now copied.now [])
+    ensures told_value { result.told ≡ told_of result.caching stores.now ledger.now
         (named.client % max_clients) (named.file % max_files) (named.block % max_blocks) }
-    ensures holds_value { result.holds ≡ get_or held.now
+    ensures holds_value { result.holds ≡ get_or stores.now.held
         (cell (named.client % max_clients) (named.file % max_files) (named.block % max_blocks)) false }
 {
     let client = named.client;
@@ -67,11 +55,9 @@ pub fn look(
     let own = side_of(before[file % MAX_FILES * ROW + (10 + client % MAX_CLIENTS)]);
     let caching = own.opens.caching;
     Seen {
-        told: read_told(
-            caching, client, file, block, held, dirty, written, writers, copied,
-        ),
+        told: ledger.read_told(caching, client, file, block, stores),
         caching,
-        holds: held[cell_of(client, file, block)],
+        holds: stores.held[cell_of(client, file, block)],
     }
 }
 
@@ -89,19 +75,14 @@ pub fn tell_step(
     before: &[u64; WORDS],
     came: &[bool; FLAGS],
     seen: Seen,
-    table: &[u64; WORDS],
-    dirty: &[bool; MAX_CELLS],
-    written: &mut [u64; NOTES],
-    writers: &mut [u8; NOTES],
-    copied: &mut [u64; MAX_CELLS],
-    since: &mut [u64; BEGINNINGS],
+    service: &HeldService,
+    ledger: &mut Ledger,
     refusals: &mut [u64; REFUSAL_NUMBERS],
 ) -> usize
     requires permitted { Permitted sizes }
     requires said_bound { said / 256 ≤ said_room }
     requires words_len { length words.now ≡ said_room }
     requires before_len { length before.now ≡ table_words }
-    requires table_len { length table.now ≡ table_words }
     requires came_len { length came.now ≡ lent_flags }
     ensures wrote_if_room { (reply : Reply) (calls : List ℕ) (granted : List Granting)
         → Says said words.now reply calls granted
@@ -109,17 +90,17 @@ pub fn tell_step(
         → WroteIfRoom explained_room out.old at
         (explained_text line reply calls granted
         (said_of fresh
-        (scene_held sizes step before.now table.now came.now
-        dirty.now since.old seen.told seen.caching)
-        (whole_held before.now table.now
-        (lines_at (entered written.old writers.old [] [])))
+        (scene_held sizes step before.now service.now.table came.now
+        service.now.stores.dirty ledger.old.since seen.told seen.caching)
+        (whole_held before.now service.now.table
+        (lines_at ledger.old))
         step calls reply))
         out.new result }
     ensures upper_bound { result ≤ at + explained_room }
-    ensures since_after { entered written.new writers.new copied.new since.new
+    ensures since_after { ledger.new
         ≡ noted line (wrapped_step step) (reply_said said words.now) seen.caching seen.holds
         (aside_held came.now (client_of step))
-        (entered written.old writers.old copied.old since.old) }
+        ledger.old }
     ensures refusals_after { refusals.new
         ≡ refusals_after (reply_said said words.now) refusals.old }
 {
@@ -135,27 +116,20 @@ pub fn tell_step(
         said,
         words,
         before,
-        table,
         came,
-        dirty,
-        written,
-        writers,
-        since,
+        service,
+        ledger,
         told,
         seen.caching,
     );
     let reply = reply_of(said, words);
-    note_line(
+    ledger.note_line(
         line,
         step,
         reply,
         seen.caching,
         seen.holds,
         came[MAX_CLIENTS + 1 + named.client % MAX_CLIENTS],
-        written,
-        writers,
-        copied,
-        since,
     );
     count_refusal(reply, refusals);
     next
@@ -175,30 +149,22 @@ pub fn tell_setting(
     number: u64,
     sizes: Sizes,
     setting: Setting,
-    table: &mut [u64; WORDS],
-    flags: &mut [bool; FLAGS],
-    blocks: &mut [u64; MAX_PLACES],
-    copies: &mut [u64; MAX_CELLS],
-    held: &mut [bool; MAX_CELLS],
-    dirty: &mut [bool; MAX_CELLS],
+    service: &mut HeldService,
     refusals: &mut [u64; REFUSAL_NUMBERS],
 ) -> Set
-    requires table_len { length table.old ≡ table_words }
-    requires flags_len { length flags.old ≡ lent_flags }
     ensures tells_line { (fresh : Bool) (l : Ledger) (text : List ℕ)
         → setting ≡ setting_at fresh number text
         → TellsLine fresh
-        (state_held sizes table.old flags.old
-        (lent blocks.old copies.old held.old dirty.old) l
+        (state_held sizes service.old.table service.old.flags
+        service.old.stores l
         refusals.old)
-        number text NoStep out.old at
-        (state_held result.sizes table.new flags.new
-        (lent blocks.new copies.new held.new dirty.new) l
+        number text None out.old at
+        (state_held result.sizes service.new.table service.new.flags
+        service.new.stores l
         refusals.new)
         out.new result.to }
-    ensures long { Long table.old flags.old table.new flags.new }
 {
-    let chosen = choose_sizes(sizes, setting, table, flags, blocks, copies, held, dirty);
+    let chosen = choose_sizes(sizes, setting, service);
     let mut words = [0u64; SAID];
     let reply = reply_to(setting);
     let said = say(reply, [0; MAX_CLIENTS], &mut words);
@@ -219,14 +185,14 @@ pub fn tell_no_step(
 ) -> usize
     requires { length words.old ≡ said_room }
     ensures tells_line { (fresh : Bool) (s : Service) (l : Ledger) (text : List ℕ)
-        → settings.Missing ≡ setting_at fresh number text
+        → Err Missing ≡ setting_at fresh number text
         → TellsLine fresh (record { service = s; ledger = l; refusals = refusals.old })
-        number text NoStep out.old at
+        number text None out.old at
         (record { service = s; ledger = l; refusals = refusals.new })
         out.new result }
     ensures words_len_unchanged { length words.new ≡ length words.old }
 {
-    let said = say(Reply::Refused(NO_STEP), [0; MAX_CLIENTS], words);
-    count_refusal(Reply::Refused(NO_STEP), refusals);
-    explain_setting(out, at, number, said, words, Setting::Missing)
+    let said = say(Reply::from(Refusal::NoStep), [0; MAX_CLIENTS], words);
+    count_refusal(Reply::from(Refusal::NoStep), refusals);
+    explain_setting(out, at, number, said, words, Err(NoSizes::Missing))
 }

@@ -11,7 +11,8 @@ use Rattle.protocol.specs.declared.reply.Reply.TheVariants.{Answered, Done}
 use Rattle.protocol.specs.declared.shared.SharedFile.{SharedFile}
 use Rattle.protocol.specs.Client.{with_side, no_client}
 use Rattle.protocol.specs.Entry.{call_to, answered_entry, forgotten_entry}
-use Rattle.blocks.specs.Stores.{Stores, dropped_unless}
+use Rattle.blocks.specs.declared.stores.Stores.{Stores}
+use Rattle.blocks.specs.Stores.{dropped_unless}
 use Rattle.file.specs.FileStep.{FileAfter, leaving, granted_if_last, with_entry, after_forgetting, after_dropping}
 
 module _ (z : Sizes) (f : ℕ) (x : SharedFile) (a : Stores) (i : ℕ) where

@@ -5,7 +5,7 @@ use mathlib.Core.Bool.{cond}
 use mathlib.Core.List.{List}
 use native.Mathlib.Omega.{arith}
 use lib.Dec.{eqb}
-use lib.ListN.{length, length-set}
+use lib.ListN.{length, set, length-set}
 use lib.Seq.{get_or-set_same, get_or-set_other}
 use Rattle.records.specs.declared.record.Mode.TheVariants.{Read}
 use Rattle.records.specs.Record.{not_open}
@@ -16,7 +16,7 @@ use Rattle.words.specs.Words.{record_held, version_held, last_held, waiter_held,
 use Rattle.words.specs.Rows.{row_words, word_at, head_at, entry_held, sides_held, Puts}
 use Rattle.words.proofs.Listing.{length_listed}
 use Rattle.words.proofs.Changing.{known_held_lem}
-use Rattle.file.proofs.KnownRow.{stored_known, known_puts}
+use Rattle.file.proofs.KnownRow.{known_puts}
 
 pub forget_puts :
     (t : List ℕ) (f i r h k n : ℕ)
@@ -31,13 +31,12 @@ pub forget_puts :
     → Puts f
     (record { entry = forgotten_entry n (entry_held t f) i; sides = sides_held t f })
     t
-    (stored_known t f i r h k))
+    (set (set (set t (f * row_words + (2 + i)) r) (f * row_words + 1) h) (f * row_words + 18) k))
 forget_puts t f i r h k n there fits known head calls =
     let records = (entry_held t f).records in
     let long : length records ≡ max_clients = length_listed max_clients (λ j. record_held (word_at t f (2 + j))) in
-    known_puts t f i r h k (forgotten_entry n (entry_held t f) i) there fits
+    known_puts t f i r (forgotten_entry n (entry_held t f) i) there fits
     (length-set records i not_open ∙ long)
     (known ∙ sym (get_or-set_same records i not_open not_open (omega (arith, there, long))))
-    head
-    calls
     (λ j lt off. sym (get_or-set_other records i j not_open not_open off ∙ known_held_lem t f j lt))
+    h k head calls

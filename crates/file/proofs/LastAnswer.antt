@@ -15,7 +15,7 @@ use Rattle.protocol.specs.declared.reply.Reply.TheVariants.{AnsweredGrant, Done}
 use Rattle.protocol.specs.declared.shared.SharedFile.{SharedFile}
 use Rattle.protocol.specs.Entry.{waits, call_to, calls_out, grant_of}
 use Rattle.protocol.specs.Reply.{no_calls, is_refused}
-use Rattle.blocks.specs.Stores.{Stores}
+use Rattle.blocks.specs.declared.stores.Stores.{Stores}
 use Rattle.file.specs.FileStep.{FileAfter, leaving, granted, waiter_granted, granted_if_last}
 
 -- a client that has a callback has it from an open that waits

@@ -6,6 +6,8 @@ use mathlib.Core.List.{List}
 use lib.Dec.{eqb}
 use lib.ListN.{get_or, length-replicate}
 use borrow.Author.Tests.{eq-eqb, ne_eqb}
+use Rattle.std.specs.Prelude.{⊤, Ok}
+use Rattle.std.specs.declared.result.Result.{Result}
 use Rattle.records.specs.declared.record.Mode.{Mode}
 use Rattle.sizes.proofs.Choosing.{when, unless}
 use Rattle.sizes.specs.declared.sizes.Sizes.{Sizes}
@@ -14,6 +16,7 @@ use Rattle.decision.specs.Lists.{first_of}
 use Rattle.decision.specs.Callback.{asks_nothing}
 use Rattle.decision.proofs.Counting.{count_agree}
 use Rattle.decision.proofs.CallOrder.{kind_due}
+use Rattle.protocol.specs.declared.refusal.Refusal.{Refusal}
 use Rattle.protocol.specs.declared.reply.Grant.{Grant}
 use Rattle.protocol.specs.declared.reply.Reply.TheVariants.{Granted}
 use Rattle.protocol.specs.declared.shared.SharedFile.{SharedFile}
@@ -21,7 +24,8 @@ use Rattle.protocol.specs.declared.step.Step.TheVariants.{Open}
 use Rattle.protocol.specs.Entry.{record_at, calls_in, calls_for, calls_due, grant_of}
 use Rattle.protocol.specs.Client.{side_of}
 use Rattle.protocol.specs.Refusal.{open_tests}
-use Rattle.blocks.specs.Stores.{Stores}
+use Rattle.protocol.specs.Refused.{refusal_in}
+use Rattle.blocks.specs.declared.stores.Stores.{Stores}
 use Rattle.protocol.specs.Reply.{no_calls}
 use Rattle.file.specs.FileStep.{granted, waiting, after_open, file_step}
 use Rattle.file.proofs.Taking.{open_step, accepted}
@@ -41,12 +45,13 @@ module _ (z : Sizes) (embargoed recovering : Bool) (x : SharedFile) (a : Stores)
       ∙ kind_due z.clients (record_at x.entry) x.entry.last i mode no_calls (rw length-replicate bound) j h))
 
   module _
-      (k : ℕ)
+      {r : Result ⊤ Refusal}
+      {u : ⊤}
       (calls : List ℕ)
       (number : ℕ)
       (bound : z.clients ≤ max_clients)
-      (tests : k ≡ first_of (open_tests z embargoed recovering x.entry (side_of x.sides i) mode i f))
-      (passed : k ≡ 0)
+      (tests : refusal_in r ≡ first_of (open_tests z embargoed recovering x.entry (side_of x.sides i) mode i f))
+      (passed : r ≡ Ok u)
       (due : calls ≡ calls_due z.clients x.entry i mode no_calls)
       (counted : number ≡ calls_in z.clients calls) where
     taken : file_step z embargoed recovering x a (Open mode i f) ≡ after_open z x a mode i f

@@ -18,7 +18,8 @@ use Rattle.protocol.specs.Client.{side_of, with_side, granted_client, keeps_bloc
 use Rattle.protocol.specs.Client.{answered_client, no_client}
 use Rattle.protocol.specs.Reply.{no_calls}
 use Rattle.protocol.specs.Refusal.{Test, tested, open_tests, close_tests, flush_tests, answer_tests}
-use Rattle.blocks.specs.Stores.{Stores, dirty_in, any_dirty, sent_blocks, dropped_unless, answered_stores}
+use Rattle.blocks.specs.declared.stores.Stores.{Stores}
+use Rattle.blocks.specs.Stores.{dirty_in, any_dirty, sent_blocks, dropped_unless, answered_stores}
 use Rattle.blocks.specs.Stores.{flushed_stores}
 
 -- what a step leaves: the file at both sides, the blocks and copies, the reply, and the callbacks that go out

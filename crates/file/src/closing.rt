@@ -3,15 +3,14 @@ ghost use Rattle.std.specs.Prelude.{◌≡◌, Bool, cond, List, ℕ, ◌%◌, �
 ghost use Rattle.sizes.specs.Sizes.{Permitted, max_clients, max_files, nobody};
 ghost use Rattle.protocol.specs.Reply.{no_calls};
 ghost use Rattle.words.specs.Rows.{file_held, table_words};
-ghost use Rattle.blocks.specs.Stores.{lent};
 ghost use Rattle.file.specs.FileStep.{file_step};
 ghost use Rattle.file.specs.Held.{Holds};
 
 use crate::refusal::close_refusal;
-use blocks::{count_dirty, first_cell};
+use blocks::{Stores, count_dirty, first_cell};
 use protocol::{NOBODY, Reply, Step};
 use records::Mode;
-use sizes::{MAX_CELLS, MAX_CLIENTS, MAX_FILES, Sizes};
+use sizes::{MAX_CLIENTS, MAX_FILES, Sizes};
 use words::{
     ROW, WORDS, last_of, record_of, record_word, side_of, side_word, waiter_of, with_last,
 };
@@ -36,22 +35,22 @@ pub fn close(
     client: usize,
     file: usize,
     table: &mut [u64; WORDS],
-    dirty: &[bool; MAX_CELLS],
+    stores: &Stores,
 ) -> Reply
     requires permitted { Permitted sizes }
     requires table_len { length table.old ≡ table_words }
-    ensures { (blocks copies : List ℕ) (held : List Bool) → Holds
+    ensures { Holds
         (file_step sizes embargoed recovering (file_held table.old (file % max_files))
-        (lent blocks copies held dirty.now)
+        stores.now
         (Step.Close mode client file))
         (file % max_files) table.old table.new result no_calls
-        blocks copies held dirty.now }
+        stores.now }
 {
     let row = file % MAX_FILES * ROW;
     let c = client % MAX_CLIENTS;
     let head = table[row + 1];
     let own = side_of(table[row + (10 + c)]);
-    let refusal = close_refusal(
+    if let Err(refusal) = close_refusal(
         sizes,
         embargoed,
         recovering,
@@ -60,11 +59,10 @@ pub fn close(
         mode,
         client,
         file,
-    );
-    if refusal != 0 {
-        return Reply::Refused(refusal);
+    ) {
+        return Reply::from(refusal);
     }
-    let any = 0 < count_dirty(sizes.blocks, first_cell(client, file), dirty);
+    let any = 0 < count_dirty(sizes.blocks, first_cell(client, file), &stores.dirty);
     let known = record_of(table[row + (2 + c)]);
     let last = last_closed(known.ends_writing(mode), any, client, last_of(head));
     table[row + (2 + c)] = record_word(known.closed(mode));

@@ -3,14 +3,13 @@ ghost use Rattle.std.specs.Prelude.{◌≡◌, Bool, cond, not, ◌&&◌, List, 
 ghost use Rattle.sizes.specs.Sizes.{Permitted, max_files, nobody};
 ghost use Rattle.protocol.specs.Reply.{no_calls};
 ghost use Rattle.words.specs.Rows.{file_held, table_words};
-ghost use Rattle.blocks.specs.Stores.{lent};
 ghost use Rattle.file.specs.FileStep.{file_step};
 ghost use Rattle.file.specs.Held.{Holds};
 
 use crate::refusal::flush_refusal;
-use blocks::{cell_of, count_dirty, first_cell, place_of};
+use blocks::{Stores, cell_of, count_dirty, first_cell, place_of};
 use protocol::{NOBODY, Reply, Step};
-use sizes::{MAX_CELLS, MAX_CLIENTS, MAX_FILES, MAX_PLACES, Sizes};
+use sizes::{MAX_CLIENTS, MAX_FILES, Sizes};
 use words::{ROW, WORDS, last_of, side_of, side_word, with_last};
 
 // The last writer after a flush; left says whether another block is still dirty at the client.
@@ -33,35 +32,32 @@ pub fn flush(
     file: usize,
     block: usize,
     table: &mut [u64; WORDS],
-    blocks: &mut [u64; MAX_PLACES],
-    copies: &[u64; MAX_CELLS],
-    dirty: &mut [bool; MAX_CELLS],
+    stores: &mut Stores,
 ) -> Reply
     requires permitted { Permitted sizes }
     requires table_len { length table.old ≡ table_words }
-    ensures { (held : List Bool) → Holds
+    ensures { Holds
         (file_step sizes embargoed recovering (file_held table.old (file % max_files))
-        (lent blocks.old copies.now held dirty.old)
+        stores.old
         (Step.Flush client file block))
         (file % max_files) table.old table.new result no_calls
-        blocks.new copies.now held dirty.new }
+        stores.new }
 {
     let cell = cell_of(client, file, block);
-    let refusal = flush_refusal(
+    if let Err(refusal) = flush_refusal(
         sizes,
         embargoed,
         recovering,
-        dirty[cell],
+        stores.dirty[cell],
         client,
         file,
         block,
-    );
-    if refusal != 0 {
-        return Reply::Refused(refusal);
+    ) {
+        return Reply::from(refusal);
     }
-    blocks[place_of(file, block)] = copies[cell];
-    dirty[cell] = false;
-    let left = 0 < count_dirty(sizes.blocks, first_cell(client, file), dirty);
+    stores.blocks[place_of(file, block)] = stores.copies[cell];
+    stores.dirty[cell] = false;
+    let left = 0 < count_dirty(sizes.blocks, first_cell(client, file), &stores.dirty);
     let row = file % MAX_FILES * ROW;
     let c = client % MAX_CLIENTS;
     let head = table[row + 1];

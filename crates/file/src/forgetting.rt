@@ -1,26 +1,25 @@
 // The server forgets a client, on one file: three words of the row are stored, the client's record, the head and the
 // callbacks, and once more where a callback to it was out, which counts as answered. And a client drops what it has of
 // a file: its copies, and its side of the row.
-ghost use Rattle.std.specs.Prelude.{◌≡◌, cond, List, ◌≢◌, ℕ, ◌+◌, ◌%◌, ◌<◌, ◌≤◌, eqb, length, get_or};
+ghost use Rattle.std.specs.Prelude.{◌≡◌, cond, List, ℕ, ◌%◌, ◌<◌, ◌≤◌, eqb, length};
 ghost use Rattle.sizes.specs.Sizes.{Permitted, max_clients, max_files, nobody};
 ghost use Rattle.decision.specs.Lists.{filled};
 ghost use Rattle.protocol.specs.Entry.{forgotten_entry};
-ghost use Rattle.records.specs.Record.{not_open};
-ghost use Rattle.words.specs.Words.{record_held, version_held, last_held, waiter_held, mode_held, calls_held, Head};
-ghost use Rattle.words.specs.Rows.{word_at, entry_held, sides_held, file_held, table_words, Puts};
-ghost use Rattle.blocks.specs.Stores.{lent};
+ghost use Rattle.words.specs.Words.{version_held, last_held, waiter_held, mode_held, calls_held, Head};
+ghost use Rattle.words.specs.Rows.{entry_held, sides_held, file_held, table_words, Puts};
 ghost use Rattle.file.specs.FileStep.{after_forgetting, after_dropping};
 ghost use Rattle.file.specs.Held.{Leaves};
 
 use crate::answering::grant_if_last;
-use blocks::{drop_copies_unless, first_cell};
+use crate::row::put_known;
+use blocks::{Stores, first_cell};
 use decision::asks_nothing;
-use protocol::{ClientFile, Entry, Grant, NOBODY, Reply};
+use protocol::{ClientFile, Grant, NOBODY, Reply};
 use records::{ClientRecord, Mode};
-use sizes::{MAX_CELLS, MAX_CLIENTS, MAX_FILES, Sizes};
+use sizes::{MAX_CLIENTS, MAX_FILES, Sizes};
 use words::{
-    ROW, WORDS, calls_past, calls_word, entry_at, head_word, last_of, mode_of, record_word,
-    side_word, version_of, waiter_of,
+    ROW, WORDS, calls_past, entry_at, head_word, last_of, mode_of, record_word, side_word,
+    version_of, waiter_of,
 };
 
 // The last writer or the waiter, or nobody where that is the client.
@@ -89,46 +88,23 @@ fn put_forgotten(clients: usize, c: usize, f: usize, table: &mut [u64; WORDS])
     table[row + 18] = calls_left(clients, c, waiter_of(head), kinds);
 }
 
-// The three words of an entry whose other records stay as they are.
-fn put_known(entry: Entry, c: usize, f: usize, table: &mut [u64; WORDS])
-    requires c_lt_max_clients { c < max_clients }
-    requires f_lt_max_files { f < max_files }
-    requires table_len { length table.old ≡ table_words }
-    requires by_index { (j : ℕ) → j < max_clients → j ≢ c
-        → record_held (word_at table.old f (2 + j)) ≡ get_or entry.records j not_open }
-    ensures { Puts f (record { entry = entry; sides = sides_held table.old f })
-        table.old table.new }
-{
-    let records = entry.records;
-    let version = entry.version;
-    let mode = entry.mode;
-    let calls = entry.calls;
-    let known = records[c];
-    let row = f * ROW;
-    table[row + (2 + c)] = record_word(known);
-    table[row + 1] = head_word(version, entry.last, entry.waiter, mode);
-    table[row + 18] = calls_word(calls);
-}
-
 // The server forgets the client. The reply tells whose waiting open that grants, if one.
 pub fn forget(
     sizes: Sizes,
     client: usize,
     file: usize,
     table: &mut [u64; WORDS],
-    copies: &mut [u64; MAX_CELLS],
-    held: &mut [bool; MAX_CELLS],
-    dirty: &mut [bool; MAX_CELLS],
+    stores: &mut Stores,
 ) -> Reply
     requires permitted { Permitted sizes }
     requires client_lt_clients { client < sizes.clients }
     requires file_lt_files { file < sizes.files }
     requires table_len { length table.old ≡ table_words }
-    ensures by_index { (blocks : List ℕ) → Leaves
+    ensures by_index { Leaves
         (after_forgetting sizes file (file_held table.old (file % max_files))
-        (lent blocks copies.old held.old dirty.old) client)
+        stores.old client)
         (file % max_files) table.old table.new result
-        blocks copies.new held.new dirty.new }
+        stores.new }
     ensures by_index_2 { (sent j : ℕ) (g : Grant) → result ≡ Reply.AnsweredGrant sent j g → j < sizes.clients }
 {
     let f = file % MAX_FILES;
@@ -141,7 +117,7 @@ pub fn forget(
     }
     let answered = entry.answered(client, kind);
     put_known(answered, c, f, table);
-    grant_if_last(sizes, 0, answered, file, table, copies, held, dirty)
+    grant_if_last(sizes, 0, answered, file, table, stores)
 }
 
 // The client has nothing of the file any more.
@@ -150,27 +126,18 @@ pub fn drop_file(
     client: usize,
     file: usize,
     table: &mut [u64; WORDS],
-    copies: &mut [u64; MAX_CELLS],
-    held: &mut [bool; MAX_CELLS],
-    dirty: &mut [bool; MAX_CELLS],
+    stores: &mut Stores,
 )
     requires permitted { Permitted sizes }
     requires client_lt_clients { client < sizes.clients }
     requires file_lt_files { file < sizes.files }
     requires table_len { length table.old ≡ table_words }
-    ensures { (blocks : List ℕ) → Leaves
+    ensures { Leaves
         (after_dropping sizes file (file_held table.old (file % max_files))
-        (lent blocks copies.old held.old dirty.old) client)
+        stores.old client)
         (file % max_files) table.old table.new Reply.Done
-        blocks copies.new held.new dirty.new }
+        stores.new }
 {
-    drop_copies_unless(
-        false,
-        sizes.blocks,
-        first_cell(client, file),
-        copies,
-        held,
-        dirty,
-    );
+    stores.drop_copies_unless(false, sizes.blocks, first_cell(client, file));
     table[file % MAX_FILES * ROW + (10 + client % MAX_CLIENTS)] = side_word(ClientFile::none());
 }

@@ -8,14 +8,13 @@ ghost use Rattle.protocol.specs.Client.{side_of, with_side, granted_client};
 ghost use Rattle.protocol.specs.Reply.{no_calls, is_refused};
 ghost use Rattle.words.specs.Words.{version_held, last_held, Head};
 ghost use Rattle.words.specs.Rows.{entry_held, sides_held, file_held, table_words, Puts};
-ghost use Rattle.blocks.specs.Stores.{lent};
 ghost use Rattle.file.specs.FileStep.{granted};
 ghost use Rattle.file.specs.Held.{Holds};
 
-use blocks::{drop_copies_unless, first_cell};
+use blocks::{Stores, first_cell};
 use protocol::{ClientFile, Grant, NOBODY, Reply};
 use records::{Mode, Version};
-use sizes::{MAX_CELLS, MAX_FILES, Sizes};
+use sizes::{MAX_FILES, Sizes};
 use words::{
     ROW, WORDS, calls_past, head_word, last_of, record_of, record_word, side_of, side_word,
     version_of,
@@ -51,9 +50,8 @@ fn put_grant(clients: usize, mode: Mode, grant: Grant, c: usize, f: usize, table
     let kinds = table[row + 18];
     let known = record_of(table[row + (2 + c)]);
     let own = side_of(table[row + (10 + c)]);
-    let latest = grant.latest;
     table[row + (2 + c)] = record_word(known.opened(mode, grant.caching));
-    table[row + 1] = granted_head(head, mode, latest);
+    table[row + 1] = granted_head(head, mode, grant.latest);
     table[row + 18] = calls_past(kinds, clients);
     table[row + (10 + c)] = side_word(own.granted(mode, grant));
 }
@@ -68,28 +66,23 @@ pub fn grant_open(
     opener: usize,
     file: usize,
     table: &mut [u64; WORDS],
-    copies: &mut [u64; MAX_CELLS],
-    held: &mut [bool; MAX_CELLS],
-    dirty: &mut [bool; MAX_CELLS],
+    stores: &mut Stores,
 )
     requires permitted { Permitted sizes }
     requires opener_lt_clients { opener < sizes.clients }
     requires file_lt_files { file < sizes.files }
     requires table_len { length table.old ≡ table_words }
     requires opener_value { side_of (sides_held table.old (file % max_files)) opener ≡ own }
-    ensures { (blocks : List ℕ) (reply : Reply) → is_refused reply ≡ false → Holds
+    ensures { (reply : Reply) → is_refused reply ≡ false → Holds
         (granted sizes file (file_held table.old (file % max_files))
-        (lent blocks copies.old held.old dirty.old) opener mode grant reply)
+        stores.old opener mode grant reply)
         (file % max_files) table.old table.new reply no_calls
-        blocks copies.new held.new dirty.new }
+        stores.new }
 {
-    drop_copies_unless(
+    stores.drop_copies_unless(
         own.keeps_blocks(mode, grant),
         sizes.blocks,
         first_cell(opener, file),
-        copies,
-        held,
-        dirty,
     );
     put_grant(sizes.clients, mode, grant, opener, file % MAX_FILES, table);
 }

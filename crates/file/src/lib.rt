@@ -2,6 +2,9 @@
 // done to it where the server forgets a client, and where a client drops what it has. A refused step stores nothing.
 #![tactic(auto)]
 
+// Stays: the sizes, the embargo and the recovery as three parameters, since `file_step` and the lists of tests take them
+// so, and a struct of them would be taken apart in each clause.
+
 mod answering;
 mod closing;
 mod flushing;
@@ -9,6 +12,7 @@ mod forgetting;
 mod granting;
 mod opening;
 mod refusal;
+mod row;
 
 pub use answering::answer;
 pub use closing::close;

@@ -1,13 +1,11 @@
-// The refusals of the steps on a file: each function tests exactly its own numbers, lowest first; 0 is none.
+// The refusals of the steps on a file: each function tests exactly its own, in the order in which they are tested.
 ghost use Rattle.std.specs.Prelude.{◌≡◌};
 ghost use Rattle.decision.specs.Lists.{first_of};
+ghost use Rattle.protocol.specs.Refused.{refusal_in};
 ghost use Rattle.protocol.specs.Refusal.{open_tests, close_tests, flush_tests, answer_tests};
 
 use decision::asks_nothing;
-use protocol::{
-    COUNT_FULL, ClientFile, Entry, IN_RECOVERY, NO_BLOCK, NO_CALL, NO_CLIENT, NO_FILE, NOT_DIRTY,
-    NOT_OPEN, OPEN_WAITS, UNDER_EMBARGO, VERSION_SPENT, refused_if,
-};
+use protocol::{ClientFile, Entry, Refusal, refuse_if};
 use records::Mode;
 use sizes::Sizes;
 
@@ -20,20 +18,18 @@ pub fn open_refusal(
     mode: Mode,
     client: usize,
     file: usize,
-) -> u8
-    ensures { result ≡ first_of (open_tests sizes embargoed recovering entry own mode client file) }
+) -> Result<(), Refusal>
+    ensures { refusal_in result ≡ first_of (open_tests sizes embargoed recovering entry own mode client file) }
 {
-    let opens = own.opens;
-    let version = entry.version;
-    let spent = refused_if(mode.is_write() & version.is_last(), VERSION_SPENT, 0);
-    let full = refused_if(opens.count(mode) == 255, COUNT_FULL, spent);
-    let waits = refused_if(entry.waits(sizes.clients), OPEN_WAITS, full);
-    let recovers = refused_if(recovering, IN_RECOVERY, waits);
-    let aside = refused_if(embargoed, UNDER_EMBARGO, recovers);
-    refused_if(
-        sizes.clients <= client,
-        NO_CLIENT,
-        refused_if(sizes.files <= file, NO_FILE, aside),
+    refuse_if(sizes.clients <= client, Refusal::NoClient)?;
+    refuse_if(sizes.files <= file, Refusal::NoFile)?;
+    refuse_if(embargoed, Refusal::UnderEmbargo)?;
+    refuse_if(recovering, Refusal::InRecovery)?;
+    refuse_if(entry.waits(sizes.clients), Refusal::OpenWaits)?;
+    refuse_if(own.opens.count(mode) == 255, Refusal::CountFull)?;
+    refuse_if(
+        mode.is_write() & entry.version.is_last(),
+        Refusal::VersionSpent,
     )
 }
 
@@ -47,20 +43,16 @@ pub fn close_refusal(
     mode: Mode,
     client: usize,
     file: usize,
-) -> u8
+) -> Result<(), Refusal>
     ensures { (e : Entry) → e.waiter ≡ waiter
-        → result ≡ first_of (close_tests sizes embargoed recovering e own mode client file) }
+        → refusal_in result ≡ first_of (close_tests sizes embargoed recovering e own mode client file) }
 {
-    let opens = own.opens;
-    let closed = refused_if(opens.count(mode) == 0, NOT_OPEN, 0);
-    let waits = refused_if((waiter as usize) < sizes.clients, OPEN_WAITS, closed);
-    let recovers = refused_if(recovering, IN_RECOVERY, waits);
-    let aside = refused_if(embargoed, UNDER_EMBARGO, recovers);
-    refused_if(
-        sizes.clients <= client,
-        NO_CLIENT,
-        refused_if(sizes.files <= file, NO_FILE, aside),
-    )
+    refuse_if(sizes.clients <= client, Refusal::NoClient)?;
+    refuse_if(sizes.files <= file, Refusal::NoFile)?;
+    refuse_if(embargoed, Refusal::UnderEmbargo)?;
+    refuse_if(recovering, Refusal::InRecovery)?;
+    refuse_if((waiter as usize) < sizes.clients, Refusal::OpenWaits)?;
+    refuse_if(own.opens.count(mode) == 0, Refusal::NotOpen)
 }
 
 pub fn flush_refusal(
@@ -71,21 +63,15 @@ pub fn flush_refusal(
     client: usize,
     file: usize,
     block: usize,
-) -> u8
-    ensures { result ≡ first_of (flush_tests sizes embargoed recovering dirty client file block) }
+) -> Result<(), Refusal>
+    ensures { refusal_in result ≡ first_of (flush_tests sizes embargoed recovering dirty client file block) }
 {
-    let clean = refused_if(!dirty, NOT_DIRTY, 0);
-    let recovers = refused_if(recovering, IN_RECOVERY, clean);
-    let aside = refused_if(embargoed, UNDER_EMBARGO, recovers);
-    refused_if(
-        sizes.clients <= client,
-        NO_CLIENT,
-        refused_if(
-            sizes.files <= file,
-            NO_FILE,
-            refused_if(sizes.blocks <= block, NO_BLOCK, aside),
-        ),
-    )
+    refuse_if(sizes.clients <= client, Refusal::NoClient)?;
+    refuse_if(sizes.files <= file, Refusal::NoFile)?;
+    refuse_if(sizes.blocks <= block, Refusal::NoBlock)?;
+    refuse_if(embargoed, Refusal::UnderEmbargo)?;
+    refuse_if(recovering, Refusal::InRecovery)?;
+    refuse_if(!dirty, Refusal::NotDirty)
 }
 
 pub fn answer_refusal(
@@ -95,16 +81,15 @@ pub fn answer_refusal(
     entry: Entry,
     client: usize,
     file: usize,
-) -> u8
-    ensures { result ≡ first_of (answer_tests sizes embargoed recovering entry client file) }
+) -> Result<(), Refusal>
+    ensures { refusal_in result ≡ first_of (answer_tests sizes embargoed recovering entry client file) }
 {
-    let uncalled = asks_nothing(entry.call_to(sizes.clients, client));
-    let answered = refused_if(uncalled, NO_CALL, 0);
-    let recovers = refused_if(recovering, IN_RECOVERY, answered);
-    let aside = refused_if(embargoed, UNDER_EMBARGO, recovers);
-    refused_if(
-        sizes.clients <= client,
-        NO_CLIENT,
-        refused_if(sizes.files <= file, NO_FILE, aside),
+    refuse_if(sizes.clients <= client, Refusal::NoClient)?;
+    refuse_if(sizes.files <= file, Refusal::NoFile)?;
+    refuse_if(embargoed, Refusal::UnderEmbargo)?;
+    refuse_if(recovering, Refusal::InRecovery)?;
+    refuse_if(
+        asks_nothing(entry.call_to(sizes.clients, client)),
+        Refusal::NoCall,
     )
 }

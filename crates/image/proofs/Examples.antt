@@ -5,6 +5,7 @@ use mathlib.Core.Path.{◌≡◌, refl}
 use mathlib.Core.Bool.{Bool, true, false}
 use mathlib.Core.List.{List, [], ◌∷◌, ◌++◌}
 use lib.ListN.{replicate, set}
+use Rattle.std.specs.Prelude.{Ok, Err}
 use Rattle.records.specs.declared.record.Mode.TheVariants.{Read}
 use Rattle.records.specs.Record.{not_open}
 use Rattle.decision.specs.Lists.{count, stored, first_below}
@@ -23,7 +24,7 @@ use Rattle.service.specs.Space.{any_below, sum_below, spaced}
 use Rattle.service.specs.Step.{step_of, moved}
 use Rattle.service.proofs.Run.{fresh_default, OR, OW, CW, RD, WR, FL, AN, XX, EM, LF, after}
 use Rattle.service.proofs.Making.{opens, writing, entry, kinds, waiting, with_entry}
-use Rattle.image.specs.declared.writing.ImageWritten.TheVariants.{Length, Refused}
+use Rattle.protocol.specs.declared.refusal.Refusal.TheVariants.{InRecovery, OpenWaitsAtWriting, BufferTooShort}
 use Rattle.image.specs.Bytes.{low, below, flat}
 use Rattle.image.specs.Image.{size_bytes, image_bytes, image_of}
 use Rattle.image.specs.Writing.{image_written, buffer_after}
@@ -143,18 +144,18 @@ pub record Examples : Type 0 where
       image_of (under_embargo (replicate max_clients true) (fresh small_sizes))
       ≡ fresh_image_with small_sizes (3 ∷ 0 ∷ 0 ∷ 1 ∷ 2 ∷ [])
   -- the length is told, and the byte past the image stays
-  pub told : image_written whole_case 35 ≡ Length 34
+  pub told : image_written whole_case 35 ≡ Ok 34
   pub past : buffer_after whole_case (replicate 35 9) ≡ whole_image ++ (9 ∷ [])
   -- a buffer that is one byte too short stays as it came; so does one at 15 and at 5, which come first
-  pub short : image_written whole_case 33 ≡ Refused 16
+  pub short : image_written whole_case 33 ≡ Err BufferTooShort
   pub short_stays : buffer_after whole_case (replicate 33 9) ≡ replicate 33 9
-  pub waits : image_written while_waiting 0 ≡ Refused 15
+  pub waits : image_written while_waiting 0 ≡ Err OpenWaitsAtWriting
   pub waits_stays : buffer_after while_waiting (replicate 64 9) ≡ replicate 64 9
-  pub recovering : image_written (after while_waiting (XX ∷ [])) 0 ≡ Refused 5
+  pub recovering : image_written (after while_waiting (XX ∷ [])) 0 ≡ Err InRecovery
   -- an open of a file that is past the sizes does not wait
   pub past_sizes :
       image_written (with_entry 32 (waiting (entry 1 writing not_open nobody) 1 Read (kinds 3 0)) fresh_default) 13
-      ≡ Length 13
+      ≡ Ok 13
 
 pub examples : Examples
 unfolding fresh step_of moved spaced any_below sum_below file_step block_step table_step first_below all_step forgotten_below grants_below dropped_below after_forgetting after_dropping state_of permission_at_grant count stored low below flat image_bytes image_written buffer_after

@@ -1,13 +1,15 @@
 -- Writing the image into a lent buffer: what is answered, and what the buffer holds then.
-use Rattle.std.specs.Prelude.{ℕ, ◌≡◌, List, [], ◌∷◌, ltb, length}
+use Rattle.std.specs.Prelude.{ℕ, ◌≡◌, Bool, ⊤, Ok, Err, cond, List, [], ◌∷◌, ltb, length}
+use Rattle.std.specs.declared.result.Result.{Result}
 use Rattle.decision.specs.Lists.{count, first_of}
 use Rattle.protocol.specs.Entry.{waits}
+use Rattle.protocol.specs.declared.refusal.Refusal.{Refusal}
+use Rattle.protocol.specs.declared.refusal.Refusal.TheVariants.{InRecovery, OpenWaitsAtWriting, BufferTooShort}
 use Rattle.protocol.specs.Refusal.{Test, tested, in_recovery}
+use Rattle.protocol.specs.Refused.{number_of, refusal_if}
 use Rattle.writer.specs.Buffer.{written}
 use Rattle.service.specs.declared.service.Service.{Service}
 use Rattle.service.specs.Contents.{sizes_of, table_in, entry_at}
-use Rattle.image.specs.declared.writing.ImageWritten.{ImageWritten}
-use Rattle.image.specs.declared.writing.ImageWritten.TheVariants.{Length, Refused}
 use Rattle.image.specs.Image.{image_of}
 
 -- how many files in force have an open that waits
@@ -25,24 +27,35 @@ buffer_too_short s room = (ltb room (length (image_of s)), 16)
 abbrev pub image_tests : Service → ℕ → List Test
 image_tests s room = in_recovery (table_in s).recovering ∷ some_open_waits s ∷ buffer_too_short s room ∷ []
 
+-- the refusal of the first of them that holds
+abbrev pub refusal_to_write : Bool → Bool → Bool → Result ⊤ Refusal
+refusal_to_write recovering waits short =
+    cond recovering (Err InRecovery) (cond waits (Err OpenWaitsAtWriting) (refusal_if short BufferTooShort))
+
+abbrev pub refused_or : Result ⊤ Refusal → ℕ → Result ℕ Refusal
+refused_or (Ok x) n = Ok n
+refused_or (Err r) n = Err r
+
 -- "The length is told", for a buffer of so many bytes
-unfoldable pub image_written : Service → ℕ → ImageWritten
-image_written s room = tested (image_tests s room) Refused (Length (length (image_of s)))
+unfoldable pub image_written : Service → ℕ → Result ℕ Refusal
+image_written s room =
+    let n = length (image_of s) in
+    refused_or (refusal_to_write (table_in s).recovering (ltb 0 (open_waiting s)) (ltb room n)) n
 
 -- "When an answer is an enum, a definition gives this paper's number and values for each case of that enum" (document
 -- 01): the number of the refusal, 0 for none, ..
-abbrev pub refusal_of : ImageWritten → ℕ
-refusal_of (Length n) = 0
-refusal_of (Refused k) = k
+abbrev pub refusal_of : Result ℕ Refusal → ℕ
+refusal_of (Ok n) = 0
+refusal_of (Err r) = number_of r
 
 -- .. and what is told: the length; "A refusal gives only its number"
-abbrev pub values_of : ImageWritten → List ℕ
-values_of (Length n) = n ∷ []
-values_of (Refused k) = []
+abbrev pub values_of : Result ℕ Refusal → List ℕ
+values_of (Ok n) = n ∷ []
+values_of (Err r) = []
 
 -- What is promised of an answer, by its number and values: the number of the first test that holds; where none does, 0
 -- and the length.
-pub record Tells (s : Service) (room : ℕ) (r : ImageWritten) : Type 0 where
+pub record Tells (s : Service) (room : ℕ) (r : Result ℕ Refusal) : Type 0 where
   pub refusal : refusal_of r ≡ first_of (image_tests s room)
   pub values : values_of r ≡ tested (image_tests s room) (λ k. []) (length (image_of s) ∷ [])
 

@@ -5,7 +5,7 @@ ghost use Rattle.image.specs.Bytes.{low, flat};
 ghost use Rattle.image.specs.Image.{last_read, file_entry, open_bytes, open_entry, block_bytes, block_entry};
 ghost use Rattle.image.specs.Image.{embargo_entry};
 
-use crate::numbers::{put_eight, put_four};
+use crate::numbers::put_low;
 use protocol::{Entry, NOBODY};
 use records::ClientRecord;
 use writer::put_byte;
@@ -13,9 +13,8 @@ use writer::put_byte;
 fn last_read(entry: Entry, clients: usize) -> u8
     ensures { result ≡ last_read clients entry }
 {
-    let last = entry.last;
-    if (last as usize) < clients {
-        last
+    if (entry.last as usize) < clients {
+        entry.last
     } else {
         NOBODY
     }
@@ -28,11 +27,9 @@ pub fn put_file(out: &mut [u8], at: usize, file: usize, entry: Entry, clients: u
     ensures wrote { Wrote out.old at (flat (file_entry clients file entry)) out.new result }
     ensures upper_bound { result ≤ at + 6 }
 {
-    let version = entry.version;
-    let read = version.as_read();
-    let first = read.is_first();
+    let read = entry.version.as_read();
     let none = clients <= entry.last as usize;
-    if first & none {
+    if read.is_first() & none {
         return at;
     }
     put_file_fields(out, at, file, read.number(), last_read(entry, clients))
@@ -45,7 +42,7 @@ fn put_file_fields(out: &mut [u8], at: usize, file: usize, version: u32, last: u
     ensures upper_bound { result ≤ at + 6 }
 {
     let second = put_byte(out, at, file as u8);
-    let third = put_four(out, second, version as u64);
+    let third = put_low::<4>(out, second, version as u64);
     put_byte(out, third, last)
 }
 
@@ -121,7 +118,7 @@ fn put_block_fields(out: &mut [u8], at: usize, file: usize, block: usize, value:
 {
     let second = put_byte(out, at, file as u8);
     let third = put_byte(out, second, block as u8);
-    put_eight(out, third, value)
+    put_low::<8>(out, third, value)
 }
 
 // A client that is not under embargo is not listed.

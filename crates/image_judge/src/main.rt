@@ -2,7 +2,7 @@
 // is read and what is written, byte by byte, is told at the head of tests/model/src/bin/images/main.rs.
 #![tactic(auto)]
 
-ghost use Rattle.std.specs.Prelude.{◌+◌, ◌<◌, ◌≤◌, length};
+ghost use Rattle.std.specs.Prelude.{◌+◌, ◌≤◌, length};
 
 mod judging;
 
@@ -36,49 +36,39 @@ fn judge_all(rt: &impl Print, input: &[u8]) {
         store: 0,
     };
     let mut service = Service::new(sizes);
-    let mut at: usize = 0;
-    while HEAD <= input.len() - at {
-        let given = sizes_at(input, at);
-        let before = input[at + 5];
-        let start = at + HEAD;
-        let count = number_at(input, at + 6);
-        if input.len() - start < count {
+    let mut rest = input;
+    // Stays: no index is counted: each turn takes its string off the rest.
+    while HEAD <= rest.len() {
+        let (head, after) = rest.split_at(HEAD);
+        let given = sizes_at(head);
+        let count = number_at(head, 6);
+        if after.len() < count {
             return;
         }
-        if !same_sizes(given, sizes) {
+        if given != sizes {
             service = prepared(given);
             sizes = given;
         }
-        let end = start + count;
-        service = judged(rt, service, before, &input[start..end]);
-        at = end;
+        let (string, more) = after.split_at(count);
+        service = judged(rt, service, head[5], string);
+        rest = more;
     }
 }
 
-fn sizes_at(input: &[u8], at: usize) -> Sizes
-    requires { at + 5 ≤ length input.now }
+fn sizes_at(head: &[u8]) -> Sizes
+    requires { 5 ≤ length head.now }
 {
     Sizes {
-        clients: wide(input[at]),
-        files: wide(input[at + 1]),
-        blocks: wide(input[at + 2]),
-        store: number_at(input, at + 3),
+        clients: head[0] as usize,
+        files: head[1] as usize,
+        blocks: head[2] as usize,
+        store: number_at(head, 3),
     }
 }
 
 // The number in two bytes, the low byte first.
-fn number_at(input: &[u8], at: usize) -> usize
-    requires { at + 2 ≤ length input.now }
+fn number_at(head: &[u8], at: usize) -> usize
+    requires { at + 2 ≤ length head.now }
 {
-    wide(input[at]) + wide(input[at + 1]) * 256
-}
-
-fn wide(byte: u8) -> usize
-    ensures { result < 256 }
-{
-    byte as usize
-}
-
-fn same_sizes(a: Sizes, b: Sizes) -> bool {
-    (a.clients == b.clients) & (a.files == b.files) & (a.blocks == b.blocks) & (a.store == b.store)
+    head[at] as usize + head[at + 1] as usize * 256
 }

@@ -5,6 +5,7 @@ use std::io;
 use std::io::Read;
 
 // What was read of an input.
+// Stays: no Result, for the bytes that came before a failure are there beside it (`within`, `prefix`).
 #[derive(Clone, Copy)]
 pub struct Content {
     // How many bytes stand at the start of the buffer.
@@ -19,17 +20,11 @@ pub fn read_to_end(input: &mut impl Read, buffer: &mut [u8]) -> Content
     ensures prefix { result.count ≡ length (take result.count buffer.new) }
 {
     let mut count: usize = 0;
+    // Stays: each turn goes on by as many bytes as the read gave.
     while count < buffer.len() {
         match read_after(input, buffer, count) {
-            Ok(more) => {
-                if more == 0 {
-                    return Content {
-                        count,
-                        failure: None,
-                    };
-                }
-                count += more;
-            }
+            Ok(0) => break,
+            Ok(more) => count += more,
             Err(error) => {
                 return Content {
                     count,

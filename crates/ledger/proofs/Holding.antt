@@ -17,7 +17,8 @@ use Rattle.protocol.specs.declared.reply.Granting.{Granting}
 use Rattle.protocol.specs.declared.shared.SharedFile.{SharedFile}
 use Rattle.protocol.specs.Client.{kept, keeps_blocks, side_of}
 use Rattle.protocol.specs.Entry.{call_to, calls_for, calls_out, grant_of, answered_entry, forgotten_entry}
-use Rattle.blocks.specs.Stores.{Stores, held_in, dropped_unless, answered_stores}
+use Rattle.blocks.specs.declared.stores.Stores.{Stores}
+use Rattle.blocks.specs.Stores.{held_in, dropped_unless, answered_stores}
 use Rattle.file.specs.FileStep.{FileAfter, answered, after_answer, with_entry, after_forgetting, after_dropping}
 use Rattle.service.specs.declared.service.Service.{Service}
 use Rattle.service.specs.declared.outcome.Outcome.{Outcome}

@@ -11,7 +11,8 @@ use Rattle.protocol.specs.declared.step.Step.TheVariants.{Open, Close, Read, Wri
 use Rattle.protocol.specs.declared.step.Step.TheVariants.{Restart, Embargo, Lift}
 use Rattle.protocol.specs.Reply.{is_refused}
 use Rattle.protocol.specs.Step.{client_of, file_of, block_of}
-use Rattle.blocks.specs.Stores.{Stores, held_in, dirty_in}
+use Rattle.blocks.specs.declared.stores.Stores.{Stores}
+use Rattle.blocks.specs.Stores.{held_in, dirty_in}
 use Rattle.service.specs.declared.service.Service.{Service}
 use Rattle.service.specs.Contents.{embargoed_at, client_at, stores_of}
 use Rattle.service.specs.Step.{step_of}

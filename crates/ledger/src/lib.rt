@@ -10,7 +10,6 @@ mod told;
 
 pub use annotated::Annotated;
 pub use ledger::{BEGINNINGS, Ledger};
-pub use lines::{Lines, NOTES, lines_in};
-pub use note::note_line;
+pub use lines::{Lines, NOTES};
 pub use refusals::{REFUSAL_NUMBERS, count_refusal};
-pub use told::{Told, read_told};
+pub use told::Told;

@@ -1,10 +1,13 @@
 // The writes to one block that are noted: the line and the client of the latest that is safe, of the latest that is at
 // risk, and of the latest if it was lost. Line 0 stands for none.
-ghost use Rattle.std.specs.Prelude.{◌≡◌, [], ◌%◌};
+// Stays: numbers in place of Options, and two arrays side by side. The theorems of specs/Provenance.antt speak of the
+// lists of both and of line 0, and in fixed memory an Option of each would take a word more for each note.
+ghost use Rattle.std.specs.Prelude.{◌≡◌, ◌%◌};
 ghost use Rattle.sizes.specs.Sizes.{max_places};
-ghost use Rattle.ledger.specs.Ledger.{entered, lines_in, with_lines, wrote_lines, risks_in, came_lines, lost_lines};
+ghost use Rattle.ledger.specs.Ledger.{lines_in, wrote_lines, risks_in, came_lines, lost_lines};
 ghost use Rattle.ledger.specs.Ledger.{latest_in};
 
+use crate::ledger::Ledger;
 use sizes::MAX_PLACES;
 
 // The arrays have first the safe writes of all blocks, then those at risk, then those lost.
@@ -28,21 +31,17 @@ impl Lines {
     {
         if aside {
             Lines {
-                safe: self.safe,
-                saver: self.saver,
-                risk: self.risk,
-                risker: self.risker,
                 lost: line,
                 loser: client,
+                ..self
             }
         } else if delayed {
             Lines {
-                safe: self.safe,
-                saver: self.saver,
                 risk: line,
                 risker: client,
                 lost: 0,
                 loser: 0,
+                ..self
             }
         } else {
             Lines {
@@ -73,8 +72,7 @@ impl Lines {
                 saver: self.risker,
                 risk: 0,
                 risker: 0,
-                lost: self.lost,
-                loser: self.loser,
+                ..self
             };
         }
         self
@@ -116,32 +114,19 @@ impl Lines {
     }
 }
 
-// The lines of the block at the place, which is wrapped.
-pub fn lines_in(written: &[u64; NOTES], writers: &[u8; NOTES], place: usize) -> Lines
-    ensures { result
-        ≡ lines_in (entered written.now writers.now [] []) (place % max_places) }
-{
-    let at = place % MAX_PLACES;
-    Lines {
-        safe: written[at],
-        saver: writers[at],
-        risk: written[MAX_PLACES + at],
-        risker: writers[MAX_PLACES + at],
-        lost: written[2 * MAX_PLACES + at],
-        loser: writers[2 * MAX_PLACES + at],
+impl Ledger {
+    // The lines of the block at the place, which is wrapped.
+    pub fn lines_in(&self, place: usize) -> Lines
+        ensures { result ≡ lines_in self.now (place % max_places) }
+    {
+        let at = place % MAX_PLACES;
+        Lines {
+            safe: self.written[at],
+            saver: self.writers[at],
+            risk: self.written[MAX_PLACES + at],
+            risker: self.writers[MAX_PLACES + at],
+            lost: self.written[2 * MAX_PLACES + at],
+            loser: self.writers[2 * MAX_PLACES + at],
+        }
     }
-}
-
-// Other lines of that block.
-pub fn put_lines(lines: Lines, place: usize, written: &mut [u64; NOTES], writers: &mut [u8; NOTES])
-    ensures { entered written.new writers.new [] []
-        ≡ with_lines (place % max_places) lines (entered written.old writers.old [] []) }
-{
-    let at = place % MAX_PLACES;
-    written[at] = lines.safe;
-    written[MAX_PLACES + at] = lines.risk;
-    written[2 * MAX_PLACES + at] = lines.lost;
-    writers[at] = lines.saver;
-    writers[MAX_PLACES + at] = lines.risker;
-    writers[2 * MAX_PLACES + at] = lines.loser;
 }

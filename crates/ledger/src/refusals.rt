@@ -11,14 +11,8 @@ pub const REFUSAL_NUMBERS: usize = 24;
 pub fn count_refusal(reply: Reply, refusals: &mut [u64; REFUSAL_NUMBERS])
     ensures { refusals.new ≡ refusals_after reply refusals.old }
 {
-    match reply {
-        Reply::Granted(_) => {}
-        Reply::Waiting => {}
-        Reply::Value(_) => {}
-        Reply::Refused(number) => count_number(number as usize, refusals),
-        Reply::Answered(_) => {}
-        Reply::AnsweredGrant(_, _, _) => {}
-        Reply::Done => {}
+    if let Reply::Refused(number) = reply {
+        count_number(number as usize, refusals);
     }
 }
 
@@ -34,8 +28,5 @@ fn count_number(number: usize, refusals: &mut [u64; REFUSAL_NUMBERS])
 fn one_more(count: u64) -> u64
     ensures { result ≡ one_more count }
 {
-    if count < u64::MAX {
-        return count + 1;
-    }
-    count
+    count.saturating_add(1)
 }

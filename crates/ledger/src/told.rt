@@ -1,12 +1,10 @@
 // What is told of a read: which copy it takes, and which line wrote it.
-ghost use Rattle.std.specs.Prelude.{◌≡◌, [], ◌%◌};
+ghost use Rattle.std.specs.Prelude.{◌≡◌, ◌%◌};
 ghost use Rattle.sizes.specs.Sizes.{max_clients, max_files, max_blocks};
-ghost use Rattle.blocks.specs.Stores.{lent};
-ghost use Rattle.ledger.specs.Ledger.{entered, told_of};
+ghost use Rattle.ledger.specs.Ledger.{told_of};
 
-use crate::lines::{NOTES, lines_in};
-use blocks::{cell_of, place_of};
-use sizes::MAX_CELLS;
+use crate::ledger::Ledger;
+use blocks::{Stores, cell_of, place_of};
 
 #[derive(Clone, Copy)]
 pub struct Told {
@@ -24,31 +22,29 @@ pub struct Told {
     pub loser: u8,
 }
 
-// What is told of a read by a client that may cache or not, before the read. The numbers are wrapped.
-pub fn read_told(
-    caching: bool,
-    client: usize,
-    file: usize,
-    block: usize,
-    held: &[bool; MAX_CELLS],
-    dirty: &[bool; MAX_CELLS],
-    written: &[u64; NOTES],
-    writers: &[u8; NOTES],
-    copied: &[u64; MAX_CELLS],
-) -> Told
-    ensures { result ≡ told_of caching (lent [] [] held.now dirty.now)
-        (entered written.now writers.now copied.now [])
-        (client % max_clients) (file % max_files) (block % max_blocks) }
-{
-    let cell = cell_of(client, file, block);
-    let lines = lines_in(written, writers, place_of(file, block));
-    Told {
-        own: caching & held[cell],
-        dirty: dirty[cell],
-        since: copied[cell],
-        line: lines.latest(),
-        client: lines.writer(),
-        lost: lines.lost,
-        loser: lines.loser,
+impl Ledger {
+    // What is told of a read by a client that may cache or not, before the read. The numbers are wrapped.
+    pub fn read_told(
+        &self,
+        caching: bool,
+        client: usize,
+        file: usize,
+        block: usize,
+        stores: &Stores,
+    ) -> Told
+        ensures { result ≡ told_of caching stores.now self.now
+            (client % max_clients) (file % max_files) (block % max_blocks) }
+    {
+        let cell = cell_of(client, file, block);
+        let lines = self.lines_in(place_of(file, block));
+        Told {
+            own: caching & stores.held[cell],
+            dirty: stores.dirty[cell],
+            since: self.copied[cell],
+            line: lines.latest(),
+            client: lines.writer(),
+            lost: lines.lost,
+            loser: lines.loser,
+        }
     }
 }

@@ -1,5 +1,6 @@
 -- What the arguments mean: each by its text and its place, and what they ask for together.
-use Rattle.std.specs.Prelude.{ℕ, Bool, true, false, cond, ◌&&◌, ◌||◌, not, List, [], ◌∷◌, eqb, leb}
+use Rattle.std.specs.Prelude.{ℕ, Bool, true, false, cond, ◌&&◌, ◌||◌, not, List, [], ◌∷◌, eqb, leb, Some, None}
+use Rattle.std.specs.declared.option.Option.{Option}
 use Rattle.stepfile.specs.Text.{bytes}
 use Rattle.stepfile.specs.Grammar.{same}
 use Rattle.options.specs.declared.options.Argument.{Argument}
@@ -16,9 +17,19 @@ abbrev pub dashed : List ℕ → Bool
 dashed [] = false
 dashed (b ∷ l) = eqb b 45
 
--- An option for an image, which may come once: the place of its name is 0 before.
-abbrev pub once : ℕ → Argument → Argument
-once place option = cond (eqb place 0) option Repeated
+-- An option for an image, which may come once: its name has no place before.
+abbrev pub once : Option ℕ → Argument → Argument
+once None option = option
+once (Some place) option = Repeated
+
+-- the place of a name, after an option; 0 is the place of the program's own name, and no option's
+abbrev pub place_of : ℕ → Option ℕ
+place_of next = cond (eqb next 0) None (Some next)
+
+-- The name of an image stands at this place; the program's own name is read as one.
+abbrev pub is_at : Option ℕ → ℕ → Bool
+is_at None place = eqb place 0
+is_at (Some named) place = eqb named place
 
 -- What stands for the name of an image's file: an image is neither read from standard input nor written to standard
 -- output.
@@ -38,7 +49,7 @@ option_of r text =
 -- an image is the name of its file, also where it begins with a dash; after `--` there is no option.
 unfoldable pub argument_of : Request → ℕ → List ℕ → Argument
 argument_of r place text =
-    cond (eqb place r.written || eqb place r.read) (image_name_of text)
+    cond (is_at r.written place || is_at r.read place) (image_name_of text)
     (cond (same text (bytes "-")) Stdin
     (cond (r.dashes || not (dashed text)) Name
     (option_of r text)))
@@ -52,8 +63,8 @@ no_request =
       help = false;
       version = false;
       refused = false;
-      written = 0;
-      read = 0;
+      written = None;
+      read = None;
     }
 
 -- one input more is named
@@ -129,7 +140,7 @@ with_argument r WriteImage next =
       help = r.help;
       version = r.version;
       refused = r.refused;
-      written = next;
+      written = place_of next;
       read = r.read;
     }
 with_argument r ReadImage next =
@@ -141,7 +152,7 @@ with_argument r ReadImage next =
       version = r.version;
       refused = r.refused;
       written = r.written;
-      read = next;
+      read = place_of next;
     }
 with_argument r ImageName next = r
 with_argument r NoName next = with_refusal r
@@ -149,11 +160,13 @@ with_argument r Repeated next = with_refusal r
 with_argument r Unknown next = with_refusal r
 
 -- an image is given, by the place of its name; and that place is past the last of so many arguments
-abbrev pub is_given : ℕ → Bool
-is_given place = not (eqb place 0)
+abbrev pub is_given : Option ℕ → Bool
+is_given None = false
+is_given (Some place) = true
 
-abbrev pub is_missing : ℕ → ℕ → Bool
-is_missing place count = is_given place && leb count place
+abbrev pub is_missing : Option ℕ → ℕ → Bool
+is_missing None count = false
+is_missing (Some place) count = leb count place
 
 abbrev pub has_image : Request → Bool
 has_image r = is_given r.written || is_given r.read

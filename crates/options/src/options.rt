@@ -1,7 +1,7 @@
 // What the arguments mean: each by its text and its place, and what they ask for together.
 ghost use Rattle.std.specs.Prelude.{◌≡◌};
 ghost use Rattle.options.specs.Options.{argument_of, image_name_of, option_of, once as when_first, dashed, no_request};
-ghost use Rattle.options.specs.Options.{with_name, with_argument, is_given, is_missing, act_of};
+ghost use Rattle.options.specs.Options.{with_name, with_argument, is_at, place_of, is_missing, act_of};
 
 use check::same;
 
@@ -32,7 +32,7 @@ pub enum Argument {
 pub fn argument_of(text: &[u8], place: usize, request: Request) -> Argument
     ensures { result ≡ argument_of request place text.now }
 {
-    if (place == request.written) | (place == request.read) {
+    if is_at(request.written, place) | is_at(request.read, place) {
         return image_name_of(text);
     }
     if same(text, b"-") {
@@ -75,22 +75,19 @@ fn option_of(text: &[u8], request: Request) -> Argument
 }
 
 // The option, if the place of its name is not known yet.
-fn once(place: usize, option: Argument) -> Argument
-    ensures { result ≡ when_first place option }
+fn once(name: Option<usize>, option: Argument) -> Argument
+    ensures { result ≡ when_first name option }
 {
-    if place == 0 {
-        return option;
+    match name {
+        None => option,
+        Some(_) => Argument::Repeated,
     }
-    Argument::Repeated
 }
 
 fn is_dashed(text: &[u8]) -> bool
     ensures { result ≡ dashed text.now }
 {
-    if text.len() == 0 {
-        return false;
-    }
-    text[0] == b'-'
+    matches!(text, [b'-', ..])
 }
 
 // What the arguments so far ask for.
@@ -106,9 +103,9 @@ pub struct Request {
     version: bool,
     // One of them is not understood.
     refused: bool,
-    // The places of the arguments that name the image to write and the image to read; 0: there is none.
-    pub written: usize,
-    pub read: usize,
+    // The places of the arguments that name the image to write and the image to read.
+    pub written: Option<usize>,
+    pub read: Option<usize>,
 }
 
 // What the program does.
@@ -137,8 +134,8 @@ impl Request {
             help: false,
             version: false,
             refused: false,
-            written: 0,
-            read: 0,
+            written: None,
+            read: None,
         }
     }
 
@@ -152,8 +149,8 @@ impl Request {
             Argument::Dashes => self.dashes = true,
             Argument::Help => self.help = true,
             Argument::Version => self.version = true,
-            Argument::WriteImage => self.written = next,
-            Argument::ReadImage => self.read = next,
+            Argument::WriteImage => self.written = place_of(next),
+            Argument::ReadImage => self.read = place_of(next),
             Argument::ImageName => {}
             Argument::NoName => self.refused = true,
             Argument::Repeated => self.refused = true,
@@ -175,7 +172,7 @@ impl Request {
         ensures { result ≡ act_of self count }
     {
         let lacks_written = is_missing(self.written, count);
-        let writing = is_given(self.written);
+        let writing = self.written.is_some();
         if self.refused {
             return Act::Nothing;
         }
@@ -190,7 +187,7 @@ impl Request {
         if self.version {
             return Act::PrintVersion;
         }
-        if self.several & (writing | is_given(self.read)) {
+        if self.several & (writing | self.read.is_some()) {
             return Act::RefuseInputs { writing };
         }
         if self.named {
@@ -202,15 +199,26 @@ impl Request {
     }
 }
 
-// Whether an image is given, by the place of its name; and whether that place is past the last argument.
-fn is_given(place: usize) -> bool
-    ensures { result ≡ is_given place }
+// The place of a name, after an option; 0 is the place of the program's own name, and no option's.
+fn place_of(next: usize) -> Option<usize>
+    ensures { result ≡ place_of next }
 {
-    !(place == 0)
+    if next == 0 { None } else { Some(next) }
 }
 
-fn is_missing(place: usize, count: usize) -> bool
-    ensures { result ≡ is_missing place count }
+// Whether the name of an image stands at this place; the program's own name is read as one.
+fn is_at(name: Option<usize>, place: usize) -> bool
+    ensures { result ≡ is_at name place }
 {
-    is_given(place) & (count <= place)
+    match name {
+        Some(named) => named == place,
+        None => place == 0,
+    }
+}
+
+// Whether an image is given, and its name would stand past the last argument.
+fn is_missing(name: Option<usize>, count: usize) -> bool
+    ensures { result ≡ is_missing name count }
+{
+    name.is_some_and(|place| count <= place)
 }

@@ -1,8 +1,6 @@
 -- The laws behind the functions that write the phrases.
-pub mod Copying
 pub mod Grants
 pub mod Calls
 pub mod Lists
 pub mod Losses
 pub mod Names
-pub mod Summing

@@ -12,18 +12,18 @@ use borrow.Author.Tests.{eq-eqb, ne_eqb}
 use Rattle.sizes.specs.Sizes.{max_files, max_blocks, max_places}
 use Rattle.sizes.proofs.Choosing.{when, unless}
 use Rattle.ledger.specs.declared.ledger.Ledger.{Ledger}
-use Rattle.ledger.specs.Ledger.{lines_in, lines_at, entered, risks_in}
+use Rattle.ledger.specs.Ledger.{lines_in, lines_at, risks_in}
 use Rattle.stepfile.specs.Text.{bytes}
 use Rattle.writer.specs.Buffer.{Wrote}
 use Rattle.writer.proofs.Buffers.{wrote_as, wrote_then}
 use Rattle.phrases.specs.Accepted.{loss_text, next_text, losses_on, losses_below, losses_text, or_none}
 
 -- which writes of a client are at risk, by the notes, and their lines
-abbrev pub at_risk : List ℕ → List ℕ → ℕ → ℕ → ℕ → Bool
-at_risk written writers i f b = risks_in i (lines_at (entered written writers [] []) f b)
+abbrev pub at_risk : Ledger → ℕ → ℕ → ℕ → Bool
+at_risk l i f b = risks_in i (lines_at l f b)
 
-abbrev pub line_of : List ℕ → List ℕ → ℕ → ℕ → ℕ
-line_of written writers f b = (lines_at (entered written writers [] []) f b).risk
+abbrev pub line_of : Ledger → ℕ → ℕ → ℕ
+line_of l f b = (lines_at l f b).risk
 
 -- a comma where something is told before
 next_text_lem :

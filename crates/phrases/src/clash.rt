@@ -1,44 +1,20 @@
 // What is said of a report that cannot be true, or not beside one that was accepted before.
 ghost use Rattle.std.specs.Prelude.{◌+◌, ◌≤◌, length};
 ghost use Rattle.writer.specs.Buffer.{Wrote};
-ghost use Rattle.phrases.specs.Clash.{caches_text, mark_text, counts_text, says_text, untrue_text, not_both_text};
+ghost use Rattle.phrases.specs.Clash.{counts_text, says_text, untrue_text, not_both_text};
 
-use crate::phrase::{put_client, put_file, put_text};
+use crate::phrase::{put_client, put_either, put_file, put_numbered};
 use protocol::ClientFile;
 use records::ClientRecord;
-use writer::put_argument;
-
-fn put_caches(out: &mut [u8], at: usize, caching: bool) -> usize
-    requires { at + 15 ≤ length out.old }
-    ensures wrote { Wrote out.old at (caches_text caching) out.new result }
-    ensures upper_bound { result ≤ at + 15 }
-{
-    if caching {
-        return put_text(out, at, b", may cache");
-    }
-    put_text(out, at, b", may not cache")
-}
-
-fn put_mark(out: &mut [u8], at: usize, marked: bool) -> usize
-    requires { at + 9 ≤ length out.old }
-    ensures wrote { Wrote out.old at (mark_text marked) out.new result }
-    ensures upper_bound { result ≤ at + 9 }
-{
-    if marked {
-        return put_text(out, at, b", a mark");
-    }
-    put_text(out, at, b", no mark")
-}
+use writer::put_text;
 
 fn put_counts(out: &mut [u8], at: usize, opens: ClientRecord) -> usize
     requires { at + 63 ≤ length out.old }
     ensures wrote { Wrote out.old at (counts_text opens) out.new result }
     ensures upper_bound { result ≤ at + 63 }
 {
-    let readers = put_text(out, at, b" has readers");
-    let word = put_argument(out, readers, opens.readers as u64);
-    let writers = put_text(out, word, b", writers");
-    put_argument(out, writers, opens.writers as u64)
+    let word = put_numbered(out, at, b" has readers", opens.readers as u64);
+    put_numbered(out, word, b", writers", opens.writers as u64)
 }
 
 // What a client says of a file.
@@ -50,8 +26,8 @@ fn put_says(out: &mut [u8], at: usize, client: usize, side: ClientFile) -> usize
     let opens = side.opens;
     let word = put_client(out, at, client);
     let may = put_counts(out, word, opens);
-    let mark = put_caches(out, may, opens.caching);
-    put_mark(out, mark, side.marked)
+    let mark = put_either(out, may, opens.caching, b", may cache", b", may not cache");
+    put_either(out, mark, side.marked, b", a mark", b", no mark")
 }
 
 // The report of the client cannot be true; own is what it says of the file.

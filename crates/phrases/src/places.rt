@@ -1,31 +1,27 @@
 // The store: how many blocks are used and reserved, by whom, and what is said of it.
-ghost use Rattle.std.specs.Prelude.{◌+◌, ◌≤◌, ◌<◌, ◌≡◌, false, not, ◌&&◌, length, get_or, replicate};
+ghost use Rattle.std.specs.Prelude.{ℕ, Bool, ◌+◌, ◌≤◌, ◌<◌, ◌≡◌, false, not, ◌&&◌, length, get_or};
 ghost use Rattle.sizes.specs.Sizes.{max_clients, max_files, max_blocks, place, cell, Permitted};
-ghost use Rattle.decision.specs.Lists.{count, stored};
-ghost use Rattle.service.specs.Space.{any_below, dirty_among, used_in, reserved_in, reserves_any};
+ghost use Rattle.decision.specs.Lists.{count};
+ghost use Rattle.service.specs.Space.{any_below, sum_below, dirty_among, used_in, reserved_in, reserves_any};
 ghost use Rattle.writer.specs.Buffer.{Wrote};
-ghost use Rattle.phrases.specs.Places.{is_in, reserves, counts_text, places_text, no_place_text};
+ghost use Rattle.phrases.specs.Places.{is_in, counts_text, places_text, no_place_text};
 
-use crate::list::put_list;
-use crate::phrase::{put_block, put_text};
+use crate::list::put_numbers;
+use crate::phrase::{put_block, put_numbered};
 use blocks::{cell_of, place_of};
-use decision::one_if;
+use decision::count_below;
+use service::{any_below, sum_of_files};
 use sizes::{MAX_CELLS, MAX_CLIENTS, MAX_PLACES, Sizes};
-use writer::put_argument;
+use writer::put_text;
 
 // How many blocks of the file are used.
 fn used_on(blocks: usize, file: usize, used: &[bool; MAX_PLACES]) -> usize
     requires blocks_le_max_blocks { blocks ≤ max_blocks }
     requires file_lt_max_files { file < max_files }
-    ensures { result ≡ count blocks (λ b. get_or used.now (place file b) false) }
+    ensures counted { result ≡ count blocks (λ b. get_or used.now (place file b) false) }
+    ensures upper_bound { result ≤ max_blocks }
 {
-    let mut found: usize = 0;
-    let mut b: usize = 0;
-    while b < blocks {
-        found += one_if(used[place_of(file, b)]);
-        b += 1;
-    }
-    found
+    count_below(blocks, |b| used[place_of(file, b)])
 }
 
 // How many there are of all files.
@@ -34,13 +30,7 @@ fn count_used(sizes: Sizes, used: &[bool; MAX_PLACES]) -> usize
     requires blocks_le_max_blocks { sizes.blocks ≤ max_blocks }
     ensures { result ≡ used_in sizes used.now }
 {
-    let mut found: usize = 0;
-    let mut f: usize = 0;
-    while f < sizes.files {
-        found += used_on(sizes.blocks, f, used);
-        f += 1;
-    }
-    found
+    sum_of_files(sizes.files, |f| used_on(sizes.blocks, f, used))
 }
 
 // Whether the block is dirty at a client without embargo.
@@ -56,13 +46,9 @@ fn is_dirty(
     requires block_lt_max_blocks { block < max_blocks }
     ensures { result ≡ dirty_among clients (is_in embargoed) dirty.now file block }
 {
-    let mut found = false;
-    let mut i: usize = 0;
-    while i < clients {
-        found = found | (!embargoed[i] & dirty[cell_of(i, file, block)]);
-        i += 1;
-    }
-    found
+    any_below(clients, |i| {
+        !embargoed[i] & dirty[cell_of(i, file, block)]
+    })
 }
 
 // How many blocks of the file are reserved: dirty there, and not used.
@@ -76,17 +62,13 @@ fn reserved_on(
     requires clients_le_max_clients { sizes.clients ≤ max_clients }
     requires blocks_le_max_blocks { sizes.blocks ≤ max_blocks }
     requires file_lt_max_files { file < max_files }
-    ensures { result ≡ count sizes.blocks (λ b. not (get_or used.now (place file b) false)
+    ensures counted { result ≡ count sizes.blocks (λ b. not (get_or used.now (place file b) false)
         && dirty_among sizes.clients (is_in embargoed) dirty.now file b) }
+    ensures upper_bound { result ≤ max_blocks }
 {
-    let mut found: usize = 0;
-    let mut b: usize = 0;
-    while b < sizes.blocks {
-        let reserved = is_dirty(sizes.clients, embargoed, file, b, dirty);
-        found += one_if(!used[place_of(file, b)] & reserved);
-        b += 1;
-    }
-    found
+    count_below(sizes.blocks, |b| {
+        !used[place_of(file, b)] & is_dirty(sizes.clients, embargoed, file, b, dirty)
+    })
 }
 
 // How many there are of all files.
@@ -101,13 +83,10 @@ fn count_reserved(
     requires blocks_le_max_blocks { sizes.blocks ≤ max_blocks }
     ensures { result ≡ reserved_in sizes (is_in embargoed) used.now dirty.now }
 {
-    let mut found: usize = 0;
-    let mut f: usize = 0;
-    while f < sizes.files {
-        found += reserved_on(sizes, f, used, embargoed, dirty);
-        f += 1;
-    }
-    found
+    sum_of_files(
+        sizes.files,
+        |f| reserved_on(sizes, f, used, embargoed, dirty),
+    )
 }
 
 // Whether the client has a dirty block of the file that is not used.
@@ -124,13 +103,9 @@ fn reserves_on(
     ensures { result ≡ any_below blocks (λ b. not (get_or used.now (place file b) false)
         && get_or dirty.now (cell client file b) false) }
 {
-    let mut found = false;
-    let mut b: usize = 0;
-    while b < blocks {
-        found = found | (!used[place_of(file, b)] & dirty[cell_of(client, file, b)]);
-        b += 1;
-    }
-    found
+    any_below(blocks, |b| {
+        !used[place_of(file, b)] & dirty[cell_of(client, file, b)]
+    })
 }
 
 // Whether it has one of any file.
@@ -145,35 +120,10 @@ fn reserves_any(
     requires client_lt_max_clients { client < max_clients }
     ensures { result ≡ reserves_any sizes used.now dirty.now client }
 {
-    let mut found = false;
-    let mut f: usize = 0;
-    while f < sizes.files {
-        found = found | reserves_on(sizes.blocks, client, f, used, dirty);
-        f += 1;
-    }
-    found
-}
-
-// Which clients without embargo have.
-fn reservers(
-    sizes: Sizes,
-    used: &[bool; MAX_PLACES],
-    embargoed: [bool; MAX_CLIENTS],
-    dirty: &[bool; MAX_CELLS],
-) -> [bool; MAX_CLIENTS]
-    requires clients_le_max_clients { sizes.clients ≤ max_clients }
-    requires files_le_max_files { sizes.files ≤ max_files }
-    requires blocks_le_max_blocks { sizes.blocks ≤ max_blocks }
-    ensures { result ≡ stored sizes.clients (λ i. i)
-        (reserves sizes used.now embargoed dirty.now) (replicate max_clients false) }
-{
-    let mut flags = [false; MAX_CLIENTS];
-    let mut i: usize = 0;
-    while i < sizes.clients {
-        flags[i] = !embargoed[i] & reserves_any(sizes, i, used, dirty);
-        i += 1;
-    }
-    flags
+    any_below(
+        sizes.files,
+        |f| reserves_on(sizes.blocks, client, f, used, dirty),
+    )
 }
 
 // The size of the store, and how many blocks are used and reserved.
@@ -193,12 +143,9 @@ fn put_counts(
 {
     let blocks = count_used(sizes, used);
     let reserved = count_reserved(sizes, used, embargoed, dirty);
-    let size = put_text(out, at, b"places:");
-    let first = put_argument(out, size, sizes.store as u64);
-    let second = put_text(out, first, b"; used:");
-    let third = put_argument(out, second, blocks as u64);
-    let fourth = put_text(out, third, b"; reserved:");
-    put_argument(out, fourth, reserved as u64)
+    let first = put_numbered(out, at, b"places:", sizes.store as u64);
+    let second = put_numbered(out, first, b"; used:", blocks as u64);
+    put_numbered(out, second, b"; reserved:", reserved as u64)
 }
 
 // What is said of the store.
@@ -216,10 +163,11 @@ pub fn put_places(
         (places_text sizes used.now embargoed dirty.now) out.new result }
     ensures upper_bound { result ≤ at + 279 }
 {
-    let flags = reservers(sizes, used, embargoed, dirty);
     let word = put_counts(out, at, sizes, used, embargoed, dirty);
     let list = put_text(out, word, b"; reserved by stations:");
-    put_list(out, list, sizes.clients, flags)
+    put_numbers(out, list, sizes.clients, |i| {
+        !embargoed[i] & reserves_any(sizes, i, used, dirty)
+    })
 }
 
 // The refusal of a write for which no place is free.

@@ -1,13 +1,12 @@
 // What is said of an accepted read.
-ghost use Rattle.std.specs.Prelude.{◌+◌, ◌≤◌, cond, [], length};
-ghost use Rattle.stepfile.specs.Text.{bytes};
+ghost use Rattle.std.specs.Prelude.{◌+◌, ◌≤◌, length};
 ghost use Rattle.writer.specs.Buffer.{Wrote};
 ghost use Rattle.phrases.specs.Accepted.{own_text, source_text, unwritten_text, written_text, lost_text, origin_text};
-ghost use Rattle.phrases.specs.Accepted.{unpromised_text, worth_text, read_text};
+ghost use Rattle.phrases.specs.Accepted.{worth_text, read_text};
 
-use crate::phrase::{put_block, put_client, put_embargo, put_text};
+use crate::phrase::{put_block, put_client, put_either, put_embargo, put_numbered};
 use ledger::Told;
-use writer::put_argument;
+use writer::put_text;
 
 // The sentence of an accepted read; aside says whether the client is under embargo, and embargo since which line.
 pub fn put_read(
@@ -40,18 +39,10 @@ fn put_worth(out: &mut [u8], at: usize, fresh: bool, told: Told, aside: bool, em
     ensures upper_bound { result ≤ at + 151 }
 {
     if aside {
-        return put_unpromised(out, at, embargo);
+        let word = put_text(out, at, b"; nothing is promised: it");
+        return put_embargo(out, word, embargo);
     }
     put_origin(out, at, fresh, told)
-}
-
-fn put_unpromised(out: &mut [u8], at: usize, embargo: u64) -> usize
-    requires { at + 74 ≤ length out.old }
-    ensures wrote { Wrote out.old at (unpromised_text embargo) out.new result }
-    ensures upper_bound { result ≤ at + 74 }
-{
-    let word = put_text(out, at, b"; nothing is promised: it");
-    put_embargo(out, word, embargo)
 }
 
 // Which copy the value is from.
@@ -72,20 +63,8 @@ fn put_own(out: &mut [u8], at: usize, dirty: bool, since: u64) -> usize
     ensures upper_bound { result ≤ at + 59 }
 {
     let flag = put_text(out, at, b": from its own copy");
-    let word = put_dirty(out, flag, dirty);
-    let number = put_text(out, word, b", since line");
-    put_argument(out, number, since)
-}
-
-fn put_dirty(out: &mut [u8], at: usize, dirty: bool) -> usize
-    requires { at + 7 ≤ length out.old }
-    ensures wrote { Wrote out.old at (cond dirty (bytes ", dirty") []) out.new result }
-    ensures upper_bound { result ≤ at + 7 }
-{
-    if dirty {
-        return put_text(out, at, b", dirty");
-    }
-    at
+    let word = put_either(out, flag, dirty, b", dirty", b"");
+    put_numbered(out, word, b", since line", since)
 }
 
 // Whose write it is, of which line, and whose later write was lost.
@@ -108,8 +87,7 @@ fn put_written(out: &mut [u8], at: usize, fresh: bool, told: Told) -> usize
     }
     let writer = put_text(out, at, b"; written by ");
     let word = put_client(out, writer, told.client as usize);
-    let number = put_text(out, word, b" at line");
-    put_argument(out, number, told.line)
+    put_numbered(out, word, b" at line", told.line)
 }
 
 fn put_unwritten(out: &mut [u8], at: usize, fresh: bool, lost: u64) -> usize
@@ -120,10 +98,7 @@ fn put_unwritten(out: &mut [u8], at: usize, fresh: bool, lost: u64) -> usize
     if !fresh {
         return put_text(out, at, b"; as the image has it");
     }
-    if lost == 0 {
-        return put_text(out, at, b"; never written");
-    }
-    put_text(out, at, b"; as at the start")
+    put_either(out, at, lost == 0, b"; never written", b"; as at the start")
 }
 
 fn put_lost(out: &mut [u8], at: usize, told: Told) -> usize
@@ -136,7 +111,6 @@ fn put_lost(out: &mut [u8], at: usize, told: Told) -> usize
     }
     let loser = put_text(out, at, b"; the write of ");
     let word = put_client(out, loser, told.loser as usize);
-    let number = put_text(out, word, b" at line");
-    let end = put_argument(out, number, told.lost);
+    let end = put_numbered(out, word, b" at line", told.lost);
     put_text(out, end, b" was lost")
 }

@@ -1,24 +1,27 @@
 // What is said of a refusal.
 ghost use Rattle.std.specs.Prelude.{◌+◌, ◌≤◌, ◌++◌, length};
 ghost use Rattle.sizes.specs.Sizes.{max_clients};
-ghost use Rattle.stepfile.specs.Text.{bytes};
+ghost use Rattle.stepfile.specs.Text.{argument_text};
 ghost use Rattle.writer.specs.Buffer.{Wrote};
 ghost use Rattle.phrases.specs.Phrase.{client_text, embargo_text};
-ghost use Rattle.phrases.specs.Refusal.{no_client_text, no_file_text, no_block_text, no_call_text};
-ghost use Rattle.phrases.specs.Refusal.{count_full_text, not_dirty_text, version_spent_text, needed_text, not_open_text};
+ghost use Rattle.phrases.specs.Refusal.{no_call_text, count_full_text, not_dirty_text, version_spent_text};
+ghost use Rattle.phrases.specs.Refusal.{needed_text, not_open_text};
 ghost use Rattle.phrases.specs.Refusal.{missing_text, refusal_text};
 
 use crate::pending::{put_missing, put_open_waits};
 use crate::phrase::{
-    mode_by_kind, put_block, put_client, put_embargo, put_file, put_for, put_open, put_text,
+    mode_by_kind, put_block, put_client, put_embargo, put_file, put_for, put_numbered,
+    put_of_client, put_open,
 };
 use protocol::{Entry, Step, asked};
 use records::Mode;
 use sizes::{MAX_CLIENTS, Sizes};
-use writer::put_argument;
+use writer::{put_argument, put_text};
 
 // The sentence of a refusal, by its number. An open of the file waits since a line, and the client is under embargo
 // since a line.
+// Stays: the number of the refusal is matched, since `Reply::Refused` carries a number, and `refusal_text` promises the
+// answer for each of them, those that are no refusal's too.
 pub fn put_refusal(
     out: &mut [u8],
     at: usize,
@@ -41,13 +44,48 @@ pub fn put_refusal(
     let client = named.client;
     let file = named.file;
     match number {
-        2 => put_no_client(out, at, client, sizes.clients),
-        3 => put_no_file(out, at, file, sizes.files),
-        4 => put_no_block(out, at, named.block, sizes.blocks),
-        5 => put_recovers(out, at, sizes.clients, reported, embargoed),
+        2 => put_none(
+            out,
+            at,
+            b"there is no station",
+            client,
+            b"; there are",
+            sizes.clients,
+        ),
+        3 => put_none(
+            out,
+            at,
+            b"there is no file",
+            file,
+            b"; there are",
+            sizes.files,
+        ),
+        4 => put_none(
+            out,
+            at,
+            b"there is no block",
+            named.block,
+            b"; a file has",
+            sizes.blocks,
+        ),
+        5 => put_unheard(
+            out,
+            at,
+            b"the server recovers",
+            sizes.clients,
+            reported,
+            embargoed,
+        ),
         6 => put_text(out, at, b"no recovery is under way"),
-        7 => put_has_reported(out, at, client),
-        8 => put_cannot_end(out, at, sizes.clients, reported, embargoed),
+        7 => put_of_client(out, at, client, b" has reported before"),
+        8 => put_unheard(
+            out,
+            at,
+            b"the recovery cannot end",
+            sizes.clients,
+            reported,
+            embargoed,
+        ),
         9 => put_open_waits(out, at, sizes.clients, entry, file, since),
         10 => put_no_call(out, at, client, file),
         11 => put_not_open(out, at, step, client, file),
@@ -55,52 +93,27 @@ pub fn put_refusal(
         13 => put_not_dirty(out, at, client, file, named.block),
         14 => put_version_spent(out, at, file),
         20 => put_aside(out, at, client, embargo),
-        21 => put_not_aside(out, at, client),
+        21 => put_of_client(out, at, client, b" is not under embargo"),
         _ => at,
     }
 }
 
-fn put_recovers(
+// What the server does in the recovery, and who has still to report.
+fn put_unheard(
     out: &mut [u8],
     at: usize,
+    text: &[u8],
     clients: usize,
     reported: [bool; MAX_CLIENTS],
     embargoed: [bool; MAX_CLIENTS],
 ) -> usize
     requires clients_le_max_clients { clients ≤ max_clients }
-    requires at_in_bounds { at + 214 ≤ length out.old }
+    requires at_in_bounds { at + (length text.now + 195) ≤ length out.old }
     ensures wrote { Wrote out.old at
-        (bytes "the server recovers" ++ missing_text clients reported embargoed) out.new result }
-    ensures upper_bound { result ≤ at + 214 }
+        (text.now ++ missing_text clients reported embargoed) out.new result }
+    ensures upper_bound { result ≤ at + (length text.now + 195) }
 {
-    let missing = put_text(out, at, b"the server recovers");
-    put_missing(out, missing, clients, reported, embargoed)
-}
-
-fn put_has_reported(out: &mut [u8], at: usize, client: usize) -> usize
-    requires { at + 48 ≤ length out.old }
-    ensures wrote { Wrote out.old at
-        (client_text client ++ bytes " has reported before") out.new result }
-    ensures upper_bound { result ≤ at + 48 }
-{
-    let word = put_client(out, at, client);
-    put_text(out, word, b" has reported before")
-}
-
-fn put_cannot_end(
-    out: &mut [u8],
-    at: usize,
-    clients: usize,
-    reported: [bool; MAX_CLIENTS],
-    embargoed: [bool; MAX_CLIENTS],
-) -> usize
-    requires clients_le_max_clients { clients ≤ max_clients }
-    requires at_in_bounds { at + 218 ≤ length out.old }
-    ensures wrote { Wrote out.old at
-        (bytes "the recovery cannot end" ++ missing_text clients reported embargoed) out.new result }
-    ensures upper_bound { result ≤ at + 218 }
-{
-    let missing = put_text(out, at, b"the recovery cannot end");
+    let missing = put_text(out, at, text);
     put_missing(out, missing, clients, reported, embargoed)
 }
 
@@ -113,47 +126,23 @@ fn put_aside(out: &mut [u8], at: usize, client: usize, embargo: u64) -> usize
     put_embargo(out, word, embargo)
 }
 
-fn put_not_aside(out: &mut [u8], at: usize, client: usize) -> usize
-    requires { at + 49 ≤ length out.old }
+// There is nothing of the number, and how many there are.
+fn put_none(
+    out: &mut [u8],
+    at: usize,
+    none: &[u8],
+    number: usize,
+    most: &[u8],
+    count: usize,
+) -> usize
+    requires { at + (length none.now + (length most.now + 42)) ≤ length out.old }
     ensures wrote { Wrote out.old at
-        (client_text client ++ bytes " is not under embargo") out.new result }
-    ensures upper_bound { result ≤ at + 49 }
+        (none.now ++ (argument_text number ++ (most.now ++ argument_text count))) out.new result }
+    ensures upper_bound { result ≤ at + (length none.now + (length most.now + 42)) }
 {
-    let word = put_client(out, at, client);
-    put_text(out, word, b" is not under embargo")
-}
-
-fn put_no_client(out: &mut [u8], at: usize, client: usize, count: usize) -> usize
-    requires { at + 72 ≤ length out.old }
-    ensures wrote { Wrote out.old at (no_client_text client count) out.new result }
-    ensures upper_bound { result ≤ at + 72 }
-{
-    let number = put_text(out, at, b"there is no station");
-    let total = put_argument(out, number, client as u64);
-    let most = put_text(out, total, b"; there are");
-    put_argument(out, most, count as u64)
-}
-
-fn put_no_file(out: &mut [u8], at: usize, file: usize, count: usize) -> usize
-    requires { at + 69 ≤ length out.old }
-    ensures wrote { Wrote out.old at (no_file_text file count) out.new result }
-    ensures upper_bound { result ≤ at + 69 }
-{
-    let number = put_text(out, at, b"there is no file");
-    let total = put_argument(out, number, file as u64);
-    let most = put_text(out, total, b"; there are");
-    put_argument(out, most, count as u64)
-}
-
-fn put_no_block(out: &mut [u8], at: usize, block: usize, count: usize) -> usize
-    requires { at + 71 ≤ length out.old }
-    ensures wrote { Wrote out.old at (no_block_text block count) out.new result }
-    ensures upper_bound { result ≤ at + 71 }
-{
-    let number = put_text(out, at, b"there is no block");
-    let total = put_argument(out, number, block as u64);
-    let most = put_text(out, total, b"; a file has");
-    put_argument(out, most, count as u64)
+    let word = put_text(out, at, none);
+    let next = put_argument(out, word, number as u64);
+    put_numbered(out, next, most, count as u64)
 }
 
 fn put_no_call(out: &mut [u8], at: usize, client: usize, file: usize) -> usize
@@ -218,38 +207,8 @@ fn put_needed(out: &mut [u8], at: usize, step: Step) -> usize
     ensures upper_bound { result ≤ at + 10 }
 {
     match step {
-        Step::Open {
-            mode: _,
-            client: _,
-            file: _,
-        } => at,
-        Step::Close {
-            mode,
-            client: _,
-            file: _,
-        } => put_for(out, at, mode),
-        Step::Read {
-            client: _,
-            file: _,
-            block: _,
-        } => at,
-        Step::Write {
-            client: _,
-            file: _,
-            block: _,
-            value: _,
-        } => put_for(out, at, Mode::Write),
-        Step::Flush {
-            client: _,
-            file: _,
-            block: _,
-        } => at,
-        Step::Answer { client: _, file: _ } => at,
-        Step::Crash => at,
-        Step::Report { client: _ } => at,
-        Step::End => at,
-        Step::Restart { client: _ } => at,
-        Step::Embargo { client: _, file: _ } => at,
-        Step::Lift { client: _ } => at,
+        Step::Close { mode, .. } => put_for(out, at, mode),
+        Step::Write { .. } => put_for(out, at, Mode::Write),
+        _ => at,
     }
 }

@@ -1,19 +1,18 @@
 // What is said of an open that waits.
-ghost use Rattle.std.specs.Prelude.{◌+◌, ◌≤◌, cond, length};
+ghost use Rattle.std.specs.Prelude.{◌+◌, ◌≤◌, length};
 ghost use Rattle.sizes.specs.Sizes.{max_clients};
 ghost use Rattle.decision.specs.Callback.{call_if, ordered_calls};
-ghost use Rattle.decision.specs.Callback.{invalidates as drops};
-ghost use Rattle.stepfile.specs.Text.{bytes};
 ghost use Rattle.writer.specs.Buffer.{Wrote};
 ghost use Rattle.phrases.specs.Phrase.{state_text};
 ghost use Rattle.phrases.specs.Accepted.{kind_text, calls_text, state_in_text, wait_text};
 
 use crate::pending::put_opener;
-use crate::phrase::{put_client, put_text};
+use crate::phrase::{put_client, put_either};
 use decision::{FileState, invalidates, state_of, writes_back};
 use protocol::Entry;
 use records::Mode;
 use sizes::MAX_CLIENTS;
+use writer::put_text;
 
 pub fn put_state(out: &mut [u8], at: usize, state: FileState) -> usize
     requires { at + 12 ≤ length out.old }
@@ -32,27 +31,22 @@ pub fn put_state(out: &mut [u8], at: usize, state: FileState) -> usize
 }
 
 // What a callback of the kind asks for.
+// Stays: the kind is a number here and below, as in crates/decision/src/kind.rt.
 fn put_kind(out: &mut [u8], at: usize, kind: u8) -> usize
     requires { at + 28 ≤ length out.old }
     ensures wrote { Wrote out.old at (kind_text kind) out.new result }
     ensures upper_bound { result ≤ at + 28 }
 {
     if writes_back(kind) {
-        return put_back(out, at, kind);
+        return put_either(
+            out,
+            at,
+            invalidates(kind),
+            b"write back and drop its copy",
+            b"write back",
+        );
     }
     put_text(out, at, b"drop its copy")
-}
-
-fn put_back(out: &mut [u8], at: usize, kind: u8) -> usize
-    requires { at + 28 ≤ length out.old }
-    ensures wrote { Wrote out.old at
-        (cond (drops kind) (bytes "write back and drop its copy") (bytes "write back")) out.new result }
-    ensures upper_bound { result ≤ at + 28 }
-{
-    if invalidates(kind) {
-        return put_text(out, at, b"write back and drop its copy");
-    }
-    put_text(out, at, b"write back")
 }
 
 // A callback, if the kind is one.
@@ -77,10 +71,8 @@ fn put_calls(out: &mut [u8], at: usize, calls: [u8; MAX_CLIENTS]) -> usize
     ensures upper_bound { result ≤ at + 576 }
 {
     let mut next = at;
-    let mut client: usize = 0;
-    while client < MAX_CLIENTS {
+    for client in 0..MAX_CLIENTS {
         next = put_call(out, next, client, calls[client]);
-        client += 1;
     }
     next
 }
@@ -114,6 +106,5 @@ fn put_reason(out: &mut [u8], at: usize, clients: usize, entry: Entry) -> usize
     ensures upper_bound { result ≤ at + 23 }
 {
     let name = put_text(out, at, b", which is ");
-    let records = entry.records;
-    put_state(out, name, state_of(records, clients, entry.last))
+    put_state(out, name, state_of(entry.records, clients, entry.last))
 }

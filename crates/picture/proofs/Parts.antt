@@ -60,19 +60,6 @@ module _ (i f base : ℕ) (hi : i < max_clients) (hf : f < max_files)
       ap (λ x. x || ltb 0 blocks) opens
       ∙ ap (λ x. is_open own.opens || x) (some blocks ∙ ap (λ k. not (eqb k 0)) there)
 
--- the flags of a file's blocks, copied out, are told as they stand among all
-pub list_copied :
-    (n base : ℕ) (flags found : List Bool)
-    → n ≤ max_blocks
-    → found ≡ stored max_blocks (λ b. b) (λ b. get_or flags (base + b) false) (replicate max_blocks false)
-    → list_text n (λ b. get_or found b false) ≡ list_text n (λ b. get_or flags (base + b) false)
-list_copied n base flags found h is =
-    list_agree (λ b. get_or found b false) (λ b. get_or flags (base + b) false) n
-    (λ b below.
-    ap (λ l. get_or l b false) is
-    ∙ get_d_stored 8 (λ k. k) (λ k. get_or flags (base + k) false) (replicate 8 false) false b (omega arith) (omega arith)
-    (λ k later past. omega arith))
-
 -- whether a file is told
 pub pictured_by :
     (z : Sizes) (held : List Bool) (sides : Sides) (e : Entry) (f : ℕ) (listed : Bool) (stations : ℕ)

@@ -11,7 +11,8 @@ use Rattle.protocol.specs.declared.client.Sides.{Sides}
 use Rattle.protocol.specs.declared.entry.Entry.{Entry}
 use Rattle.protocol.specs.Client.{side_of}
 use Rattle.protocol.specs.Entry.{record_at, waits}
-use Rattle.blocks.specs.Stores.{Stores, held_in, dirty_in}
+use Rattle.blocks.specs.declared.stores.Stores.{Stores}
+use Rattle.blocks.specs.Stores.{held_in, dirty_in}
 use Rattle.table.specs.declared.table.Table.{Table}
 use Rattle.service.specs.Contents.{sizes_of, table_in, entry_at, free_of, embargoed_at, sides_at, stores_of}
 use Rattle.stepfile.specs.Text.{bytes, argument_text}

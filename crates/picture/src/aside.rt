@@ -80,10 +80,8 @@ fn put_wasted(
     ensures upper_bound { result ≤ at + 42496 }
 {
     let mut next = at;
-    let mut file: usize = 0;
-    while file < sizes.files {
+    for file in 0..sizes.files {
         next = put_wasted_on(out, at, next, file, sizes.blocks, dirty, copied, client);
-        file += 1;
     }
     if next == at {
         return put_text(out, next, b" none");
@@ -114,8 +112,7 @@ fn put_wasted_on(
 {
     let base = first_cell(client, file);
     let mut next = at;
-    let mut block: usize = 0;
-    while block < blocks {
+    for block in 0..blocks {
         next = put_loss_if(
             out,
             start,
@@ -125,7 +122,6 @@ fn put_wasted_on(
             block,
             copied[base + block],
         );
-        block += 1;
     }
     next
 }

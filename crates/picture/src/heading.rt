@@ -7,7 +7,7 @@ ghost use Rattle.writer.specs.Buffer.{Wrote};
 ghost use Rattle.picture.specs.Picture.{last_text, head_text};
 
 use decision::state_of;
-use phrases::{put_state, put_text};
+use phrases::{put_numbered, put_state, put_text};
 use protocol::Entry;
 use writer::{put_argument, put_byte, version_in};
 
@@ -18,11 +18,9 @@ pub fn put_head(out: &mut [u8], at: usize, clients: usize, entry: Entry, file: u
     ensures wrote { Wrote out.old at (head_text clients entry file) out.new result }
     ensures upper_bound { result ≤ at + 109 }
 {
-    let number = put_text(out, at, b"file");
-    let word = put_argument(out, number, file as u64);
+    let word = put_numbered(out, at, b"file", file as u64);
     let name = put_text(out, word, b" is ");
-    let records = entry.records;
-    let level = put_state(out, name, state_of(records, clients, entry.last));
+    let level = put_state(out, name, state_of(entry.records, clients, entry.last));
     put_level(out, level, clients, entry)
 }
 
@@ -34,8 +32,7 @@ fn put_level(out: &mut [u8], at: usize, clients: usize, entry: Entry) -> usize
         out.new result }
     ensures upper_bound { result ≤ at + 68 }
 {
-    let version = put_text(out, at, b" at version");
-    let last = put_argument(out, version, version_in(entry) as u64);
+    let last = put_numbered(out, at, b" at version", version_in(entry) as u64);
     let feed = put_last(out, last, clients, entry.last);
     put_byte(out, feed, b'\n')
 }

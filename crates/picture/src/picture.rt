@@ -12,6 +12,7 @@ use crate::store::put_store;
 use ledger::Annotated;
 use phrases::put_text;
 use sizes::MAX_FILES;
+use writer::has_room;
 
 // The room that the picture is given: more than any picture takes.
 pub const PICTURE_ROOM: usize = 620000;
@@ -22,10 +23,7 @@ pub fn write_picture(out: &mut [u8], at: usize, state: Annotated) -> usize
     ensures wrote_if_room { WroteIfRoom picture_room out.old at (picture_text state) out.new result }
     ensures upper_bound { result ≤ at + picture_room }
 {
-    if out.len() < PICTURE_ROOM {
-        return at;
-    }
-    if out.len() - PICTURE_ROOM < at {
+    if !has_room(out, at, PICTURE_ROOM) {
         return at;
     }
     put_picture(out, at, state)
@@ -37,16 +35,11 @@ fn put_picture(out: &mut [u8], at: usize, state: Annotated) -> usize
     ensures upper_bound { result ≤ at + picture_room }
 {
     let service = state.service;
-    let given = service.sizes;
-    let sizes = given.in_force();
-    let server = service.server;
-    let table = server.table;
-    let store = put_server(out, at, sizes, table);
+    let store = put_server(out, at, service.sizes.in_force(), service.server.table);
     let asides = put_store(out, store, state);
     let files = put_asides(out, asides, state);
     let refused = put_files(out, files, state);
-    let refusals = state.refusals;
-    let end = put_refusals(out, refused, refusals);
+    let end = put_refusals(out, refused, state.refusals);
     put_text(out, end, b"end of the picture\n")
 }
 
@@ -58,29 +51,20 @@ fn put_asides(out: &mut [u8], at: usize, state: Annotated) -> usize
     ensures upper_bound { result ≤ at + 340704 }
 {
     let service = state.service;
-    let given = service.sizes;
-    let sizes = given.in_force();
-    let server = service.server;
-    let table = server.table;
-    let embargoed = table.embargoed;
-    let dirty = service.dirty;
     let ledger = state.ledger;
-    let copied = ledger.copied;
-    let since = ledger.since;
+    let sizes = service.sizes.in_force();
     let mut next = at;
-    let mut client: usize = 0;
-    while client < sizes.clients {
+    for client in 0..sizes.clients {
         next = put_aside_if(
             out,
             next,
-            embargoed[client],
+            service.server.table.embargoed[client],
             sizes,
-            &dirty,
-            &copied,
+            &service.dirty,
+            &ledger.copied,
             client,
-            since[MAX_FILES + client],
+            ledger.since[MAX_FILES + client],
         );
-        client += 1;
     }
     next
 }
@@ -93,33 +77,20 @@ fn put_files(out: &mut [u8], at: usize, state: Annotated) -> usize
     ensures upper_bound { result ≤ at + 267840 }
 {
     let service = state.service;
-    let given = service.sizes;
-    let sizes = given.in_force();
-    let server = service.server;
-    let table = server.table;
-    let entries = table.files;
-    let clients = service.clients;
-    let held = service.held;
-    let dirty = service.dirty;
-    let ledger = state.ledger;
-    let since = ledger.since;
+    let sizes = service.sizes.in_force();
     let mut next = at;
-    let mut file: usize = 0;
-    while file < sizes.files {
-        let sides = clients[file];
-        let entry = entries[file];
+    for file in 0..sizes.files {
         next = put_file(
             out,
             next,
             sizes,
-            &held,
-            &dirty,
-            sides,
-            entry,
+            &service.held,
+            &service.dirty,
+            service.clients[file],
+            service.server.table.files[file],
             file,
-            since[file],
+            state.ledger.since[file],
         );
-        file += 1;
     }
     next
 }

@@ -4,22 +4,16 @@ ghost use Rattle.ledger.specs.Refusals.{refusal_numbers};
 ghost use Rattle.writer.specs.Buffer.{Wrote};
 ghost use Rattle.picture.specs.Picture.{numbers_given, refused_text, times_text, refusals_text};
 
-use decision::one_if;
+use decision::count_below;
 use ledger::REFUSAL_NUMBERS;
-use phrases::put_text;
+use phrases::{put_numbered, put_text};
 use writer::{put_argument, put_byte};
 
 // How many numbers were given.
 fn count_given(counts: [u64; REFUSAL_NUMBERS]) -> usize
     ensures { result ≡ numbers_given counts }
 {
-    let mut given: usize = 0;
-    let mut which: usize = 0;
-    while which < REFUSAL_NUMBERS {
-        given += one_if(0 < counts[which]);
-        which += 1;
-    }
-    given
+    count_below(REFUSAL_NUMBERS, |which| 0 < counts[which])
 }
 
 // The line of a number, if it was given.
@@ -31,8 +25,7 @@ fn put_refused(out: &mut [u8], at: usize, number: usize, times: u64) -> usize
     if times == 0 {
         return at;
     }
-    let digits = put_text(out, at, b"refused with");
-    let colon = put_argument(out, digits, number as u64);
+    let colon = put_numbered(out, at, b"refused with", number as u64);
     let often = put_byte(out, colon, b':');
     let feed = put_argument(out, often, times);
     put_byte(out, feed, b'\n')
@@ -45,10 +38,8 @@ fn put_times(out: &mut [u8], at: usize, counts: [u64; REFUSAL_NUMBERS]) -> usize
     ensures upper_bound { result ≤ at + 1344 }
 {
     let mut next = at;
-    let mut number: usize = 0;
-    while number < REFUSAL_NUMBERS {
+    for number in 0..REFUSAL_NUMBERS {
         next = put_refused(out, next, number, counts[number]);
-        number += 1;
     }
     next
 }

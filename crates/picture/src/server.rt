@@ -18,9 +18,7 @@ pub fn put_server(out: &mut [u8], at: usize, sizes: Sizes, table: Table) -> usiz
 {
     if table.recovering {
         let missing = put_text(out, at, b"the server recovers");
-        let reported = table.reported;
-        let embargoed = table.embargoed;
-        let feed = put_missing(out, missing, sizes.clients, reported, embargoed);
+        let feed = put_missing(out, missing, sizes.clients, table.reported, table.embargoed);
         return put_byte(out, feed, b'\n');
     }
     put_text(out, at, b"the server runs\n")

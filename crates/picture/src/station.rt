@@ -1,22 +1,19 @@
 // The stations of one file: who has it open or holds a block of it, and what is told of each. Two lent arrays have the
 // flags of the blocks, which are held and which are dirty, of all clients and files.
-ghost use Rattle.std.specs.Prelude.{◌+◌, ◌≤◌, ◌<◌, ◌≡◌, false, cond, [], length, get_or, replicate};
-ghost use Rattle.sizes.specs.Sizes.{max_clients, max_files, max_blocks, max_cells, Permitted};
-ghost use Rattle.decision.specs.Lists.{stored};
+ghost use Rattle.std.specs.Prelude.{◌+◌, ◌≤◌, ◌<◌, ◌≡◌, [], length};
+ghost use Rattle.sizes.specs.Sizes.{max_clients, max_files, max_blocks, Permitted};
 ghost use Rattle.blocks.specs.Stores.{lent};
-ghost use Rattle.stepfile.specs.Text.{bytes};
 ghost use Rattle.writer.specs.Buffer.{Wrote};
-ghost use Rattle.phrases.specs.Phrase.{list_text};
 ghost use Rattle.picture.specs.Picture.{is_concerned, concerned, opens_text, copies_text, station_text};
 ghost use Rattle.picture.specs.Picture.{station_if_text, stations_text};
 
 use blocks::{count_dirty, first_cell};
-use decision::one_if;
-use phrases::{put_client, put_list, put_text};
+use decision::count_below;
+use phrases::{put_client, put_either, put_numbered, put_numbers, put_text};
 use protocol::{ClientFile, Sides};
 use records::ClientRecord;
-use sizes::{MAX_BLOCKS, MAX_CELLS, Sizes};
-use writer::{put_argument, put_byte};
+use sizes::{MAX_CELLS, Sizes};
+use writer::put_byte;
 
 // Whether the client has the file open, or holds a block of it.
 fn is_concerned(
@@ -31,10 +28,9 @@ fn is_concerned(
     requires file_lt_max_files { file < max_files }
     ensures { result ≡ is_concerned sizes (lent [] [] held.now []) own client file }
 {
-    let opens = own.opens;
     // It counts the flags that it is lent: here those of the blocks held.
     let blocks = count_dirty(sizes.blocks, first_cell(client, file), held);
-    opens.is_open() | (0 < blocks)
+    own.opens.is_open() | (0 < blocks)
 }
 
 // How many of the clients the file concerns.
@@ -43,14 +39,9 @@ pub fn count_concerned(sizes: Sizes, held: &[bool; MAX_CELLS], sides: Sides, fil
     requires file_lt_max_files { file < max_files }
     ensures { result ≡ concerned sizes (lent [] [] held.now []) sides file }
 {
-    let mut count: usize = 0;
-    let mut client: usize = 0;
-    while client < sizes.clients {
-        let own = sides.of[client];
-        count += one_if(is_concerned(sizes, held, own, client, file));
-        client += 1;
-    }
-    count
+    count_below(sizes.clients, |client| {
+        is_concerned(sizes, held, sides.of[client], client, file)
+    })
 }
 
 // The counts of its own record, and its permission.
@@ -59,57 +50,9 @@ fn put_opens(out: &mut [u8], at: usize, opens: ClientRecord) -> usize
     ensures wrote { Wrote out.old at (opens_text opens) out.new result }
     ensures upper_bound { result ≤ at + 82 }
 {
-    let readers = put_text(out, at, b": read opens");
-    let word = put_argument(out, readers, opens.readers as u64);
-    let writers = put_text(out, word, b", write opens");
-    let may = put_argument(out, writers, opens.writers as u64);
-    put_permission(out, may, opens.caching)
-}
-
-fn put_permission(out: &mut [u8], at: usize, caching: bool) -> usize
-    requires { at + 15 ≤ length out.old }
-    ensures wrote { Wrote out.old at
-        (cond caching (bytes ", may cache") (bytes ", may not cache")) out.new result }
-    ensures upper_bound { result ≤ at + 15 }
-{
-    if caching {
-        return put_text(out, at, b", may cache");
-    }
-    put_text(out, at, b", may not cache")
-}
-
-// The flags of a file's blocks, which stand from base on.
-fn flags_from(base: usize, flags: &[bool; MAX_CELLS]) -> [bool; MAX_BLOCKS]
-    requires { base + max_blocks ≤ max_cells }
-    ensures { result ≡ stored max_blocks (λ b. b) (λ b. get_or flags.now (base + b) false)
-        (replicate max_blocks false) }
-{
-    let mut found = [false; MAX_BLOCKS];
-    let mut block: usize = 0;
-    while block < MAX_BLOCKS {
-        found[block] = flags[base + block];
-        block += 1;
-    }
-    found
-}
-
-// The blocks whose flags are set.
-fn put_flags(
-    out: &mut [u8],
-    at: usize,
-    blocks: usize,
-    base: usize,
-    flags: &[bool; MAX_CELLS],
-) -> usize
-    requires blocks_le_max_blocks { blocks ≤ max_blocks }
-    requires max_blocks_bound { base + max_blocks ≤ max_cells }
-    requires at_in_bounds { at + 168 ≤ length out.old }
-    ensures wrote { Wrote out.old at
-        (list_text blocks (λ b. get_or flags.now (base + b) false)) out.new result }
-    ensures upper_bound { result ≤ at + 168 }
-{
-    let found = flags_from(base, flags);
-    put_list(out, at, blocks, found)
+    let word = put_numbered(out, at, b": read opens", opens.readers as u64);
+    let may = put_numbered(out, word, b", write opens", opens.writers as u64);
+    put_either(out, may, opens.caching, b", may cache", b", may not cache")
 }
 
 // The blocks that it holds, and those that are dirty.
@@ -132,9 +75,9 @@ fn put_copies(
 {
     let base = first_cell(client, file);
     let list = put_text(out, at, b"; blocks held:");
-    let word = put_flags(out, list, sizes.blocks, base, held);
+    let word = put_numbers(out, list, sizes.blocks, |b| held[base + b]);
     let second = put_text(out, word, b"; dirty:");
-    put_flags(out, second, sizes.blocks, base, dirty)
+    put_numbers(out, second, sizes.blocks, |b| dirty[base + b])
 }
 
 fn put_station(
@@ -158,8 +101,7 @@ fn put_station(
 {
     let name = put_text(out, at, b"  ");
     let counts = put_client(out, name, client);
-    let opens = own.opens;
-    let copies = put_opens(out, counts, opens);
+    let copies = put_opens(out, counts, own.opens);
     let feed = put_copies(out, copies, sizes, held, dirty, client, file);
     put_byte(out, feed, b'\n')
 }
@@ -210,10 +152,8 @@ pub fn put_stations(
     ensures upper_bound { result ≤ at + 3768 }
 {
     let mut next = at;
-    let mut client: usize = 0;
-    while client < sizes.clients {
+    for client in 0..sizes.clients {
         next = put_station_if(out, next, sizes, held, dirty, sides, client, file);
-        client += 1;
     }
     next
 }

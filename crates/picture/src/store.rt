@@ -5,9 +5,9 @@ ghost use Rattle.writer.specs.Buffer.{Wrote};
 ghost use Rattle.picture.specs.Picture.{store_text};
 
 use ledger::Annotated;
-use phrases::{put_places, put_text};
+use phrases::{put_numbered, put_places};
 use sizes::at_most;
-use writer::{put_argument, put_byte};
+use writer::put_byte;
 
 // Its size, what is used, reserved and by whom, and what is free.
 pub fn put_store(out: &mut [u8], at: usize, state: Annotated) -> usize
@@ -19,16 +19,17 @@ pub fn put_store(out: &mut [u8], at: usize, state: Annotated) -> usize
     ensures upper_bound { result ≤ at + 308 }
 {
     let service = state.service;
-    let given = service.sizes;
-    let sizes = given.in_force();
+    let sizes = service.sizes.in_force();
     let server = service.server;
-    let used = server.used;
-    let table = server.table;
-    let embargoed = table.embargoed;
-    let dirty = service.dirty;
     let free = at_most(server.free, sizes.store);
-    let word = put_places(out, at, sizes, &used, embargoed, &dirty);
-    let number = put_text(out, word, b"; free:");
-    let feed = put_argument(out, number, free as u64);
+    let word = put_places(
+        out,
+        at,
+        sizes,
+        &server.used,
+        server.table.embargoed,
+        &service.dirty,
+    );
+    let feed = put_numbered(out, word, b"; free:", free as u64);
     put_byte(out, feed, b'\n')
 }

@@ -8,12 +8,8 @@ use lib.Dec.{eqb}
 use lib.ListN.{drop}
 use borrow.Author.Tests.{ne_eqb}
 use Rattle.sizes.proofs.Choosing.{and_left, and_right}
-use Rattle.stepfile.specs.declared.parsed.Parsed.{Parsed}
-use Rattle.stepfile.specs.declared.parsed.Parsed.TheVariants.{NoStep}
-use Rattle.stepfile.specs.declared.parsed.Read.TheVariants.{Line}
-use Rattle.stepfile.specs.declared.setting.Setting.{Setting}
-use Rattle.stepfile.specs.Input.{read_at}
-use Rattle.stepfile.specs.Setting.{setting_of}
+use Rattle.stepfile.specs.Input.{read_at, line_of}
+use Rattle.stepfile.specs.Setting.{setting_of, Setting}
 use Rattle.reader.specs.declared.setting.FirstSetting.{FirstSetting}
 use Rattle.reader.specs.FirstLine.{is_set, first_setting}
 use Rattle.reader.proofs.FirstSettings.{set_read, set_by}
@@ -21,6 +17,8 @@ use Rattle.telling.specs.Lines.{can_tell}
 use Rattle.telling.proofs.Reaching.{line_bytes, line_bytes_lem}
 use Rattle.telling.proofs.LineByLine.{ReadLine, read_line}
 use Rattle.playing.specs.Lines.{chooses_sizes}
+use Rattle.protocol.specs.declared.step.Step.{Step}
+use Rattle.std.proofs.Common.{Option, None}
 
 -- ---- no other line
 
@@ -37,7 +35,7 @@ none_later settable n input can h =
 
 -- the line that was read does not choose them, if none that can be told does
 pub not_chosen :
-    (settable : Bool) (number : ℕ) (input : List ℕ) (used : ℕ) (p : Parsed) (next : ℕ) (can : Bool)
+    (settable : Bool) (number : ℕ) (input : List ℕ) (used : ℕ) (p : Option Step) (next : ℕ) (can : Bool)
     → ReadLine input used p next
     → (chooses_sizes settable number (drop used input) && can) ≡ false
     → can ≡ true
@@ -90,13 +88,13 @@ module _ (settable : Bool) (first : ℕ) (input : List ℕ) (x : FirstSetting) (
     pub is-first : (settable && eqb first 1) ≡ true
     is-first = and_left (settable && eqb first 1) _ chooses
 
-    pub first_read : read_at input 0 ≡ Line NoStep x.next
+    pub first_read : read_at input 0 ≡ line_of None x.next
     first_read =
-        set_read input (and_right (settable && eqb first 1) _ chooses) ∙ ap (λ (y : FirstSetting). Line NoStep y.next) (sym is)
+        set_read input (and_right (settable && eqb first 1) _ chooses) ∙ ap (λ (y : FirstSetting). line_of None y.next) (sym is)
 
     pub first-sets : x.setting ≡ setting_of (line_bytes input 0 x.next)
     first-sets =
-        let line = read_line input 0 NoStep x.next (omega arith) first_read in
+        let line = read_line input 0 None x.next (omega arith) first_read in
         ap (λ (y : FirstSetting). y.setting) is
         ∙ set_by input line.line line.rest line.first
         ∙ ap setting_of (sym (line_bytes_lem input 0 x.next line.line line.at))

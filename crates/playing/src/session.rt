@@ -1,21 +1,18 @@
-// A session: one input, played to the summary, turn by turn, on a service that the caller's arrays hold. The program
+// A session: one input, played to the summary, turn by turn, on a service that the caller lends. The program
 // only reads before a turn and writes what the turn left in the output buffer.
 ghost use Rattle.std.specs.Prelude.{◌≡◌, ◌≤◌, length};
-ghost use Rattle.blocks.specs.Stores.{Stores, lent};
-ghost use Rattle.words.specs.Rows.{table_words};
-ghost use Rattle.service.specs.Lent.{lent_flags};
 ghost use Rattle.telling.specs.Session.{closed_by, out_closed};
 ghost use Rattle.playing.specs.Lines.{playing};
-ghost use Rattle.playing.specs.Session.{start_of, fresh_session, resumed_session, standing, moved_held, Advances};
+ghost use Rattle.playing.specs.Session.{start_of, fresh_session, resumed_session, is_told, over_after};
+ghost use Rattle.playing.specs.Session.{after_turn, after_close, standing, moved_held, Advances};
 
-use crate::turn::play_turn;
-use service::{FLAGS, held_table};
-use sizes::{MAX_CELLS, MAX_PLACES, Sizes};
+use crate::turn::{Turn, play_turn};
+use service::HeldService;
+use sizes::Sizes;
 use telling::fill;
-use words::WORDS;
 use writer::{SUMMARY_ROOM, write_summary};
 
-// What stands between two turns, beside the arrays.
+// What stands between two turns, beside the held service.
 #[derive(Clone, Copy)]
 pub struct Session {
     // Line 1 may choose the sizes.
@@ -41,14 +38,14 @@ pub struct Advance {
 }
 
 impl Session {
-    // Before line 1, the arrays holding the fresh service.
+    // Before line 1, with the fresh service held.
     pub fn new() -> Self
         ensures { result ≡ fresh_session }
     {
         start(true, Sizes::default())
     }
 
-    // Before line 1, the arrays holding a service that has its sizes.
+    // Before line 1, with a service held that has its sizes.
     pub fn resumed(sizes: Sizes) -> Self
         ensures { result ≡ resumed_session sizes }
     {
@@ -62,46 +59,54 @@ impl Session {
         got: usize,
         buffer: &mut [u8],
         out: &mut [u8],
-        table: &mut [u64; WORDS],
-        flags: &mut [bool; FLAGS],
-        blocks: &mut [u64; MAX_PLACES],
-        copies: &mut [u64; MAX_CELLS],
-        held: &mut [bool; MAX_CELLS],
-        dirty: &mut [bool; MAX_CELLS],
+        service: &mut HeldService,
     ) -> Advance
-        requires table_len { length table.old ≡ table_words }
-        requires flags_len { length flags.old ≡ lent_flags }
-        ensures { Advances self got buffer.old out.old table.old
-            flags.old
-            (lent blocks.old copies.old held.old dirty.old) result
-            buffer.new out.new table.new flags.new
-            (lent blocks.new copies.new held.new dirty.new) }
+        ensures { Advances self got buffer.old out.old service.old.table
+            service.old.flags
+            service.old.stores result
+            buffer.new out.new service.new.table service.new.flags
+            service.new.stores }
     {
-        if self.over & !self.paused {
-            return self.close(out, table, flags);
+        if self.is_told() {
+            return self.close(out, service);
         }
-        let sizes = self.sizes;
-        let over = self.over | (!self.paused & (got == 0));
+        let over = self.over_after(got);
         let filled = fill(self.paused, buffer, self.rest, got);
         let turn = play_turn(
             self.settable,
-            sizes,
+            self.sizes,
             self.number,
             buffer,
             filled,
             out,
-            table,
-            flags,
-            blocks,
-            copies,
-            held,
-            dirty,
+            service,
         );
-        let after = turn.sizes;
+        self.after_turn(turn, over)
+    }
+
+    // Whether only the last turn is left.
+    pub fn is_told(self) -> bool
+        ensures { result ≡ is_told self }
+    {
+        self.over & !self.paused
+    }
+
+    // Whether the input is over, once a read that was wanted gave so many bytes.
+    pub fn over_after(self, got: usize) -> bool
+        ensures { result ≡ over_after self got }
+    {
+        self.over | (!self.paused & (got == 0))
+    }
+
+    // After a turn of a buffer.
+    pub fn after_turn(self, turn: Turn, over: bool) -> Advance
+        ensures session { result.session ≡ after_turn self turn over }
+        ensures written { result.written ≡ turn.written }
+    {
         Advance {
             session: Session {
                 settable: self.settable,
-                sizes: after,
+                sizes: turn.sizes,
                 number: turn.number,
                 rest: turn.rest,
                 paused: turn.paused,
@@ -112,26 +117,15 @@ impl Session {
         }
     }
 
-    // The last turn: writes the summary.
-    fn close(self, out: &mut [u8], table: &[u64; WORDS], flags: &[bool; FLAGS]) -> Advance
-        requires { length flags.now ≡ lent_flags }
-        ensures a_value { (a : Stores) → moved_held result table.now flags.now a
-            ≡ closed_by (playing self.settable) (standing self table.now flags.now a)
-            out.old }
-        ensures out_after { (a : Stores) → out.new
-            ≡ out_closed (playing self.settable) (standing self table.now flags.now a)
-            out.old }
-        ensures settable_value { result.session.settable ≡ self.settable }
-        ensures written_in_bounds { result.written ≤ length out.old }
+    // After the last turn, which wrote so many bytes; it is done unless the output had no room for them.
+    pub fn after_close(self, done: bool, written: usize) -> Advance
+        ensures session { result.session ≡ after_close self done }
+        ensures written { result.written ≡ written }
     {
-        let sizes = self.sizes;
-        let state = held_table(table, flags);
-        let done = SUMMARY_ROOM <= out.len();
-        let written = write_summary(out, 0, sizes, state);
         Advance {
             session: Session {
                 settable: self.settable,
-                sizes,
+                sizes: self.sizes,
                 number: self.number,
                 rest: 0,
                 paused: self.paused,
@@ -140,6 +134,22 @@ impl Session {
             },
             written,
         }
+    }
+
+    // The last turn: writes the summary.
+    fn close(self, out: &mut [u8], service: &HeldService) -> Advance
+        ensures moved { moved_held result service.now.table service.now.flags service.now.stores
+            ≡ closed_by (playing self.settable)
+            (standing self service.now.table service.now.flags service.now.stores) out.old }
+        ensures out_after { out.new
+            ≡ out_closed (playing self.settable)
+            (standing self service.now.table service.now.flags service.now.stores) out.old }
+        ensures settable_value { result.session.settable ≡ self.settable }
+        ensures written_in_bounds { result.written ≤ length out.old }
+    {
+        let done = SUMMARY_ROOM <= out.len();
+        let written = write_summary(out, 0, self.sizes, service.to_table());
+        self.after_close(done, written)
     }
 }
 

@@ -1,15 +1,12 @@
 // A turn of the player: a buffer of input is played, and what is left of it stands at its start for the next.
-ghost use Rattle.std.specs.Prelude.{◌≡◌, length};
-ghost use Rattle.blocks.specs.Stores.{lent};
-ghost use Rattle.words.specs.Rows.{table_words};
-ghost use Rattle.service.specs.Lent.{lent_flags};
-ghost use Rattle.playing.specs.Turn.{PlaysTurn};
+ghost use Rattle.std.specs.Prelude.{◌≡◌, ◌≤◌, length, drop};
+ghost use Rattle.std.proofs.Math.Seq.{paste};
+ghost use Rattle.playing.specs.Turn.{turn_after, PlaysTurn};
 
-use crate::lines::play_lines;
-use service::FLAGS;
-use sizes::{MAX_CELLS, MAX_PLACES, Sizes};
-use telling::{can_tell, kept_of, least, move_down};
-use words::WORDS;
+use crate::lines::{Progress, play_lines};
+use service::HeldService;
+use sizes::Sizes;
+use telling::{can_tell, kept_of, move_down};
 use writer::LINE_ROOM;
 
 // What a turn leaves.
@@ -34,45 +31,37 @@ pub fn play_turn(
     buffer: &mut [u8],
     filled: usize,
     out: &mut [u8],
-    table: &mut [u64; WORDS],
-    flags: &mut [bool; FLAGS],
-    blocks: &mut [u64; MAX_PLACES],
-    copies: &mut [u64; MAX_CELLS],
-    held: &mut [bool; MAX_CELLS],
-    dirty: &mut [bool; MAX_CELLS],
+    service: &mut HeldService,
 ) -> Turn
-    requires table_len { length table.old ≡ table_words }
-    requires flags_len { length flags.old ≡ lent_flags }
     ensures { PlaysTurn settable sizes number buffer.old filled out.old
-        table.old flags.old
-        (lent blocks.old copies.old held.old dirty.old) result
-        buffer.new out.new table.new flags.new
-        (lent blocks.new copies.new held.new dirty.new) }
+        service.old.table service.old.flags
+        service.old.stores result
+        buffer.new out.new service.new.table service.new.flags
+        service.new.stores }
 {
-    let n = least(filled, buffer.len());
-    let progress = play_lines(
-        settable,
-        sizes,
-        number,
-        &buffer[..n],
-        out,
-        table,
-        flags,
-        blocks,
-        copies,
-        held,
-        dirty,
-    );
-    let can = can_tell(LINE_ROOM, out.len(), progress.written, progress.number);
-    let used = progress.used;
-    let rest = kept_of(can, n - used);
-    move_down(buffer, used, rest);
-    let sizes_after = progress.sizes;
-    Turn {
-        sizes: sizes_after,
-        number: progress.number,
-        rest,
-        written: progress.written,
-        paused: !can,
+    let n = filled.min(buffer.len());
+    let progress = play_lines(settable, sizes, number, &buffer[..n], out, service);
+    progress.end_turn(LINE_ROOM, out.len(), n, buffer)
+}
+
+impl Progress {
+    // The end of a turn that went so far, with n bytes to tell, in an output of so much room of which another line needs
+    // some: what is left of the buffer moves to its start.
+    pub fn end_turn(self, need: usize, room: usize, n: usize, buffer: &mut [u8]) -> Turn
+        requires used_in_bounds { self.used ≤ n }
+        requires n_in_bounds { n ≤ length buffer.old }
+        ensures value { result ≡ turn_after self need room n }
+        ensures buffer_after { buffer.new ≡ paste buffer.old 0 (drop self.used buffer.old) result.rest }
+    {
+        let can = can_tell(need, room, self.written, self.number);
+        let rest = kept_of(can, n - self.used);
+        move_down(buffer, self.used, rest);
+        Turn {
+            sizes: self.sizes,
+            number: self.number,
+            rest,
+            written: self.written,
+            paused: !can,
+        }
     }
 }

@@ -2,6 +2,7 @@
 -- proves.
 pub mod CopyCheck
 pub mod Tested
+pub mod Refused
 pub mod OtherKinds
 pub mod StepNumbers
 pub mod Seen

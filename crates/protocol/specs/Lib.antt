@@ -10,4 +10,5 @@ pub mod Clash
 pub mod Access
 pub mod Needs
 pub mod Refusal
+pub mod Refused
 pub mod Table

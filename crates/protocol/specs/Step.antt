@@ -1,6 +1,6 @@
 -- The kinds of steps, named once: what each touches, and the numbers that it is. A new kind is a line of each definition
 -- here; what the service does at it stands with the rules.
-use Rattle.std.specs.Prelude.{ℕ, cond, eqb}
+use Rattle.std.specs.Prelude.{ℕ, Bool, true, false, cond, Option, Some, None, eqb, ltb}
 use Rattle.records.specs.declared.record.Mode.{Mode}
 use Rattle.records.specs.declared.record.Mode.TheVariants.{Read as ForRead, Write as ForWrite}
 use Rattle.protocol.specs.declared.step.Numbers.{Numbers}
@@ -29,6 +29,25 @@ class_of End = OnTable
 class_of (Restart i) = OnAll
 class_of (Embargo i f) = OnAll
 class_of (Lift i) = OnAll
+
+-- whether it is a step on the table, and one on all files
+abbrev pub on_table : Class → Bool
+on_table (OnFile f) = false
+on_table (OnBlock i f) = false
+on_table OnTable = true
+on_table OnAll = false
+
+abbrev pub is_on_table : Step → Bool
+is_on_table x = on_table (class_of x)
+
+abbrev pub on_all : Class → Bool
+on_all (OnFile f) = false
+on_all (OnBlock i f) = false
+on_all OnTable = false
+on_all OnAll = true
+
+abbrev pub is_on_all : Step → Bool
+is_on_all x = on_all (class_of x)
 
 -- ---- what a step does, for the definition of each class; a step of another class does nothing there
 
@@ -156,6 +175,10 @@ step_asked kind i f b v =
     (cond (eqb kind 10) End
     (cond (eqb kind 11) (Restart i)
     (cond (eqb kind 12) (Embargo i f) (Lift i)))))))))))))
+
+-- the step of five numbers; a kind past the last is none
+abbrev pub step_numbered : Numbers → Option Step
+step_numbered n = cond (ltb n.kind kinds) (Some (step_asked n.kind n.client n.file n.block n.value)) None
 
 -- what a step names
 abbrev pub client_of : Step → ℕ

@@ -9,8 +9,7 @@ impl ClientFile {
     pub fn says_anything(self) -> bool
         ensures { result ≡ says_anything self }
     {
-        let opens = self.opens;
-        opens.is_open() | opens.caching | self.marked
+        self.opens.is_open() | self.opens.caching | self.marked
     }
 
     // Whether the client, alone or beside the other, breaks one of the four rules.

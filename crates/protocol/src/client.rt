@@ -1,5 +1,5 @@
 // A client's side of one file: what it holds besides the copies of the blocks, and how its steps change it.
-ghost use Rattle.std.specs.Prelude.{◌≡◌, cond};
+ghost use Rattle.std.specs.Prelude.{◌≡◌};
 ghost use Rattle.protocol.specs.Access.{client_read, client_written};
 ghost use Rattle.protocol.specs.Client.{granted_client, keeps_blocks, closed_client, flushed_client, answered_client};
 ghost use Rattle.protocol.specs.Client.{read_needs_server, write_needs_server, no_client};
@@ -7,7 +7,7 @@ ghost use Rattle.protocol.specs.Client.{read_needs_server, write_needs_server, n
 use crate::copy::keeps_copy;
 use crate::reply::{Grant, Reply};
 use decision::{invalidates, writes_back};
-use records::{ClientRecord, Mode, Version};
+use records::{ClientRecord, Mode, Version, either};
 use sizes::MAX_CLIENTS;
 
 #[derive(Clone, Copy)]
@@ -43,8 +43,6 @@ pub struct Sides {
     pub of: [ClientFile; MAX_CLIENTS],
 }
 
-impl Sides {}
-
 impl ClientFile {
     // The side of a client that has nothing of the file.
     pub fn none() -> Self
@@ -63,7 +61,7 @@ impl ClientFile {
         ClientFile {
             opens: self.opens.opened(mode, grant.caching),
             marked: !mode.is_write() & self.marked,
-            label: Version::either(grant.caching, grant.latest, Version::none()),
+            label: either(grant.caching, grant.latest, Version::none()),
         }
     }
 
@@ -75,17 +73,14 @@ impl ClientFile {
     }
 
     // The client has closed; dirty says whether a block of the file is dirty here.
-    pub fn closed(self, mode: Mode, dirty: bool) -> Self
+    pub fn closed(mut self, mode: Mode, dirty: bool) -> Self
         ensures { result ≡ closed_client mode dirty self }
     {
-        let opens = self.opens;
-        let label = self.label;
-        let ends = opens.ends_writing(mode);
-        ClientFile {
-            opens: opens.closed(mode),
-            marked: if ends { dirty } else { self.marked },
-            label,
+        if self.opens.ends_writing(mode) {
+            self.marked = dirty;
         }
+        self.opens = self.opens.closed(mode);
+        self
     }
 
     // The client has flushed a block; left says whether another of the file is still dirty here.
@@ -97,15 +92,15 @@ impl ClientFile {
     }
 
     // The client has answered its callback of this kind.
+    // Stays: the kind is a number, as in crates/decision/src/kind.rt.
     pub fn answered(self, kind: u8) -> Self
         ensures { result ≡ answered_client kind self }
     {
         let invalidated = invalidates(kind);
-        let opens = self.opens;
         ClientFile {
-            opens: ClientRecord::either(invalidated, opens.uncached(), opens),
+            opens: either(invalidated, self.opens.uncached(), self.opens),
             marked: !writes_back(kind) & self.marked,
-            label: Version::either(invalidated, Version::none(), self.label),
+            label: either(invalidated, Version::none(), self.label),
         }
     }
 
@@ -113,13 +108,12 @@ impl ClientFile {
     pub fn read(self, copy: BlockCopy, block: u64) -> Accessed
         ensures { result ≡ client_read self copy block }
     {
-        let opens = self.opens;
-        let value = chosen(opens.caching & copy.held, copy.value, block);
+        let value = either(self.opens.caching & copy.held, copy.value, block);
         Accessed {
             side: self,
             copy: BlockCopy {
-                value: chosen(opens.caching, value, copy.value),
-                held: opens.caching | copy.held,
+                value: either(self.opens.caching, value, copy.value),
+                held: self.opens.caching | copy.held,
                 dirty: copy.dirty,
             },
             block,
@@ -131,15 +125,14 @@ impl ClientFile {
     pub fn write(self, copy: BlockCopy, block: u64, value: u64) -> Accessed
         ensures { result ≡ client_written self copy block value }
     {
-        let opens = self.opens;
         Accessed {
             side: self,
             copy: BlockCopy {
-                value: chosen(opens.caching, value, copy.value),
-                held: opens.caching | copy.held,
-                dirty: opens.caching | copy.dirty,
+                value: either(self.opens.caching, value, copy.value),
+                held: self.opens.caching | copy.held,
+                dirty: self.opens.caching | copy.dirty,
             },
-            block: chosen(opens.caching, block, value),
+            block: either(self.opens.caching, block, value),
             reply: Reply::Done,
         }
     }
@@ -147,21 +140,12 @@ impl ClientFile {
     pub fn read_needs_server(self, held: bool) -> bool
         ensures { result ≡ read_needs_server self held }
     {
-        let opens = self.opens;
-        !(opens.is_open() & opens.caching & held)
+        !(self.opens.is_open() & self.opens.caching & held)
     }
 
     pub fn write_needs_server(self) -> bool
         ensures { result ≡ write_needs_server self }
     {
-        let opens = self.opens;
-        !((0 < opens.writers) & opens.caching)
+        !((0 < self.opens.writers) & self.opens.caching)
     }
-}
-
-// The one value where the test holds, else the other.
-fn chosen(holds: bool, one: u64, other: u64) -> u64
-    ensures { result ≡ cond holds one other }
-{
-    if holds { one } else { other }
 }

@@ -4,13 +4,13 @@ ghost use Rattle.std.specs.Prelude.{◌≡◌, ◌≤◌, ◌<◌, get_or, repli
 ghost use Rattle.sizes.specs.Sizes.{max_clients};
 ghost use Rattle.decision.specs.Lists.{stored};
 ghost use Rattle.protocol.specs.Entry.{waits as has_waiter, call_to, calls_out, calls_in, calls_due, waiting_entry};
-ghost use Rattle.protocol.specs.Entry.{grant_of, answered_entry, fresh_entry};
+ghost use Rattle.protocol.specs.Entry.{kind_of, grant_of, answered_entry, fresh_entry};
 
 use crate::reply::Grant;
 use decision::{
-    asks_nothing, callbacks_due, invalidates, one_if, permission_at_grant, with_record, writes_back,
+    asks_nothing, callbacks_due, invalidates, permission_at_grant, with_record, writes_back,
 };
-use records::{ClientRecord, Mode, Version};
+use records::{ClientRecord, Mode, Version, either};
 use sizes::MAX_CLIENTS;
 
 // In a client field: none.
@@ -21,6 +21,7 @@ pub struct Entry {
     pub records: [ClientRecord; MAX_CLIENTS],
     pub version: Version,
     // The last writer; a number that is no client is none.
+    // Stays: no Option, here and in the waiter, for an entry holds any byte, and `waits` and `state_of` promise what each means.
     pub last: u8,
     // The client whose open waits; a number that is no client is none.
     pub waiter: u8,
@@ -54,21 +55,14 @@ impl Entry {
     }
 
     // The kind of the callback that the client has still to answer, 0 for none.
+    // Stays: a number, as writes_back, invalidates and asks_nothing of crate decision take each (their clauses).
     pub fn call_to(self, clients: usize, client: usize) -> u8
         ensures { result ≡ call_to clients self client }
     {
-        let calls = self.calls;
-        if clients <= self.waiter as usize {
+        if !self.waits(clients) | (MAX_CLIENTS <= client) {
             return 0;
         }
-        if MAX_CLIENTS <= client {
-            return 0;
-        }
-        let kind = calls[client];
-        match kind {
-            1..=3 => kind,
-            _ => 0,
-        }
+        kind_of(self.calls[client])
     }
 
     // How many clients have still to answer.
@@ -76,13 +70,13 @@ impl Entry {
         requires { clients ≤ max_clients }
         ensures { result ≡ calls_out clients self }
     {
-        let mut count: usize = 0;
-        let mut i = 0;
-        while i < clients {
-            count += one_if(!asks_nothing(self.call_to(clients, i)));
-            i += 1;
+        if !self.waits(clients) {
+            return 0;
         }
-        count
+        self.calls[..clients]
+            .iter()
+            .filter(|&&number| !asks_nothing(kind_of(number)))
+            .count()
     }
 
     // The callbacks that an open causes: a kind for each client, 0 for none.
@@ -90,13 +84,12 @@ impl Entry {
         requires { clients ≤ max_clients }
         ensures { result ≡ calls_due clients self opener mode (replicate max_clients 0) }
     {
-        let records = self.records;
-        callbacks_due(records, clients, self.last, opener, mode)
+        callbacks_due(self.records, clients, self.last, opener, mode)
     }
 
     // The open waits for the callbacks that it causes.
     pub fn waiting(
-        self,
+        mut self,
         clients: usize,
         opener: usize,
         mode: Mode,
@@ -107,17 +100,11 @@ impl Entry {
         requires calls_value { calls ≡ calls_due clients self opener mode (replicate max_clients 0) }
         ensures { result ≡ waiting_entry clients self opener mode }
     {
-        let records = self.records;
-        let version = self.version;
-        let before = self.calls;
-        Entry {
-            records,
-            version,
-            last: self.last,
-            waiter: opener as u8,
-            mode,
-            calls: with_calls(before, clients, calls),
-        }
+        let out = with_calls(self.calls, clients, calls);
+        self.waiter = opener as u8;
+        self.mode = mode;
+        self.calls = out;
+        self
     }
 
     // What a grant of the open tells.
@@ -125,13 +112,11 @@ impl Entry {
         requires { clients ≤ max_clients }
         ensures { result ≡ grant_of clients self opener mode }
     {
-        let records = self.records;
-        let version = self.version;
-        let latest = version.latest_at(mode);
+        let latest = self.version.latest_at(mode);
         Grant {
             latest,
             previous: latest.previous(),
-            caching: permission_at_grant(records, clients, opener, mode),
+            caching: permission_at_grant(self.records, clients, opener, mode),
         }
     }
 
@@ -140,10 +125,10 @@ impl Entry {
         requires { client < max_clients }
         ensures { result ≡ answered_entry self client kind }
     {
-        let before = self.records;
-        let own = before[client];
-        let after = ClientRecord::either(invalidates(kind), own.uncached(), own);
-        let records = with_record(before, client, after);
+        let own = self.records[client];
+        let after = either(invalidates(kind), own.uncached(), own);
+        // Stays: the records go by value and come back with one changed, as document 01 asks (docs/DECISIONS.md, Forms).
+        let records = with_record(self.records, client, after);
         self.records = records;
         self.calls[client] = 0;
         if writes_back(kind) {
@@ -153,33 +138,29 @@ impl Entry {
     }
 }
 
+// The kind of callback that a number of an entry is, 0 for none.
+fn kind_of(number: u8) -> u8
+    ensures { result ≡ kind_of number }
+{
+    match number {
+        1..=3 => number,
+        _ => 0,
+    }
+}
+
 // How many of the clients the callbacks call.
 pub fn count_calls(calls: [u8; MAX_CLIENTS], clients: usize) -> usize
     requires { clients ≤ max_clients }
     ensures { result ≡ calls_in clients calls }
 {
-    let mut count: usize = 0;
-    let mut i = 0;
-    while i < clients {
-        count += one_if(!asks_nothing(calls[i]));
-        i += 1;
-    }
-    count
+    calls[..clients]
+        .iter()
+        .filter(|&&kind| !asks_nothing(kind))
+        .count()
 }
 
 // The callbacks that were out, with these in place of the clients'. Where all the places are the clients', they are these.
-fn with_calls(out: [u8; MAX_CLIENTS], clients: usize, calls: [u8; MAX_CLIENTS]) -> [u8; MAX_CLIENTS]
-    requires { clients ≤ max_clients }
-    ensures { result ≡ stored clients (λ i. i) (λ i. get_or calls i 0) out }
-{
-    if clients == MAX_CLIENTS {
-        return calls;
-    }
-    with_calls_up_to(out, clients, calls)
-}
-
-// The same, one client after the other.
-fn with_calls_up_to(
+fn with_calls(
     mut out: [u8; MAX_CLIENTS],
     clients: usize,
     calls: [u8; MAX_CLIENTS],
@@ -187,10 +168,9 @@ fn with_calls_up_to(
     requires { clients ≤ max_clients }
     ensures { result ≡ stored clients (λ i. i) (λ i. get_or calls i 0) out }
 {
-    let mut i = 0;
-    while i < clients {
-        out[i] = calls[i];
-        i += 1;
+    if clients == MAX_CLIENTS {
+        return calls;
     }
+    out[..clients].copy_from_slice(&calls[..clients]);
     out
 }

@@ -15,12 +15,7 @@ mod step;
 pub use client::{Accessed, BlockCopy, ClientFile, Sides};
 pub use copy::keeps_copy;
 pub use entry::{Entry, NOBODY, count_calls};
-pub use refusal::{
-    BUFFER_TOO_SHORT, COUNT_FULL, IN_RECOVERY, LIST_TOO_LONG, NO_BLOCK, NO_CALL, NO_CLIENT,
-    NO_FILE, NO_IMAGE, NO_PLACE, NO_STEP, NOT_DIRTY, NOT_IN_RECOVERY, NOT_OPEN, NOT_UNDER_EMBARGO,
-    OPEN_WAITS, OPEN_WAITS_AT_WRITING, OUT_OF_RANGE, REPORT_MISSING, REPORTED, REPORTS_CLASH,
-    UNDER_EMBARGO, VERSION_SPENT, refused_if,
-};
+pub use refusal::{Refusal, refuse_if};
 pub use reply::{Grant, Granting, Reply};
 pub use shared::SharedFile;
 pub use step::{Numbers, Step, asked};

@@ -23,6 +23,7 @@ pub struct Granting {
 
 impl Granting {
     // What stands past the last in a list of them.
+    // Stays: no Option, for `no_granting` stands in lists that other theorems speak of (`grants_said`, `open_records`).
     pub fn none() -> Self
         ensures { result ≡ no_granting }
     {
@@ -46,6 +47,7 @@ pub enum Reply {
     // The block that was read.
     Value(u64),
     // Refused, for document 01's number.
+    // Stays: the number, and no `Refusal`, for `reply_of` reads the number of any word back (`reply_said`).
     Refused(u8),
     // The callback is answered with so many blocks, and others are still out.
     Answered(usize),
@@ -59,14 +61,6 @@ impl Reply {
     pub fn is_refused(self) -> bool
         ensures { result ≡ is_refused self }
     {
-        match self {
-            Reply::Granted(_) => false,
-            Reply::Waiting => false,
-            Reply::Value(_) => false,
-            Reply::Refused(_) => true,
-            Reply::Answered(_) => false,
-            Reply::AnsweredGrant(_, _, _) => false,
-            Reply::Done => false,
-        }
+        matches!(self, Reply::Refused(_))
     }
 }

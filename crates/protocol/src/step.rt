@@ -1,7 +1,7 @@
 // The steps that the service takes, and each as numbers. The numbers are as given: one that names nothing is refused,
 // and no step is cut.
 ghost use Rattle.std.specs.Prelude.{◌≡◌};
-ghost use Rattle.protocol.specs.Step.{five, numbers_of, by_mode};
+ghost use Rattle.protocol.specs.Step.{is_on_all, five, step_numbered, numbers_of, by_mode};
 
 use records::Mode;
 
@@ -62,7 +62,21 @@ pub enum Step {
     },
 }
 
+impl Step {
+    // Whether it is a step on all files: a restart, an embargo, or its end.
+    pub fn is_on_all(self) -> bool
+        ensures { result ≡ is_on_all self }
+    {
+        matches!(
+            self,
+            Step::Restart { .. } | Step::Embargo { .. } | Step::Lift { .. }
+        )
+    }
+}
+
 // A step as five numbers; those that it does not have are 0.
+// Stays: numbers beside the enum, for whoever has a step as numbers (`Numbers::step`), and for what a step names
+// (`asked`, `client_of`).
 #[derive(Clone, Copy)]
 pub struct Numbers {
     pub kind: u64,
@@ -70,6 +84,67 @@ pub struct Numbers {
     pub file: usize,
     pub block: usize,
     pub value: u64,
+}
+
+impl Numbers {
+    // The step of the numbers; a kind past the last is none, and what a step does not name is not looked at.
+    pub fn step(self) -> Option<Step>
+        ensures { result ≡ step_numbered self }
+    {
+        let Numbers {
+            kind,
+            client,
+            file,
+            block,
+            value,
+        } = self;
+        Some(match kind {
+            0 => Step::Open {
+                mode: Mode::Read,
+                client,
+                file,
+            },
+            1 => Step::Open {
+                mode: Mode::Write,
+                client,
+                file,
+            },
+            2 => Step::Close {
+                mode: Mode::Read,
+                client,
+                file,
+            },
+            3 => Step::Close {
+                mode: Mode::Write,
+                client,
+                file,
+            },
+            4 => Step::Read {
+                client,
+                file,
+                block,
+            },
+            5 => Step::Write {
+                client,
+                file,
+                block,
+                value,
+            },
+            6 => Step::Flush {
+                client,
+                file,
+                block,
+            },
+            7 => Step::Answer { client, file },
+            8 => Step::Crash,
+            9 => Step::Report { client },
+            10 => Step::End,
+            11 => Step::Restart { client },
+            12 => Step::Embargo { client, file },
+            13 => Step::Lift { client },
+            _ => return None,
+        })
+    }
 }
 
 fn asked_of(kind: u64, client: usize, file: usize, block: usize, value: u64) -> Numbers

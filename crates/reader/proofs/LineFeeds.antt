@@ -3,70 +3,88 @@ use Prim.Native.Nat.{ℕ, suc, ◌+◌, ◌≤◌, ◌<◌}
 use mathlib.Core.Path.{◌≡◌, refl, sym, ◌∙◌, ap}
 use mathlib.Core.List.{List, [], ◌∷◌}
 use native.Mathlib.Omega.{arith}
-use lib.ListN.{length, get_or, drop, drop_of_length-le}
-use borrow.Author.Tests.{eq-eqb, ne_eqb}
+use lib.Dec.{eqb}
+use lib.ListN.{length, get_or, take, drop, drop_of_length-le, length-drop}
 use Rattle.protocol.specs.declared.step.Step.{Step}
-use Rattle.stepfile.specs.declared.parsed.Parsed.TheVariants.{Is, NoStep}
-use Rattle.stepfile.specs.declared.parsed.Read.TheVariants.{Line, Part}
 use Rattle.stepfile.specs.Grammar.{Reading, found, nothing, onward, step}
-use Rattle.stepfile.specs.Input.{first_line, line_read, read_at, no_step_at}
-use Rattle.sizes.proofs.Choosing.{when, unless}
+use Rattle.stepfile.specs.declared.parsed.Line.{Line}
+use Rattle.stepfile.specs.Input.{first_line, line_read, read_at, no_step_at, line_of}
+use Rattle.sizes.proofs.Choosing.{when, unless, split}
 use Rattle.stepfile.proofs.Digits.{at_offset}
 use Rattle.stepfile.proofs.AsWritten.{never}
 use Rattle.stepfile.proofs.FirstLines.{reads_step, reads_none}
-use Rattle.reader.specs.declared.step.Begun.{Begun}
-use Rattle.reader.specs.declared.step.Begun.TheVariants.{Is as Begins, Missing}
-use Rattle.reader.specs.Offsets.{begun_in}
+use Rattle.reader.specs.declared.found.Found.{Found}
+use Rattle.reader.specs.Offsets.{found_in}
+use Rattle.std.proofs.Common.{Bool, ◌==◌, Option, Some, None, position, slice_range}
+use Rattle.std.specs.List.{position_from}
+use Rattle.std.proofs.Math.Seq.{take-length}
+use Rattle.std.proofs.lemmas.Iterator.Adapters.{position_from-zero}
 
 module _ (s : List ℕ) (at : ℕ) where
   -- by what a reader of the step answers
-  module _ (r : Begun) (read : step (drop at s) ≡ begun_in s r) where
-    pub reads-missing : r ≡ Missing → no_step_at s at ≡ read_at s at
-    reads-missing e = reads_none s at (λ y m f. never _ _ _ (read ∙ ap (begun_in s) e) f)
+  module _ (r : Option (Found Step)) (read : step (drop at s) ≡ found_in s r) where
+    pub reads-missing : r ≡ None → no_step_at s at ≡ read_at s at
+    reads-missing e = reads_none s at (λ y m f. never _ _ _ (read ∙ ap (found_in s) e) f)
 
-    module _ (x : Step) (next : ℕ) (is : r ≡ Begins x next) where
-      pub reads_short : length s ≤ next → no_step_at s at ≡ read_at s at
+    module _ (x : Found Step) (is : r ≡ Some x) where
+      pub reads_short : length s ≤ x.next → no_step_at s at ≡ read_at s at
       reads_short h =
           reads_none s at
           (λ y m f.
-          let there : found x [] ≡ found y (10 ∷ m) =
-          sym (read ∙ ap (begun_in s) is ∙ ap (found x) (drop_of_length-le s h)) ∙ f in
+          let there : found x.value [] ≡ found y (10 ∷ m) =
+          sym (read ∙ ap (found_in s) is ∙ ap (found x.value) (drop_of_length-le s h)) ∙ f in
           let z : ◌≡◌ {A = ℕ} 0 1 = cc in
           omega arith)
 
-      pub reads-longer : next < length s → (get_or s next 0 ≡ 10 → ⊥) → no_step_at s at ≡ read_at s at
+      pub reads-longer : x.next < length s → (get_or s x.next 0 ≡ 10 → ⊥) → no_step_at s at ≡ read_at s at
       reads-longer h other =
           reads_none s at
           (λ y m f.
-          let there : found x (get_or s next 0 ∷ drop (next + 1) s) ≡ found y (10 ∷ m) =
-          sym (read ∙ ap (begun_in s) is ∙ ap (found x) (at_offset s next h)) ∙ f in
+          let there : found x.value (get_or s x.next 0 ∷ drop (x.next + 1) s) ≡ found y (10 ∷ m) =
+          sym (read ∙ ap (found_in s) is ∙ ap (found x.value) (at_offset s x.next h)) ∙ f in
           other (cc))
 
-      pub reads-line : next < length s → get_or s next 0 ≡ 10 → Line (Is x) (next + 1) ≡ read_at s at
-      reads-line h lf = reads_step s at x next (read ∙ ap (begun_in s) is) h lf
+      pub reads-line : x.next < length s → get_or s x.next 0 ≡ 10 → line_of (Some x.value) (x.next + 1) ≡ read_at s at
+      reads-line h lf = reads_step s at x.value x.next (read ∙ ap (found_in s) is) h lf
 
-  -- the search for LF, a byte at a time
-  pub search_none : length s ≤ at → Part ≡ no_step_at s at
-  unfolding first_line
-  search_none h = sym (ap (λ d. line_read (λ line. NoStep) at (first_line d)) (drop_of_length-le s h))
+-- the line that is no step, by the place of the first LF: the bytes d stand at offset b + i
+abbrev pub line_feed : ℕ → Bool
+line_feed byte = byte == 10
 
-  pub search_lf : at < length s → get_or s at 0 ≡ 10 → Line NoStep (at + 1) ≡ no_step_at s at
-  unfolding first_line
-  search_lf h lf =
-      let offset : at + 0 + 1 ≡ at + 1 = omega arith in
-      sym
-      (ap (λ d. line_read (λ line. NoStep) at (first_line d)) (at_offset s at h)
-      ∙ ap (line_read (λ line. NoStep) at) (when _ _ (eq-eqb _ 10 lf))
-      ∙ ap (Line NoStep) offset)
+abbrev pub ended : ℕ → Option ℕ → Option Line
+ended b (Some n) = line_of None (b + n + 1)
+ended b None = None
 
-  pub search_other : at < length s → (get_or s at 0 ≡ 10 → ⊥) → no_step_at s at ≡ no_step_at s (at + 1)
+ended_from : (d : List ℕ) (b i : ℕ) → ended b (position_from line_feed i d) ≡ line_read (λ line. None) (b + i) (first_line d)
+unfolding first_line
+ended_from [] b i = refl
+ended_from (x ∷ d) b i =
+    split (eqb x 10)
+    (λ lf.
+    let offset : b + i + 1 ≡ b + i + 0 + 1 = omega arith in
+    ap (ended b) (when _ _ lf) ∙ ap (line_of None) offset ∙ sym (ap (line_read (λ line. None) (b + i)) (when _ _ lf)))
+    (λ other.
+    ap (ended b) (unless _ _ other) ∙ ended_from d b (i + 1) ∙ further (first_line d)
+    ∙ sym (ap (line_read (λ line. None) (b + i)) (unless _ _ other)))
+  where
+    further : (t : Reading (List ℕ))
+        → line_read (λ line. None) (b + (i + 1)) t ≡ line_read (λ line. None) (b + i) (onward t (λ line rest. found (x ∷ line) rest))
+    further (found l r) =
+        let offset : b + (i + 1) + length l + 1 ≡ b + i + suc (length l) + 1 = omega arith in
+        ap (line_of None) offset
+    further nothing = refl
+
+module _ (s : List ℕ) (at : ℕ) where
+  pub search_none : length s < at → None ≡ no_step_at s at
   unfolding first_line
-  search_other h other =
-      ap (λ d. line_read (λ line. NoStep) at (first_line d)) (at_offset s at h)
-      ∙ ap (line_read (λ line. NoStep) at) (unless _ _ (ne_eqb _ 10 other))
-      ∙ further (first_line (drop (at + 1) s))
-    where
-      further : (t : Reading (List ℕ))
-          → line_read (λ line. NoStep) at (onward t (λ line rest. found (get_or s at 0 ∷ line) rest)) ≡ line_read (λ line. NoStep) (at + 1) t
-      further (found l r) = let offset : at + suc (length l) + 1 ≡ at + 1 + length l + 1 = omega arith in ap (Line NoStep) offset
-      further nothing = refl
+  search_none h = sym (ap (λ d. line_read (λ line. None) at (first_line d)) (drop_of_length-le s (omega arith)))
+
+  pub ended_by : (d : List ℕ) → d ≡ slice_range s at (length s) → at ≤ length s → ended at (position line_feed d) ≡ no_step_at s at
+  ended_by d is h =
+      let rest : slice_range s at (length s) ≡ drop at s =
+      ap (λ k. take k (drop at s)) (sym (length-drop at s)) ∙ take-length (drop at s) in
+      let start : at + 0 ≡ at = omega arith in
+      ap (ended at) (position_from-zero line_feed d)
+      ∙ ended_from d at 0
+      ∙ ap (λ k. line_read (λ line. None) k (first_line d)) start
+      ∙ ap (λ d. line_read (λ line. None) at (first_line d)) (is ∙ rest)

@@ -4,18 +4,13 @@ use mathlib.Core.Path.{◌≡◌, sym, ◌∙◌, ap, ap₂}
 use mathlib.Core.Bool.{true, false, cond}
 use mathlib.Core.List.{List}
 use native.Mathlib.Omega.{arith}
-use lib.Dec.{eqb, leb}
+use lib.Dec.{eqb, leb, ltb}
 use lib.ListN.{length, get_or, drop, drop_of_length-le}
-use borrow.Author.Tests.{eq-eqb, ne_eqb, eqb-true, eqb-false, leb-true}
+use borrow.Author.Tests.{eq-eqb, ne_eqb, eqb-true, eqb-false, leb-true, ltb-true}
+use Rattle.std.proofs.lemmas.Grind.{get_or_default_zero}
 use Rattle.stepfile.specs.Grammar.{found, nothing, is_digit, digits_on, numeral, argument}
 use Rattle.sizes.proofs.Choosing.{when, unless, and_left, and_right, split}
 use Rattle.stepfile.proofs.Digits.{at_offset, digit, below_digit, above_digit, other, over, more}
-
-below_zero : (b : ℕ) → b < 48 → eqb b 48 ≡ false
-below_zero b h = ne_eqb b 48 (omega arith)
-
-above_zero : (b : ℕ) → 48 < b → eqb b 48 ≡ false
-above_zero b h = ne_eqb b 48 (omega arith)
 
 -- a byte that is a digit
 pub digit_low : (b : ℕ) → is_digit b ≡ true → 48 ≤ b
@@ -23,6 +18,12 @@ digit_low b e = leb-true 48 b (and_left (leb 48 b) (leb b 57) e)
 
 pub digit_high : (b : ℕ) → is_digit b ≡ true → b ≤ 57
 digit_high b e = leb-true b 57 (and_right (leb 48 b) (leb b 57) e)
+
+-- the byte that a test of the offset finds
+pub byte_there : (s : List ℕ) (i b : ℕ) → true ≡ ltb i (length s) → b ≡ get_or s i b → (i < length s) × (get_or s i 0 ≡ b)
+byte_there s i b inside is =
+    let h = ltb-true i (length s) (sym inside) in
+    (h, sym (is ∙ get_or_default_zero s i b h))
 
 module _ (s : List ℕ) (i : ℕ) where
   -- the digits end with the bytes, or before a byte that is no digit
@@ -36,7 +37,7 @@ module _ (s : List ℕ) (i : ℕ) where
   pub digits_above : (v : ℕ) → i < length s → 57 < get_or s i 0 → digits_on v (drop i s) ≡ found v (drop i s)
   digits_above v h b = rw (at_offset s i h) (other v _ _ (above_digit _ b))
 
-  digits_end : (v : ℕ) → i < length s → is_digit (get_or s i 0) ≡ false → digits_on v (drop i s) ≡ found v (drop i s)
+  pub digits_end : (v : ℕ) → i < length s → is_digit (get_or s i 0) ≡ false → digits_on v (drop i s) ≡ found v (drop i s)
   digits_end v h e = rw (at_offset s i h) (other v _ _ e)
 
   -- a digit more
@@ -57,15 +58,9 @@ module _ (s : List ℕ) (i : ℕ) where
   unfolding numeral
   numeral_zero h e = rw (at_offset s i h) (when _ _ (eq-eqb _ 48 e))
 
-  pub numeral_below : i < length s → get_or s i 0 < 48 → numeral (drop i s) ≡ nothing
+  pub numeral_other : i < length s → (get_or s i 0 ≡ 48 → ⊥) → is_digit (get_or s i 0) ≡ false → numeral (drop i s) ≡ nothing
   unfolding numeral
-  numeral_below h b = rw (at_offset s i h) (unless _ _ (below_zero _ b) ∙ unless _ _ (below_digit _ b))
-
-  pub numeral_above : i < length s → 57 < get_or s i 0 → numeral (drop i s) ≡ nothing
-  unfolding numeral
-  numeral_above h b =
-      let far : 48 < get_or s i 0 = omega arith in
-      rw (at_offset s i h) (unless _ _ (above_zero _ far) ∙ unless _ _ (above_digit _ b))
+  numeral_other h some e = rw (at_offset s i h) (unless _ _ (ne_eqb _ 48 some) ∙ unless _ _ e)
 
   pub numeral_digit : i < length s → (get_or s i 0 ≡ 48 → ⊥) → 48 ≤ get_or s i 0 → get_or s i 0 ≤ 57
       → numeral (drop i s) ≡ digits_on (get_or s i 0 - 48) (drop (i + 1) s)
@@ -145,13 +140,3 @@ module _ (s : List ℕ) (i : ℕ) (space : get_or s i 0 ≡ 32) (is : is_digit (
       let past : i + 2 ≡ i + 2 + more = omega arith in
       argument_one (omega arith) single
       ∙ ap₂ (λ (v k : ℕ). found v (drop k s)) (sym (worth ∙ unless _ _ single)) past)
-
--- the code's tests for a number that grows too large: w is the digit d
-pub past_tenth : (v d : ℕ) → 1844674407370955161 < v → 2 ^ 64 ≤ v * 10 + d
-past_tenth v d h = omega arith
-
-pub past_largest : (v d w : ℕ) → w ≡ d → v ≤ 1844674407370955161 → 18446744073709551615 - v * 10 < w → 2 ^ 64 ≤ v * 10 + d
-past_largest v d w e h k = omega arith
-
-pub within_largest : (v d w : ℕ) → w ≡ d → v ≤ 1844674407370955161 → w ≤ 18446744073709551615 - v * 10 → v * 10 + d < 2 ^ 64
-within_largest v d w e h k = omega arith

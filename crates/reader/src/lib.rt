@@ -1,6 +1,7 @@
 // Lines of the step file to steps, read where they stand in the input.
 #![tactic(auto)]
 
+mod found;
 mod line;
 mod number;
 mod setting;

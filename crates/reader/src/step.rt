@@ -1,19 +1,13 @@
 // A step, read where it stands in the input: its word and its numbers.
-ghost use Rattle.std.specs.Prelude.{◌≡◌, List, ℕ, ◌+◌, ◌*◌, ◌≤◌, length, get_or, drop};
-ghost use Rattle.stepfile.specs.Grammar.{Shape, whole, taking, one, shaped, found, onward};
-ghost use Rattle.stepfile.specs.Grammar.{step as step_on};
-ghost use Rattle.reader.specs.Offsets.{number_in, pair_in, triple_in, begun_in};
+ghost use Rattle.std.specs.Prelude.{◌≡◌, ℕ, ◌+◌, ◌*◌, ◌≤◌, true, IfSome, IsNone, OnSome, length, get_or, drop};
+ghost use Rattle.stepfile.specs.Grammar.{Shape, whole, taking, one};
+ghost use Rattle.stepfile.specs.Grammar.{shaped, step as step_on, argument};
+ghost use Rattle.reader.specs.Offsets.{found_in, pair_in, triple_in, MapsTo};
 
-use crate::number::{Number, argument_at, digit_at, two_digits_at, wide};
+use crate::found::Found;
+use crate::number::{argument_at, digit_at, two_digits_at};
 use protocol::Step;
 use records::Mode;
-
-// What reading a step at an offset finds: the step, and the offset past its last byte.
-#[derive(Clone, Copy)]
-pub enum Begun {
-    Is { step: Step, next: usize },
-    Missing,
-}
 
 // The words, as two bytes of ASCII.
 const OR: u64 = 0x4f52;
@@ -49,8 +43,8 @@ const LF: u64 = 0x4c46;
 const SHORT_ROOM: usize = 12;
 
 // A step at an offset. Nearly all are short; what is not read as a short one is read number by number.
-pub fn step_at(s: &[u8], at: usize) -> Begun
-    ensures { step_on (drop at s.now) ≡ begun_in s.now result }
+pub fn step_at(s: &[u8], at: usize) -> Option<Found<Step>>
+    ensures { step_on (drop at s.now) ≡ found_in s.now result }
 {
     if s.len() < SHORT_ROOM {
         return long_at(s, at);
@@ -58,81 +52,107 @@ pub fn step_at(s: &[u8], at: usize) -> Begun
     if s.len() - SHORT_ROOM < at {
         return long_at(s, at);
     }
-    let short = short_at(s, at);
-    if let Begun::Missing = short {
+    // Stays: with `or_else` or a `match` here a step takes 5 to 15 percent more time.
+    let short = begun_at::<true>(s, at);
+    if short.is_none() {
         return long_at(s, at);
     }
     short
 }
 
-// A step whose client and block have one digit and whose file has at most two, read with no test of the length. What
-// is missing may still be a step.
-fn short_at(s: &[u8], at: usize) -> Begun
-    requires { at + 12 ≤ length s.now }
-    ensures { (result ≡ Begun.Missing → ⊥) → step_on (drop at s.now) ≡ begun_in s.now result }
+// Any step.
+fn long_at(s: &[u8], at: usize) -> Option<Found<Step>>
+    ensures { step_on (drop at s.now) ≡ found_in s.now result }
+{
+    if s.len() < 2 {
+        return None;
+    }
+    if s.len() - 2 < at {
+        return None;
+    }
+    begun_at::<false>(s, at)
+}
+
+// A step after whose word there is room. A short one is read with no test of the length: its client and block have one
+// digit, and its file has at most two. What is not found may still be a step that is not short.
+fn begun_at<const SHORT: bool>(s: &[u8], at: usize) -> Option<Found<Step>>
+    requires word { at + 2 ≤ length s.now }
+    requires room { SHORT ≡ true → at + 12 ≤ length s.now }
+    ensures { (SHORT ≡ true → IsNone result → ⊥) → step_on (drop at s.now) ≡ found_in s.now result }
 {
     let from = at + 2;
-    let word = word_at(s, at);
-    match word {
-        OR => open_of(Mode::Read, short_pair_at(s, from)),
-        OW => open_of(Mode::Write, short_pair_at(s, from)),
-        CR => close_of(Mode::Read, short_pair_at(s, from)),
-        CW => close_of(Mode::Write, short_pair_at(s, from)),
-        AN => answer_of(short_pair_at(s, from)),
-        RD => read_of(short_triple_at(s, from)),
-        FL => flush_of(short_triple_at(s, from)),
-        WR => write_from(s, short_triple_at(s, from)),
-        XX => Begun::Is {
-            step: Step::Crash,
+    match word_at(s, at) {
+        OR => step_of(pair_at::<SHORT>(s, from), |n| open(Mode::Read, n)),
+        OW => step_of(pair_at::<SHORT>(s, from), |n| open(Mode::Write, n)),
+        CR => step_of(pair_at::<SHORT>(s, from), |n| close(Mode::Read, n)),
+        CW => step_of(pair_at::<SHORT>(s, from), |n| close(Mode::Write, n)),
+        AN => step_of(
+            pair_at::<SHORT>(s, from),
+            |(client, file)| Step::Answer { client, file },
+        ),
+        RD => step_of(
+            triple_at::<SHORT>(s, from),
+            |(client, file, block)| Step::Read {
+                client,
+                file,
+                block,
+            },
+        ),
+        FL => step_of(
+            triple_at::<SHORT>(s, from),
+            |(client, file, block)| Step::Flush {
+                client,
+                file,
+                block,
+            },
+        ),
+        WR => write_from(s, triple_at::<SHORT>(s, from)),
+        XX => Some(Found {
+            value: Step::Crash,
             next: from,
-        },
-        RP => report_of(digit_at(s, from)),
-        EN => Begun::Is {
-            step: Step::End,
+        }),
+        RP => step_of(
+            one_at::<SHORT>(s, from),
+            |client| Step::Report {
+                client: client as usize,
+            },
+        ),
+        EN => Some(Found {
+            value: Step::End,
             next: from,
-        },
-        BT => restart_of(digit_at(s, from)),
-        EM => embargo_of(short_pair_at(s, from)),
-        LF => lift_of(digit_at(s, from)),
-        _ => Begun::Missing,
+        }),
+        BT => step_of(
+            one_at::<SHORT>(s, from),
+            |client| Step::Restart {
+                client: client as usize,
+            },
+        ),
+        EM => step_of(
+            pair_at::<SHORT>(s, from),
+            |(client, file)| Step::Embargo { client, file },
+        ),
+        LF => step_of(
+            one_at::<SHORT>(s, from),
+            |client| Step::Lift {
+                client: client as usize,
+            },
+        ),
+        _ => None,
     }
 }
 
-// Any step.
-fn long_at(s: &[u8], at: usize) -> Begun
-    ensures { step_on (drop at s.now) ≡ begun_in s.now result }
+fn open(mode: Mode, numbers: (usize, usize)) -> Step
+    ensures { result ≡ Step.Open mode numbers.0 numbers.1 }
 {
-    if s.len() < 2 {
-        return Begun::Missing;
-    }
-    if s.len() - 2 < at {
-        return Begun::Missing;
-    }
-    let from = at + 2;
-    let word = word_at(s, at);
-    match word {
-        OR => open_of(Mode::Read, pair_at(s, from)),
-        OW => open_of(Mode::Write, pair_at(s, from)),
-        CR => close_of(Mode::Read, pair_at(s, from)),
-        CW => close_of(Mode::Write, pair_at(s, from)),
-        AN => answer_of(pair_at(s, from)),
-        RD => read_of(triple_at(s, from)),
-        FL => flush_of(triple_at(s, from)),
-        WR => write_from(s, triple_at(s, from)),
-        XX => Begun::Is {
-            step: Step::Crash,
-            next: from,
-        },
-        RP => report_of(argument_at(s, from)),
-        EN => Begun::Is {
-            step: Step::End,
-            next: from,
-        },
-        BT => restart_of(argument_at(s, from)),
-        EM => embargo_of(pair_at(s, from)),
-        LF => lift_of(argument_at(s, from)),
-        _ => Begun::Missing,
-    }
+    let (client, file) = numbers;
+    Step::Open { mode, client, file }
+}
+
+fn close(mode: Mode, numbers: (usize, usize)) -> Step
+    ensures { result ≡ Step.Close mode numbers.0 numbers.1 }
+{
+    let (client, file) = numbers;
+    Step::Close { mode, client, file }
 }
 
 // The two bytes of a word as one number.
@@ -140,287 +160,94 @@ fn word_at(s: &[u8], at: usize) -> u64
     requires { at + 2 ≤ length s.now }
     ensures { result ≡ get_or s.now at 0 * 256 + get_or s.now (at + 1) 0 }
 {
-    wide(s[at]) * 256 + wide(s[at + 1])
+    u64::from(s[at]) * 256 + u64::from(s[at + 1])
 }
 
 // The step that the numbers after its word make.
-fn open_of(mode: Mode, numbers: Pair) -> Begun
-    ensures { (s : List ℕ) → pair_in s (λ a b. whole (Step.Open mode a b)) numbers ≡ begun_in s result }
+fn step_of<N, F: FnOnce(N) -> Step>(numbers: Option<Found<N>>, make: F) -> Option<Found<Step>>
+    requires { F.IsAlwaysCallable make }
+    ensures { MapsTo (F.post make) numbers result }
 {
-    let Pair::Are { client, file, next } = numbers else {
-        return Begun::Missing;
-    };
-    Begun::Is {
-        step: Step::Open { mode, client, file },
+    let Found { value, next } = numbers?;
+    Some(Found {
+        value: make(value),
         next,
-    }
-}
-
-fn close_of(mode: Mode, numbers: Pair) -> Begun
-    ensures { (s : List ℕ) → pair_in s (λ a b. whole (Step.Close mode a b)) numbers ≡ begun_in s result }
-{
-    let Pair::Are { client, file, next } = numbers else {
-        return Begun::Missing;
-    };
-    Begun::Is {
-        step: Step::Close { mode, client, file },
-        next,
-    }
-}
-
-fn answer_of(numbers: Pair) -> Begun
-    ensures { (s : List ℕ) → pair_in s (λ a b. whole (Step.Answer a b)) numbers ≡ begun_in s result }
-{
-    let Pair::Are { client, file, next } = numbers else {
-        return Begun::Missing;
-    };
-    Begun::Is {
-        step: Step::Answer { client, file },
-        next,
-    }
-}
-
-fn read_of(numbers: Triple) -> Begun
-    ensures { (s : List ℕ) → triple_in s (λ a b c. whole (Step.Read a b c)) numbers ≡ begun_in s result }
-{
-    let Triple::Are {
-        client,
-        file,
-        block,
-        next,
-    } = numbers
-    else {
-        return Begun::Missing;
-    };
-    Begun::Is {
-        step: Step::Read {
-            client,
-            file,
-            block,
-        },
-        next,
-    }
-}
-
-fn flush_of(numbers: Triple) -> Begun
-    ensures { (s : List ℕ) → triple_in s (λ a b c. whole (Step.Flush a b c)) numbers ≡ begun_in s result }
-{
-    let Triple::Are {
-        client,
-        file,
-        block,
-        next,
-    } = numbers
-    else {
-        return Begun::Missing;
-    };
-    Begun::Is {
-        step: Step::Flush {
-            client,
-            file,
-            block,
-        },
-        next,
-    }
+    })
 }
 
 // The value follows the other numbers.
-fn write_from(s: &[u8], numbers: Triple) -> Begun
-    ensures { triple_in s.now (λ a b c. one (Step.Write a b c)) numbers
-        ≡ begun_in s.now result }
+fn write_from(s: &[u8], numbers: Option<Found<(usize, usize, usize)>>) -> Option<Found<Step>>
+    ensures { triple_in s.now (λ a b c. one (Step.Write a b c)) numbers ≡ found_in s.now result }
 {
-    let Triple::Are {
-        client,
-        file,
-        block,
+    let Found {
+        value: (client, file, block),
         next,
-    } = numbers
-    else {
-        return Begun::Missing;
-    };
-    let Number::Is { value, next: past } = argument_at(s, next) else {
-        return Begun::Missing;
-    };
-    Begun::Is {
-        step: Step::Write {
+    } = numbers?;
+    let Found { value, next } = argument_at(s, next)?;
+    Some(Found {
+        value: Step::Write {
             client,
             file,
             block,
             value,
         },
-        next: past,
-    }
-}
-
-fn report_of(number: Number) -> Begun
-    ensures { (s : List ℕ)
-        → onward (number_in s number) (λ a rest. found (Step.Report a) rest) ≡ begun_in s result }
-{
-    let Number::Is { value, next } = number else {
-        return Begun::Missing;
-    };
-    Begun::Is {
-        step: Step::Report {
-            client: value as usize,
-        },
         next,
-    }
+    })
 }
 
-fn restart_of(number: Number) -> Begun
-    ensures { (s : List ℕ)
-        → onward (number_in s number) (λ a rest. found (Step.Restart a) rest) ≡ begun_in s result }
+// A client or a block; a short one has one digit.
+fn one_at<const SHORT: bool>(s: &[u8], at: usize) -> Option<Found<u64>>
+    requires { SHORT ≡ true → at + 3 ≤ length s.now }
+    ensures s_value { (SHORT ≡ true → IsNone result → ⊥) → argument (drop at s.now) ≡ found_in s.now result }
+    ensures by_index { SHORT ≡ true → IfSome result (λ found. found.next ≡ at + 2) }
 {
-    let Number::Is { value, next } = number else {
-        return Begun::Missing;
-    };
-    Begun::Is {
-        step: Step::Restart {
-            client: value as usize,
-        },
-        next,
+    if SHORT {
+        digit_at(s, at)
+    } else {
+        argument_at(s, at)
     }
 }
 
-fn embargo_of(numbers: Pair) -> Begun
-    ensures { (s : List ℕ) → pair_in s (λ a b. whole (Step.Embargo a b)) numbers ≡ begun_in s result }
+// A file; a short one has at most two digits.
+fn file_at<const SHORT: bool>(s: &[u8], at: usize) -> Option<Found<u64>>
+    requires { SHORT ≡ true → at + 4 ≤ length s.now }
+    ensures s_value { (SHORT ≡ true → IsNone result → ⊥) → argument (drop at s.now) ≡ found_in s.now result }
+    ensures by_index { SHORT ≡ true → IfSome result (λ found. found.next ≤ at + 3) }
 {
-    let Pair::Are { client, file, next } = numbers else {
-        return Begun::Missing;
-    };
-    Begun::Is {
-        step: Step::Embargo { client, file },
-        next,
+    if SHORT {
+        two_digits_at(s, at)
+    } else {
+        argument_at(s, at)
     }
 }
 
-fn lift_of(number: Number) -> Begun
-    ensures { (s : List ℕ)
-        → onward (number_in s number) (λ a rest. found (Step.Lift a) rest) ≡ begun_in s result }
-{
-    let Number::Is { value, next } = number else {
-        return Begun::Missing;
-    };
-    Begun::Is {
-        step: Step::Lift {
-            client: value as usize,
-        },
-        next,
-    }
-}
-
-// Two numbers, a client and a file, and the offset past them.
-#[derive(Clone, Copy)]
-pub enum Pair {
-    Are {
-        client: usize,
-        file: usize,
-        next: usize,
-    },
-    Missing,
-}
-
-fn pair_at(s: &[u8], at: usize) -> Pair
-    ensures { (f : ℕ → ℕ → Shape)
+// A client and a file.
+fn pair_at<const SHORT: bool>(s: &[u8], at: usize) -> Option<Found<(usize, usize)>>
+    requires { SHORT ≡ true → at + 6 ≤ length s.now }
+    ensures by_index { (f : ℕ → ℕ → Shape) → (SHORT ≡ true → IsNone result → ⊥)
         → shaped (taking (λ a. taking (f a))) (drop at s.now) ≡ pair_in s.now f result }
+    ensures by_index_2 { SHORT ≡ true → IfSome result (λ found. found.next ≤ at + 5) }
 {
-    let Number::Is {
-        value: client,
-        next,
-    } = argument_at(s, at)
-    else {
-        return Pair::Missing;
-    };
-    let Number::Is {
-        value: file,
-        next: past,
-    } = argument_at(s, next)
-    else {
-        return Pair::Missing;
-    };
-    Pair::Are {
-        client: client as usize,
-        file: file as usize,
-        next: past,
-    }
+    let client = one_at::<SHORT>(s, at)?;
+    let file = file_at::<SHORT>(s, client.next)?;
+    Some(Found {
+        value: (client.value as usize, file.value as usize),
+        next: file.next,
+    })
 }
 
-// A client of one digit and a file of at most two.
-fn short_pair_at(s: &[u8], at: usize) -> Pair
-    requires { at + 6 ≤ length s.now }
-    ensures by_index { (f : ℕ → ℕ → Shape) → (result ≡ Pair.Missing → ⊥)
-        → shaped (taking (λ a. taking (f a))) (drop at s.now) ≡ pair_in s.now f result }
-    ensures by_index_2 { (a b next : ℕ) → result ≡ Pair.Are a b next → next ≤ at + 5 }
-{
-    let Number::Is {
-        value: client,
-        next,
-    } = digit_at(s, at)
-    else {
-        return Pair::Missing;
-    };
-    let Number::Is {
-        value: file,
-        next: past,
-    } = two_digits_at(s, next)
-    else {
-        return Pair::Missing;
-    };
-    Pair::Are {
-        client: client as usize,
-        file: file as usize,
-        next: past,
-    }
-}
-
-// A client, a file and a block, and the offset past them.
-#[derive(Clone, Copy)]
-pub enum Triple {
-    Are {
-        client: usize,
-        file: usize,
-        block: usize,
-        next: usize,
-    },
-    Missing,
-}
-
-fn triple_at(s: &[u8], at: usize) -> Triple
-    ensures { (f : ℕ → ℕ → ℕ → Shape)
+// A client, a file and a block.
+fn triple_at<const SHORT: bool>(s: &[u8], at: usize) -> Option<Found<(usize, usize, usize)>>
+    requires { SHORT ≡ true → at + 8 ≤ length s.now }
+    ensures { (f : ℕ → ℕ → ℕ → Shape) → (SHORT ≡ true → IsNone result → ⊥)
         → shaped (taking (λ a. taking (λ b. taking (f a b)))) (drop at s.now)
         ≡ triple_in s.now f result }
 {
-    let Pair::Are { client, file, next } = pair_at(s, at) else {
-        return Triple::Missing;
-    };
-    let Number::Is { value, next: past } = argument_at(s, next) else {
-        return Triple::Missing;
-    };
-    Triple::Are {
-        client,
-        file,
-        block: value as usize,
-        next: past,
-    }
-}
-
-// A client and a block of one digit and a file of at most two.
-fn short_triple_at(s: &[u8], at: usize) -> Triple
-    requires { at + 8 ≤ length s.now }
-    ensures { (f : ℕ → ℕ → ℕ → Shape) → (result ≡ Triple.Missing → ⊥)
-        → shaped (taking (λ a. taking (λ b. taking (f a b)))) (drop at s.now)
-        ≡ triple_in s.now f result }
-{
-    let Pair::Are { client, file, next } = short_pair_at(s, at) else {
-        return Triple::Missing;
-    };
-    let Number::Is { value, next: past } = digit_at(s, next) else {
-        return Triple::Missing;
-    };
-    Triple::Are {
-        client,
-        file,
-        block: value as usize,
-        next: past,
-    }
+    let pair = pair_at::<SHORT>(s, at)?;
+    let (client, file) = pair.value;
+    let block = one_at::<SHORT>(s, pair.next)?;
+    Some(Found {
+        value: (client, file, block.value as usize),
+        next: block.next,
+    })
 }

@@ -2,8 +2,10 @@
 // functions do with them.
 #![tactic(auto)]
 
+mod choosing;
 mod record;
 mod version;
 
+pub use choosing::either;
 pub use record::{ClientRecord, Mode};
 pub use version::Version;

@@ -1,8 +1,8 @@
 // One client's opens of one file, as either side keeps them (document 01: a station record).
-ghost use Rattle.std.specs.Prelude.{◌≡◌, cond, ◌-◌};
+ghost use Rattle.std.specs.Prelude.{◌≡◌};
 ghost use Rattle.records.specs.Record.{not_open, is_write, allowed_lag, is_open, count_of, keeps_permission};
 ghost use Rattle.records.specs.Record.{ends_writing};
-ghost use Rattle.records.specs.Record.{raised as raised_count, opened as opened_record, closed as closed_record};
+ghost use Rattle.records.specs.Record.{opened as opened_record, closed as closed_record};
 ghost use Rattle.records.specs.Record.{settled as settled_record, uncached as uncached_record};
 
 // The mode of an open or a close. Opening for write means read and write.
@@ -16,10 +16,7 @@ impl Mode {
     pub fn is_write(self) -> bool
         ensures { result ≡ is_write self }
     {
-        match self {
-            Mode::Read => false,
-            Mode::Write => true,
-        }
+        matches!(self, Mode::Write)
     }
 
     // How many versions a copy that is kept at an open in this mode may be behind the latest.
@@ -39,18 +36,6 @@ pub struct ClientRecord {
     pub writers: u8,
     // The client may cache the file (document 01: permission).
     pub caching: bool,
-}
-
-fn raised(count: u8) -> u8
-    ensures { result ≡ raised_count count }
-{
-    if count == 255 { count } else { count + 1 }
-}
-
-fn lowered(count: u8) -> u8
-    ensures { result ≡ count - 1 }
-{
-    if count == 0 { count } else { count - 1 }
 }
 
 impl ClientRecord {
@@ -98,40 +83,25 @@ impl ClientRecord {
         }
     }
 
-    pub fn opened(self, mode: Mode, caching: bool) -> Self
+    pub fn opened(mut self, mode: Mode, caching: bool) -> Self
         ensures { result ≡ opened_record mode caching self }
     {
         match mode {
-            Mode::Read => ClientRecord {
-                readers: raised(self.readers),
-                writers: self.writers,
-                caching,
-            },
-            Mode::Write => ClientRecord {
-                readers: self.readers,
-                writers: raised(self.writers),
-                caching,
-            },
+            Mode::Read => self.readers = self.readers.saturating_add(1),
+            Mode::Write => self.writers = self.writers.saturating_add(1),
         }
+        self.caching = caching;
+        self
     }
 
-    pub fn closed(self, mode: Mode) -> Self
+    pub fn closed(mut self, mode: Mode) -> Self
         ensures { result ≡ closed_record mode self }
     {
         match mode {
-            Mode::Read => ClientRecord {
-                readers: lowered(self.readers),
-                writers: self.writers,
-                caching: self.caching,
-            }
-            .settled(),
-            Mode::Write => ClientRecord {
-                readers: self.readers,
-                writers: lowered(self.writers),
-                caching: self.caching,
-            }
-            .settled(),
+            Mode::Read => self.readers = self.readers.saturating_sub(1),
+            Mode::Write => self.writers = self.writers.saturating_sub(1),
         }
+        self.settled()
     }
 
     // A client that is not open has no permission.
@@ -147,12 +117,5 @@ impl ClientRecord {
     {
         self.caching = false;
         self
-    }
-
-    // The one record where the test holds, else the other.
-    pub fn either(holds: bool, one: ClientRecord, other: ClientRecord) -> Self
-        ensures { result ≡ cond holds one other }
-    {
-        if holds { one } else { other }
     }
 }

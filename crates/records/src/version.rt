@@ -1,6 +1,6 @@
 // The version of a file, and of a client's copy of it: 32 bits, 1 at the start, 0 for no copy. The field is private,
 // so that no count and no block value can stand for a version.
-ghost use Rattle.std.specs.Prelude.{◌≡◌, cond};
+ghost use Rattle.std.specs.Prelude.{◌≡◌};
 ghost use Rattle.records.specs.Version.{version_of, no_version, first_version, number_of, as_read, next_version};
 ghost use Rattle.records.specs.Version.{previous_version};
 ghost use Rattle.records.specs.Version.{is_no_version, is_first_version, is_last_version, lags_at_most, latest_at};
@@ -43,27 +43,19 @@ impl Version {
     pub fn as_read(self) -> Self
         ensures { result ≡ as_read self }
     {
-        Version::either(self.0 == 0, Version(1), self)
+        if self.is_none() { Version(1) } else { self }
     }
 
     pub fn next(self) -> Self
         ensures { result ≡ next_version self }
     {
-        if self.0 == 4294967295 {
-            self
-        } else {
-            Version(self.0 + 1)
-        }
+        Version(self.0.saturating_add(1))
     }
 
     pub fn previous(self) -> Self
         ensures { result ≡ previous_version self }
     {
-        if self.0 == 0 {
-            self
-        } else {
-            Version(self.0 - 1)
-        }
+        Version(self.0.saturating_sub(1))
     }
 
     // Whether this labels no copy.
@@ -82,7 +74,7 @@ impl Version {
     pub fn is_last(self) -> bool
         ensures { result ≡ is_last_version self }
     {
-        self.0 == 4294967295
+        self.0 == u32::MAX
     }
 
     // Whether this version is not above the latest, and at most so many versions behind it.
@@ -90,13 +82,6 @@ impl Version {
         ensures { result ≡ lags_at_most most self latest }
     {
         self.0 <= latest.0 && latest.0 - self.0 <= most
-    }
-
-    // The one version where the test holds, else the other.
-    pub fn either(holds: bool, one: Version, other: Version) -> Self
-        ensures { result ≡ cond holds one other }
-    {
-        if holds { one } else { other }
     }
 
     // The latest version once an open in the mode is granted.

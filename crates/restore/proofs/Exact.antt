@@ -9,6 +9,7 @@ use lib.Dec.{ltb}
 use lib.ListN.{length, get_or, replicate}
 use borrow.Author.Tests.{le-ltb, le-leb}
 use Rattle.records.specs.Version.{version_of, number_of}
+use lib.Pointwise.{bytes_decides}
 use Rattle.sizes.proofs.Choosing.{split, conflict, when, unless}
 use Rattle.sizes.specs.declared.sizes.Sizes.{Sizes}
 use Rattle.sizes.specs.Sizes.{max_clients, max_files, max_blocks, max_places, nobody, is_permitted, in_force, Permitted}
@@ -30,7 +31,6 @@ use Rattle.image.specs.Writing.{open_waiting}
 use Rattle.restore.specs.Decoded.{number_at, decoded_files, decoded_used, decoded_blocks, decoded_embargoes}
 use Rattle.restore.specs.Reading.{same_bytes, is_image, restored, reading_of, sizes_in}
 use Rattle.restore.specs.Exact.{AreBytes, Written, AcceptsExactly, Exact, Starts, used_values}
-use Rattle.restore.proofs.SameBytes.{same_true, same_self}
 use Rattle.restore.proofs.GivenBack.{version_given, used_given, block_given, embargo_given, same_again}
 use Rattle.restore.proofs.Bounds.{GoodFiles, GoodBlocks, decoded_files_good, decoded_blocks_good}
 use Rattle.restore.proofs.Bounds.{decoded_used_long, decoded_embargoes_long}
@@ -55,7 +55,7 @@ module _ (t : Service) (fits : Fits t) where
   image_accepted =
       ap (same_bytes (image_of t))
       (same_again most (table_in t).files t.server.used t.server.blocks (table_in t).embargoed versions values)
-      ∙ same_self (image_of t)
+      ∙ (bytes_decides (image_of t) (image_of t)).1 refl
 
   -- what the image gives back
   pub version_back :
@@ -149,7 +149,7 @@ module _ (s : Service) (bytes : List ℕ) (are-bytes : AreBytes bytes) where
   written_for : is_image (sizes_of s) bytes ≡ true → Written (sizes_of s) bytes
   unfolding is_image
   written_for accepted =
-      let image : image_of t ≡ bytes = sym (same_true bytes (image_of t) accepted) in
+      let image : image_of t ≡ bytes = sym ((bytes_decides bytes (image_of t)).0 accepted) in
       let room : ltb (length bytes) (length (image_of t)) ≡ false =
       le-ltb (length bytes) (length (image_of t)) (rw image (omega arith)) in
       record {

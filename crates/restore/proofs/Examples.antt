@@ -30,7 +30,7 @@ use Rattle.image.proofs.Examples.{whole_image, under_embargo, none_embargoed, fr
 use Rattle.restore.specs.Decoded.{number_at, entries_in, placed, decoded_files, decoded_used, decoded_blocks}
 use Rattle.restore.specs.Decoded.{decoded_embargoes}
 use Rattle.restore.proofs.Exact.{untouched}
-use Rattle.restore.specs.Reading.{same_bytes, is_image, with_places, reading_of}
+use Rattle.restore.specs.Reading.{is_image, with_places, reading_of}
 
 -- a section of no entries
 abbrev none : List ℕ
@@ -157,7 +157,7 @@ pub record Reads : Type 0 where
   pub stays : (reading_of before []).service ≡ before
 
 pub no_images : NoImage
-unfolding is_image same_bytes image_bytes low below flat decoded_files decoded_used decoded_blocks decoded_embargoes number_at entries_in placed count stored
+unfolding is_image image_bytes low below flat decoded_files decoded_used decoded_blocks decoded_embargoes number_at entries_in placed count stored
 no_images =
     record {
       version0 = refl;
@@ -196,7 +196,7 @@ no_images =
     }
 
 pub images : IsImage
-unfolding is_image same_bytes image_bytes low below flat decoded_files decoded_used decoded_blocks decoded_embargoes number_at entries_in placed count stored
+unfolding is_image image_bytes low below flat decoded_files decoded_used decoded_blocks decoded_embargoes number_at entries_in placed count stored
 images =
     record {
       empty = refl;
@@ -210,7 +210,7 @@ images =
     }
 
 pub reads : Reads
-unfolding fresh step_of moved spaced any_below sum_below file_step block_step table_step first_below state_of permission_at_grant count stored is_image same_bytes image_bytes low below flat decoded_files decoded_used decoded_blocks decoded_embargoes number_at entries_in placed with_places reading_of
+unfolding fresh step_of moved spaced any_below sum_below file_step block_step table_step first_below state_of permission_at_grant count stored is_image image_bytes low below flat decoded_files decoded_used decoded_blocks decoded_embargoes number_at entries_in placed with_places reading_of
 reads =
     record {
       reply = refl;

@@ -1,5 +1,5 @@
 -- What the image of a server holds, once it is read, and that its own image is the same again. Assumes nothing.
-use Prim.Native.Nat.{ℕ, ◌+◌, ◌<◌}
+use Prim.Native.Nat.{ℕ, ◌<◌}
 use mathlib.Core.Path.{◌≡◌, sym, ap, ◌∙◌}
 use mathlib.Core.Bool.{Bool, false}
 use mathlib.Core.List.{List, [], ◌++◌, append-nil}
@@ -17,7 +17,7 @@ use Rattle.decision.proofs.Storing.{length_stored, get_d_stored}
 use Rattle.protocol.specs.declared.entry.Entry.{Entry}
 use Rattle.protocol.specs.Entry.{record_at, fresh_entry}
 use Rattle.table.specs.TableStep.{no_entry, entry_of, is_embargoed}
-use Rattle.image.specs.Bytes.{low, below, section}
+use Rattle.image.specs.Bytes.{low, section}
 use Rattle.image.specs.Image.{version_read, last_read, file_entries}
 use Rattle.image.specs.Image.{open_entries, block_entries, embargo_entries, image_bytes}
 use Rattle.image.proofs.SectionLaws.{wide_files, wide_opens, wide_blocks, wide_embargoes}

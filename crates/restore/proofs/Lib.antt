@@ -1,8 +1,9 @@
 -- The reading of an image: the loops of the code, what an image gives back, and the theorems on it.
 pub mod ReadLow
 pub mod Placing
+pub mod Pasting
+pub mod Counting
 pub mod Fields
-pub mod SameBytes
 pub mod Readings
 pub mod Parsing
 pub mod Folding

@@ -7,7 +7,7 @@ use native.Mathlib.Numerals.{add-one}
 use native.Mathlib.Omega.{arith}
 use lib.ListN.{take, drop}
 use lib.Seq.{drop-drop}
-use Rattle.restore.specs.Decoded.{number_at, entries_in, section_in, past_section, placed}
+use Rattle.restore.specs.Decoded.{number_at, entries_in, section_in, past_section, placed, opens_part, blocks_part, embargoes_part}
 use Rattle.restore.proofs.ReadLow.{number_drop}
 
 -- Of n entries of w bytes each, from offset at on in the bytes l, k are put in their places, which makes a of a₀. next
@@ -80,3 +80,16 @@ pub past_at :
 past_at w l at past is =
     ap (λ k. drop k l) (is ∙ ap (λ k. at + (2 + w * k)) (count_at l at))
     ∙ sym (drop-drop (2 + w * number_at 2 (drop at l) 0) at l)
+
+-- where the sections begin: that of files stands at 5
+module _ (l : List ℕ) (opens : ℕ) (second : opens ≡ 5 + (2 + 6 * number_at 2 l 5)) where
+  pub opens_at : drop opens l ≡ opens_part l
+  opens_at = past_at 6 l 5 opens second
+
+  module _ (blocks : ℕ) (third : blocks ≡ opens + (2 + 5 * number_at 2 l opens)) where
+    pub blocks_at : drop blocks l ≡ blocks_part l
+    blocks_at = past_at 5 l opens blocks third ∙ ap (past_section 5) opens_at
+
+    pub embargoes_at :
+        (embargoes : ℕ) → embargoes ≡ blocks + (2 + 10 * number_at 2 l blocks) → drop embargoes l ≡ embargoes_part l
+    embargoes_at embargoes fourth = past_at 10 l blocks embargoes fourth ∙ ap (past_section 10) blocks_at

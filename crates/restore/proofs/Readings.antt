@@ -9,6 +9,7 @@ use Rattle.sizes.specs.declared.sizes.Sizes.{Sizes}
 use Rattle.sizes.specs.Sizes.{max_files}
 use Rattle.protocol.specs.declared.entry.Entry.{Entry}
 use Rattle.protocol.specs.declared.reply.Granting.{Granting}
+use Rattle.protocol.specs.declared.reply.Reply.{Reply}
 use Rattle.protocol.specs.declared.reply.Reply.TheVariants.{Refused, Done}
 use Rattle.protocol.specs.declared.step.Step.TheVariants.{Crash}
 use Rattle.protocol.specs.Reply.{no_calls, no_granting}
@@ -42,11 +43,13 @@ module _
 
   pub refused :
       t ≡ false
-      → record { service = s; reply = Refused 17; calls = no_calls; grants = replicate max_files none }
+      → (reply : Reply)
+      → reply ≡ Refused 17
+      → record { service = s; reply = reply; calls = no_calls; grants = replicate max_files none }
       ≡ reading_of s bytes
   unfolding reading_of
-  refused e =
-      (λ k. record { service = s; reply = Refused 17; calls = no_calls; grants = replicate max_files (none_is k) })
+  refused e reply number =
+      (λ k. record { service = s; reply = number k; calls = no_calls; grants = replicate max_files (none_is k) })
       ∙ sym (unless _ _ (sym test_is ∙ e))
 
   pub accepted :

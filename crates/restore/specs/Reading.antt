@@ -1,7 +1,8 @@
 -- Reading an image: "It takes versions and blocks and is otherwise a crash". It "tests 17 only". It takes the embargoes
 -- too: "The image gains a last section of embargoed stations, ascending; reading takes them" (document 02, Wish 9); and
 -- which blocks are used: "The image lists used blocks in place of non-zero ones" (Wish 13).
-use Rattle.std.specs.Prelude.{ℕ, zero, suc, ◌-◌, Bool, true, false, cond, ◌&&◌, List, [], ◌∷◌, eqb, get_or}
+use Rattle.std.specs.Prelude.{ℕ, zero, suc, ◌-◌, Bool, false, cond, List, eqb, get_or}
+use Rattle.std.specs.Cmp.Lexicographic.{pointwise}
 use Rattle.sizes.specs.declared.sizes.Sizes.{Sizes}
 use Rattle.sizes.specs.Sizes.{place}
 use Rattle.decision.specs.Lists.{stored}
@@ -20,11 +21,9 @@ use Rattle.service.specs.Demand3.{after}
 use Rattle.image.specs.Image.{image_bytes}
 use Rattle.restore.specs.Decoded.{byte_at, number_at, decoded_files, decoded_used, decoded_blocks, decoded_embargoes}
 
-unfoldable pub same_bytes : List ℕ → List ℕ → Bool
-same_bytes [] [] = true
-same_bytes [] (y ∷ ys) = false
-same_bytes (x ∷ xs) [] = false
-same_bytes (x ∷ xs) (y ∷ ys) = eqb x y && same_bytes xs ys
+-- the lists are as long, and the same byte by byte
+abbrev pub same_bytes : List ℕ → List ℕ → Bool
+same_bytes bytes others = pointwise eqb bytes others
 
 -- The bytes are an image of a service of these sizes: they are the image of what they hold. So they are accepted
 -- exactly if they are "the bytes that writing gives for some service" (Exact.antt).

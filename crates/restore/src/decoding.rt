@@ -1,44 +1,59 @@
 // What bytes hold, if they are an image: entries, blocks, which of them are used, and embargoes. Numbers are wrapped
 // into the arrays, and nothing is tested.
-ghost use Rattle.std.specs.Prelude.{◌+◌, ◌*◌, ◌≤◌, ◌<◌, ◌≡◌, take, drop};
+ghost use Rattle.std.specs.Prelude.{ℕ, List, ◌+◌, ◌*◌, ◌≤◌, ◌<◌, ◌≡◌, take, drop};
 ghost use Rattle.restore.specs.Decoded.{number_at, section_in, placed, with_file, put_file, record_of};
 ghost use Rattle.restore.specs.Decoded.{with_open, put_open, put_block, put_used, put_embargo};
 ghost use Rattle.sizes.specs.Sizes.{max_places};
 ghost use Rattle.restore.specs.Decoded.{place_of, decoded_files, decoded_blocks, decoded_used, decoded_embargoes};
 
 use crate::numbers::{byte_at, eight_at, four_at, two_at};
+use image::Contents;
 use protocol::Entry;
 use records::{ClientRecord, Version};
 use sizes::{MAX_BLOCKS, MAX_CLIENTS, MAX_FILES, MAX_PLACES};
+
+// What the entries of the section that begins at the offset make of a state, one after the other: `put` puts in the one
+// that stands at an offset.
+fn fold_section<T, F: Fn(&[u8], usize, T) -> T>(
+    bytes: &[u8],
+    at: usize,
+    width: usize,
+    start: T,
+    put: F,
+) -> T
+    requires at_bound { at ≤ 2000000 }
+    requires width_bound { width ≤ 10 }
+    requires may_be_called { (part : _) (next : ℕ) (state : T) → next ≤ 9000000 → F.pre put part next state }
+    ensures { (step : List ℕ → T → T)
+        → ((part : _) (next : ℕ) (state after : T) → F.post put part next state after
+        → after ≡ step (take width (drop next part.now)) state)
+        → result ≡ placed step (section_in width (drop at bytes.now)) start }
+{
+    let count = two_at(bytes, at) as usize;
+    let mut state = start;
+    for k in 0..count {
+        state = put(bytes, at + 2 + width * k, state);
+    }
+    state
+}
 
 // The entry of a file with the version and the last writer that stand at the offset.
 fn with_file(bytes: &[u8], at: usize, mut entry: Entry) -> Entry
     requires { at ≤ 9000000 }
     ensures { result ≡ with_file (take 6 (drop at bytes.now)) entry }
 {
-    let version = Version::numbered(four_at(bytes, at + 1) as u32);
-    let last = byte_at(bytes, at + 5);
-    entry.version = version;
-    entry.last = last;
+    entry.version = Version::numbered(four_at(bytes, at + 1) as u32);
+    entry.last = byte_at(bytes, at + 5);
     entry
 }
 
-// The entries with those of the section of files that begins at the offset.
-fn take_files(bytes: &[u8], at: usize, mut files: [Entry; MAX_FILES]) -> [Entry; MAX_FILES]
-    requires { at ≤ 5 }
-    ensures { result ≡ placed put_file (section_in 6 (drop at bytes.now)) files }
+// The entries with that of the section of files that stands at the offset.
+fn put_file(bytes: &[u8], at: usize, mut files: [Entry; MAX_FILES]) -> [Entry; MAX_FILES]
+    requires { at ≤ 9000000 }
+    ensures { result ≡ put_file (take 6 (drop at bytes.now)) files }
 {
-    let count = two_at(bytes, at);
-    let mut next = at + 2;
-    let mut k: u64 = 0;
-    while k < count {
-        let file = byte_at(bytes, next) as usize % MAX_FILES;
-        let entry = files[file];
-        let after = with_file(bytes, next, entry);
-        files[file] = after;
-        next += 6;
-        k += 1;
-    }
+    let file = byte_at(bytes, at) as usize % MAX_FILES;
+    files[file] = with_file(bytes, at, files[file]);
     files
 }
 
@@ -63,27 +78,17 @@ fn with_open(bytes: &[u8], at: usize, mut entry: Entry) -> Entry
     ensures { result ≡ with_open (take 5 (drop at bytes.now)) entry }
 {
     let client = byte_at(bytes, at) as usize % MAX_CLIENTS;
-    let opens = record_at(bytes, at);
-    entry.records[client] = opens;
+    entry.records[client] = record_at(bytes, at);
     entry
 }
 
-// The entries with those of the section of opens that begins at the offset.
-fn take_opens(bytes: &[u8], at: usize, mut files: [Entry; MAX_FILES]) -> [Entry; MAX_FILES]
-    requires { at ≤ 700000 }
-    ensures { result ≡ placed put_open (section_in 5 (drop at bytes.now)) files }
+// The entries with that of the section of opens that stands at the offset.
+fn put_open(bytes: &[u8], at: usize, mut files: [Entry; MAX_FILES]) -> [Entry; MAX_FILES]
+    requires { at ≤ 9000000 }
+    ensures { result ≡ put_open (take 5 (drop at bytes.now)) files }
 {
-    let count = two_at(bytes, at);
-    let mut next = at + 2;
-    let mut k: u64 = 0;
-    while k < count {
-        let file = byte_at(bytes, next + 1) as usize % MAX_FILES;
-        let entry = files[file];
-        let after = with_open(bytes, next, entry);
-        files[file] = after;
-        next += 5;
-        k += 1;
-    }
+    let file = byte_at(bytes, at + 1) as usize % MAX_FILES;
+    files[file] = with_open(bytes, at, files[file]);
     files
 }
 
@@ -98,58 +103,33 @@ fn place_at(bytes: &[u8], at: usize) -> usize
     file * MAX_BLOCKS + block
 }
 
-// The blocks with those of the section of blocks that begins at the offset.
-fn take_blocks(bytes: &[u8], at: usize, mut blocks: [u64; MAX_PLACES]) -> [u64; MAX_PLACES]
-    requires { at ≤ 1400000 }
-    ensures { result ≡ placed put_block (section_in 10 (drop at bytes.now)) blocks }
+// The blocks with that of the section of blocks that stands at the offset.
+fn put_block(bytes: &[u8], at: usize, mut blocks: [u64; MAX_PLACES]) -> [u64; MAX_PLACES]
+    requires { at ≤ 9000000 }
+    ensures { result ≡ put_block (take 10 (drop at bytes.now)) blocks }
 {
-    let count = two_at(bytes, at);
-    let mut next = at + 2;
-    let mut k: u64 = 0;
-    while k < count {
-        let place = place_at(bytes, next);
-        blocks[place] = eight_at(bytes, next + 2);
-        next += 10;
-        k += 1;
-    }
+    let place = place_at(bytes, at);
+    blocks[place] = eight_at(bytes, at + 2);
     blocks
 }
 
-// The used blocks with those of the section of blocks that begins at the offset: each that is listed.
-fn take_used(bytes: &[u8], at: usize, mut used: [bool; MAX_PLACES]) -> [bool; MAX_PLACES]
-    requires { at ≤ 1400000 }
-    ensures { result ≡ placed put_used (section_in 10 (drop at bytes.now)) used }
+// The used blocks with that of the section of blocks that stands at the offset: each that is listed is used.
+fn put_used(bytes: &[u8], at: usize, mut used: [bool; MAX_PLACES]) -> [bool; MAX_PLACES]
+    requires { at ≤ 9000000 }
+    ensures { result ≡ put_used (take 10 (drop at bytes.now)) used }
 {
-    let count = two_at(bytes, at);
-    let mut next = at + 2;
-    let mut k: u64 = 0;
-    while k < count {
-        let place = place_at(bytes, next);
-        used[place] = true;
-        next += 10;
-        k += 1;
-    }
+    let place = place_at(bytes, at);
+    used[place] = true;
     used
 }
 
-// The embargoes with those of the section of embargoes that begins at the offset.
-fn take_embargoes(
-    bytes: &[u8],
-    at: usize,
-    mut embargoed: [bool; MAX_CLIENTS],
-) -> [bool; MAX_CLIENTS]
-    requires { at ≤ 2000000 }
-    ensures { result ≡ placed put_embargo (section_in 1 (drop at bytes.now)) embargoed }
+// The embargoes with that of the section of embargoes that stands at the offset.
+fn put_embargo(bytes: &[u8], at: usize, mut embargoed: [bool; MAX_CLIENTS]) -> [bool; MAX_CLIENTS]
+    requires { at ≤ 9000000 }
+    ensures { result ≡ put_embargo (take 1 (drop at bytes.now)) embargoed }
 {
-    let count = two_at(bytes, at);
-    let mut next = at + 2;
-    let mut k: u64 = 0;
-    while k < count {
-        let client = byte_at(bytes, next) as usize % MAX_CLIENTS;
-        embargoed[client] = true;
-        next += 1;
-        k += 1;
-    }
+    let client = byte_at(bytes, at) as usize % MAX_CLIENTS;
+    embargoed[client] = true;
     embargoed
 }
 
@@ -164,35 +144,26 @@ fn past_section(bytes: &[u8], at: usize, width: usize) -> usize
     at + (2 + width * count)
 }
 
-pub fn decode_files(bytes: &[u8]) -> [Entry; MAX_FILES]
-    ensures { result ≡ decoded_files bytes.now }
+// What the bytes hold.
+pub fn decode(bytes: &[u8]) -> Contents
+    ensures files_held { result.files ≡ decoded_files bytes.now }
+    ensures used_held { result.used ≡ decoded_used bytes.now }
+    ensures blocks_held { result.blocks ≡ decoded_blocks bytes.now }
+    ensures embargoes_held { result.embargoed ≡ decoded_embargoes bytes.now }
 {
     let fresh = Entry::fresh();
-    let files = take_files(bytes, 5, [fresh; MAX_FILES]);
-    take_opens(bytes, past_section(bytes, 5, 6), files)
-}
-
-pub fn decode_blocks(bytes: &[u8]) -> [u64; MAX_PLACES]
-    ensures { result ≡ decoded_blocks bytes.now }
-{
-    let opens = past_section(bytes, 5, 6);
-    let blocks = past_section(bytes, opens, 5);
-    take_blocks(bytes, blocks, [0; MAX_PLACES])
-}
-
-pub fn decode_used(bytes: &[u8]) -> [bool; MAX_PLACES]
-    ensures { result ≡ decoded_used bytes.now }
-{
-    let opens = past_section(bytes, 5, 6);
-    let blocks = past_section(bytes, opens, 5);
-    take_used(bytes, blocks, [false; MAX_PLACES])
-}
-
-pub fn decode_embargoes(bytes: &[u8]) -> [bool; MAX_CLIENTS]
-    ensures { result ≡ decoded_embargoes bytes.now }
-{
-    let opens = past_section(bytes, 5, 6);
-    let blocks = past_section(bytes, opens, 5);
-    let embargoes = past_section(bytes, blocks, 10);
-    take_embargoes(bytes, embargoes, [false; MAX_CLIENTS])
+    let second = past_section(bytes, 5, 6);
+    let third = past_section(bytes, second, 5);
+    let fourth = past_section(bytes, third, 10);
+    let listed = fold_section(bytes, 5, 6, [fresh; MAX_FILES], put_file);
+    let files = fold_section(bytes, second, 5, listed, put_open);
+    let used = fold_section(bytes, third, 10, [false; MAX_PLACES], put_used);
+    let blocks = fold_section(bytes, third, 10, [0; MAX_PLACES], put_block);
+    let embargoed = fold_section(bytes, fourth, 1, [false; MAX_CLIENTS], put_embargo);
+    Contents {
+        files,
+        used,
+        blocks,
+        embargoed,
+    }
 }

@@ -3,6 +3,7 @@
 
 mod decoding;
 mod numbers;
+mod places;
 mod reading;
 mod used;
 

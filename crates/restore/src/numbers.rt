@@ -5,9 +5,11 @@ ghost use Rattle.restore.specs.Decoded.{byte_at, number_at};
 pub fn byte_at(bytes: &[u8], at: usize) -> u8
     ensures { result ≡ byte_at bytes.now at }
 {
-    if at < bytes.len() { bytes[at] } else { 0 }
+    bytes.get(at).copied().unwrap_or(0)
 }
 
+// Stays: three functions, each of two halves. With the width as a const parameter the sum of the bytes fits only by a
+// bound on powers of 256, which is no plainer.
 pub fn two_at(bytes: &[u8], at: usize) -> u64
     requires { at ≤ 10000000 }
     ensures value { result ≡ number_at 2 bytes.now at }

@@ -1,7 +1,7 @@
 -- What is said of a report that clashes looks at the clients and the files in force alone; and what the lent arrays have
 -- of it. Assumes nothing.
 use Prim.Native.Nat.{ℕ, ◌+◌, ◌≤◌, ◌<◌}
-use mathlib.Core.Path.{◌≡◌, refl, sym, ap, ◌∙◌}
+use mathlib.Core.Path.{◌≡◌, refl, sym, ap, subst⁻¹, ◌∙◌}
 use mathlib.Core.Bool.{Bool, true, false, cond, ◌&&◌, ◌||◌}
 use mathlib.Core.List.{List, []}
 use native.Mathlib.Omega.{arith}
@@ -9,11 +9,14 @@ use lib.Dec.{ltb}
 use lib.ListN.{get_or}
 use lib.Seq.{get_or-take}
 use borrow.Author.Tests.{ltb-true, le-ltb, lt-ltb}
+use Rattle.std.specs.Prelude.{Option, Some, None}
+use Rattle.std.specs.Option.{is_some}
 use Rattle.sizes.specs.declared.sizes.Sizes.{Sizes}
 use Rattle.sizes.specs.Sizes.{Permitted, max_clients}
 use Rattle.sizes.proofs.Choosing.{split, when, unless}
 use Rattle.decision.proofs.Beyond.{get_d_past}
-use Rattle.decision.proofs.Finding.{first_agree, first_none, first_has}
+use Rattle.decision.specs.Lists.{found_below}
+use Rattle.decision.proofs.Finding.{first_agree, first_none, first_has, found_some}
 use Rattle.protocol.specs.declared.client.ClientFile.{ClientFile}
 use Rattle.protocol.specs.declared.entry.Entry.{Entry}
 use Rattle.protocol.specs.Clash.{clash, says_anything, accepted_of, clashes_with, clashes_on}
@@ -25,8 +28,40 @@ use Rattle.words.specs.Rows.{listed, word_at, entry_held, sides_held}
 use Rattle.words.proofs.Changing.{side_held_lem}
 use Rattle.words.proofs.Listing.{length_listed}
 use Rattle.service.specs.Lent.{reported_held}
+use Rattle.service.proofs.Tests.{conflict, and_false}
 use Rattle.phrases.specs.Clash.{untrue_text, not_both_text}
 use Rattle.sentences.specs.Explained.{clash_on_text, clash_text}
+
+-- ---- the number that was found, or none
+
+found_past : (n m : ℕ) → found_below n m ≡ None → ltb m n ≡ false
+found_past n m none = sym (found_some n m) ∙ ap is_some none
+
+found_in : (n m k : ℕ) → found_below n m ≡ Some k → ltb m n ≡ true
+found_in n m k some = sym (found_some n m) ∙ ap is_some some
+
+found_at : (n m k : ℕ) → found_below n m ≡ Some k → k ≡ m
+found_at n m k some = ap or_m (sym some) ∙ ap or_m (when (Some m) None (found_in n m k some))
+  where
+    or_m : Option ℕ → ℕ
+    or_m (Some j) = j
+    or_m None = m
+
+-- a side that clashes, and not alone, clashes with another
+module _ (n : ℕ) (p : ℕ → Bool) (e : Entry) {own own' none : ClientFile} {alone : Bool} {o : Option ℕ} (is : own' ≡ own)
+    (nothing : none ≡ no_client) (told : alone ≡ clash own' none) (not : alone ≡ false)
+    (with : o ≡ found_below n (clashes_with n p e own')) where
+  pub not_alone : clash own no_client ≡ false
+  not_alone = (λ k. clash (sym is k) (sym nothing k)) ∙ sym told ∙ not
+
+  pub other_there : clashes_on n p e own ≡ true → o ≡ None → ⊥
+  other_there clashes none =
+      let nobody : ltb (clashes_with n p e own) n ≡ false =
+      ap (λ d. ltb (clashes_with n p e d) n) (sym is) ∙ found_past n _ (sym with ∙ none) in
+      conflict clashes (rw (not_alone, nobody) (and_false (says_anything own)))
+
+  pub other_is : {j : ℕ} → o ≡ Some j → j ≡ clashes_with n p e own'
+  other_is {j = j} some = found_at n _ j (sym with ∙ some)
 
 -- ---- the clients and the files in force
 
@@ -109,15 +144,21 @@ module _ (z : Sizes) (permitted : Permitted z) (t : List ℕ) (flags : List Bool
         clash_agree z given (is_reported (reported_held flags)) (entry_held t) (entry_held t) worded sided flags-agree
         (λ f h. refl) (λ f h. sym (side_held_lem t f i client)) i
 
-    module _ {file : ℕ} (found : file ≡ clash_file z given (entry_held t) worded) where
-      pub no_file_lem : z.files ≤ file → [] ≡ held
-      no_file_lem past =
+    module _ {o : Option ℕ} (answer : o ≡ found_below z.files (clash_file z given (entry_held t) worded)) where
+      pub no_file_lem : o ≡ None → [] ≡ held
+      no_file_lem none =
           sym
           (unless (clash_on_text z.clients given (entry_held t _) (worded _) i _) []
-          (ap (λ (g : ℕ). ltb g z.files) (sym found) ∙ le-ltb file z.files past))
+          (found_past z.files _ (sym answer ∙ none)))
           ∙ held-agree
 
-      module _ (below : file < z.files) where
+      module _ {file : ℕ} (some : o ≡ Some file) where
+        found : file ≡ clash_file z given (entry_held t) worded
+        found = found_at z.files _ file (sym answer ∙ some)
+
+        below : file < z.files
+        below = subst⁻¹ (λ k. k < z.files) found (ltb-true _ z.files (found_in z.files _ file (sym answer ∙ some)))
+
         pub clashes-there : clashes_on z.clients given (entry_held t file) (sided file) ≡ true
         clashes-there =
             ap (λ (own : ClientFile). clashes_on z.clients given (entry_held t file) own) (side_held_lem t file i client)

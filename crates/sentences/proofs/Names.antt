@@ -1,9 +1,9 @@
--- What the numbers of a step name; the same sentence where it names the same; and what is said of an embargo, of a
--- report that clashes, and besides of a restart or a lift. Assumes nothing.
+-- What the numbers of a step name; the same sentence where it names the same; and what is said of an embargo and of a
+-- report that clashes. Assumes nothing.
 use Prim.Native.Nat.{ℕ}
-use mathlib.Core.Path.{◌≡◌, refl, sym, ap, ◌∙◌}
+use mathlib.Core.Path.{◌≡◌, refl, sym, ap}
 use mathlib.Core.Bool.{Bool, true, false, cond}
-use mathlib.Core.List.{List, []}
+use mathlib.Core.List.{List}
 use lib.Dec.{eqb}
 use Rattle.records.specs.declared.record.Mode.{Mode}
 use Rattle.records.specs.declared.record.Mode.TheVariants.{Read as ForRead, Write as ForWrite}
@@ -20,7 +20,7 @@ use Rattle.protocol.specs.Step.{numbers_of, client_of, file_of, block_of}
 use Rattle.ledger.specs.declared.told.Told.{Told}
 use Rattle.phrases.specs.Accepted.{read_text, grant_text, wait_text, answer_text, done_text}
 use Rattle.sentences.specs.Scene.{Whole}
-use Rattle.sentences.specs.Explained.{opened_text, forgotten_text, besides_text, embargoed_text, is_embargo, refused_text}
+use Rattle.sentences.specs.Explained.{embargoed_text, is_embargo, refused_text}
 
 -- what the numbers of a step name, the step names
 module _ (x : Step) {q : Numbers} (is : q ≡ numbers_of x) where
@@ -84,16 +84,28 @@ done_as caching x p q = λ k. done_text caching (p k) (q k) x
 pub answer_as : (n : ℕ) {i i' f f' : ℕ} → i ≡ i' → f ≡ f' → answer_text n i f ≡ answer_text n i' f'
 answer_as n p q = λ k. answer_text n (p k) (q k)
 
--- an embargo is told by the kind
-module _ (z : Sizes) (w : Whole) (x : Step) {q : Numbers} (is : q ≡ numbers_of x) where
-  same_kind : eqb q.kind 12 ≡ is_embargo x
-  same_kind = ap (λ (r : Numbers). eqb r.kind 12) is
+-- any other step is no embargo
+not_embargo : (x : Step) → ((i f : ℕ) → x ≡ Embargo i f → ⊥) → is_embargo x ≡ false
+not_embargo (Open ForRead i f) h = refl
+not_embargo (Open ForWrite i f) h = refl
+not_embargo (Close ForRead i f) h = refl
+not_embargo (Close ForWrite i f) h = refl
+not_embargo (Read i f b) h = refl
+not_embargo (Write i f b v) h = refl
+not_embargo (Flush i f b) h = refl
+not_embargo (Answer i f) h = refl
+not_embargo Crash h = refl
+not_embargo (Report i) h = refl
+not_embargo End h = refl
+not_embargo (Restart i) h = refl
+not_embargo (Embargo i f) h = absurd (h i f refl)
+not_embargo (Lift i) h = refl
 
-  pub no_embargo :
-      (other : List ℕ)
-      → eqb q.kind 12 ≡ false
-      → other ≡ cond (is_embargo x) (embargoed_text z w (client_of x)) other
-  no_embargo other e = sym (unless (embargoed_text z w (client_of x)) other (sym same_kind ∙ e))
+pub no_embargo :
+    (z : Sizes) (w : Whole) (x : Step) (other : List ℕ)
+    → ((i f : ℕ) → x ≡ Embargo i f → ⊥)
+    → other ≡ cond (is_embargo x) (embargoed_text z w (client_of x)) other
+no_embargo z w x other h = sym (unless (embargoed_text z w (client_of x)) other (not_embargo x h))
 
 -- a report that clashes is told by the number of its refusal
 module _ (k : ℕ) (clash other : List ℕ) where
@@ -102,44 +114,3 @@ module _ (k : ℕ) (clash other : List ℕ) where
 
   pub no_clash : eqb k 22 ≡ false → other ≡ cond (eqb k 22) clash other
   no_clash e = sym (unless clash other e)
-
--- what is said besides of a restart or a lift, by the kind
-module _ (z : Sizes) (w : Whole) where
-  abbrev by_numbers : Numbers → List ℕ
-  by_numbers q =
-      cond (eqb q.kind 11) (forgotten_text z w q.client) (cond (eqb q.kind 13) (opened_text z w q.client) [])
-
-  by_kind : (x : Step) → by_numbers (numbers_of x) ≡ besides_text z w x
-  by_kind (Open ForRead i f) = refl
-  by_kind (Open ForWrite i f) = refl
-  by_kind (Close ForRead i f) = refl
-  by_kind (Close ForWrite i f) = refl
-  by_kind (Read i f b) = refl
-  by_kind (Write i f b v) = refl
-  by_kind (Flush i f b) = refl
-  by_kind (Answer i f) = refl
-  by_kind Crash = refl
-  by_kind (Report i) = refl
-  by_kind End = refl
-  by_kind (Restart i) = refl
-  by_kind (Embargo i f) = refl
-  by_kind (Lift i) = refl
-
-  module _ (x : Step) {q : Numbers} (is : q ≡ numbers_of x) where
-    numbered : by_numbers q ≡ besides_text z w x
-    numbered = ap by_numbers is ∙ by_kind x
-
-    pub a-restart : eqb q.kind 11 ≡ true → forgotten_text z w q.client ≡ besides_text z w x
-    a-restart e =
-        sym (when (forgotten_text z w q.client) (cond (eqb q.kind 13) (opened_text z w q.client) []) e) ∙ numbered
-
-    no-restart :
-        eqb q.kind 11 ≡ false → cond (eqb q.kind 13) (opened_text z w q.client) [] ≡ besides_text z w x
-    no-restart e =
-        sym (unless (forgotten_text z w q.client) (cond (eqb q.kind 13) (opened_text z w q.client) []) e) ∙ numbered
-
-    pub a-lift : eqb q.kind 11 ≡ false → eqb q.kind 13 ≡ true → opened_text z w q.client ≡ besides_text z w x
-    a-lift e e' = sym (when (opened_text z w q.client) [] e') ∙ no-restart e
-
-    pub neither : eqb q.kind 11 ≡ false → eqb q.kind 13 ≡ false → [] ≡ besides_text z w x
-    neither e e' = sym (unless (opened_text z w q.client) [] e') ∙ no-restart e

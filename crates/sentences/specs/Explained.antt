@@ -1,7 +1,7 @@
 -- The line that `explain` prints: what `play` prints for it, and after four spaces what happened. The Bool `fresh` says
 -- whether the session began with the fresh service: a first line may choose its sizes then (`settable` in
 -- crates/stepfile/specs/Played.antt), and no block comes from an image.
-use Rattle.std.specs.Prelude.{ℕ, zero, suc, Bool, cond, not, ◌&&◌, List, [], ◌++◌, eqb, ltb}
+use Rattle.std.specs.Prelude.{ℕ, zero, suc, Bool, cond, not, ◌&&◌, List, [], ◌++◌, eqb, ltb, Option, Some, None, Ok, Err}
 use Rattle.records.specs.Record.{is_open}
 use Rattle.records.specs.Version.{as_read, previous_version}
 use Rattle.sizes.specs.declared.sizes.Sizes.{Sizes}
@@ -23,13 +23,10 @@ use Rattle.table.specs.Clash.{clash_file}
 use Rattle.table.specs.TableStep.{is_reported}
 use Rattle.service.specs.declared.service.Service.{Service}
 use Rattle.service.specs.Step.{step_of}
-use Rattle.stepfile.specs.declared.parsed.Parsed.{Parsed}
-use Rattle.stepfile.specs.declared.parsed.Parsed.TheVariants.{Is, NoStep}
-use Rattle.stepfile.specs.declared.setting.Setting.{Setting}
-use Rattle.stepfile.specs.declared.setting.Setting.TheVariants.{Are, OutOfRange, Missing}
+use Rattle.stepfile.specs.declared.setting.NoSizes.TheVariants.{OutOfRange, Missing}
 use Rattle.stepfile.specs.Text.{bytes, argument_text}
 use Rattle.stepfile.specs.Grammar.{parse_line}
-use Rattle.stepfile.specs.Setting.{setting_of}
+use Rattle.stepfile.specs.Setting.{setting_of, Setting}
 use Rattle.stepfile.specs.Line.{reply_text}
 use Rattle.stepfile.specs.Played.{outcome_of}
 use Rattle.ledger.specs.declared.annotated.Annotated.{Annotated}
@@ -168,30 +165,30 @@ no_step_text = bytes "this line is no step"
 
 -- "19 when a setting lies outside its range"
 abbrev pub setting_text : Setting → List ℕ
-setting_text (Are z) =
+setting_text (Ok z) =
     bytes "the service has"
     ++ (argument_text z.clients
     ++ (bytes " stations,"
     ++ (argument_text z.files
     ++ (bytes " files of"
     ++ (argument_text z.blocks ++ (bytes " blocks; places:" ++ argument_text z.store))))))
-setting_text OutOfRange =
+setting_text (Err OutOfRange) =
     bytes "a setting lies outside its range: 1 to 8 stations, 1 to 64 files, 1 to 8 blocks, 0 to 512 places"
-setting_text Missing = no_step_text
+setting_text (Err Missing) = no_step_text
 
 -- ---- a line
 
 -- what is said of line l', numbered n: its step's sentence, or of a first line that may choose the sizes what it sets
-abbrev pub said_of_line : Bool → Service → Ledger → ℕ → List ℕ → Parsed → List ℕ
-said_of_line fresh s l n l' (Is x) = sentence_of fresh s l x
-said_of_line fresh s l n l' NoStep = cond (fresh && eqb n 1) (setting_text (setting_of l')) no_step_text
+abbrev pub said_of_line : Bool → Service → Ledger → ℕ → List ℕ → Option Step → List ℕ
+said_of_line fresh s l n l' (Some x) = sentence_of fresh s l x
+said_of_line fresh s l n l' None = cond (fresh && eqb n 1) (setting_text (setting_of l')) no_step_text
 
 -- it begins as `play` prints it: `line_text` is `reply_text` and LF
 unfoldable pub explained_text : ℕ → Reply → List ℕ → List Granting → List ℕ → List ℕ
 explained_text n r kinds granted said = reply_text n r kinds granted ++ (bytes "    " ++ (said ++ bytes "\n"))
 
 -- the text of line l, numbered n, which gives p; `annotated_by` (crates/ledger/specs/Annotated.antt) is the state after it
-abbrev pub explained_by : Bool → Annotated → ℕ → List ℕ → Parsed → List ℕ
+abbrev pub explained_by : Bool → Annotated → ℕ → List ℕ → Option Step → List ℕ
 explained_by fresh t n l p =
     let o = outcome_of fresh t.service n l p in
     explained_text n o.reply o.calls o.grants (said_of_line fresh t.service t.ledger n l p)

@@ -38,10 +38,9 @@ pub fn put_clash(
     if MAX_CLIENTS <= client {
         return at;
     }
-    let file = clash_file(sizes, client, table, flags);
-    if sizes.files <= file {
+    let Some(file) = clash_file(sizes, client, table, flags) else {
         return at;
-    }
+    };
     put_clash_on(out, at, sizes.clients, client, file, table, flags)
 }
 
@@ -72,7 +71,9 @@ fn put_clash_on(
     if own.clashes(ClientFile::none()) {
         return put_untrue(out, at, file, client, own);
     }
-    let other = clashes_with(clients, own, file, table, flags);
+    let Some(other) = clashes_with(clients, own, file, table, flags) else {
+        unreachable!();
+    };
     let accepted = accepted_in(table, file, other);
     put_not_both(out, at, file, client, own, other, accepted)
 }

@@ -6,19 +6,19 @@ ghost use Rattle.protocol.specs.declared.reply.Reply.{Reply};
 ghost use Rattle.words.specs.Rows.{table_words};
 ghost use Rattle.words.specs.Said.{said_room, calls_said, Says};
 ghost use Rattle.service.specs.Lent.{lent_flags};
-ghost use Rattle.ledger.specs.Ledger.{entered, lines_at};
+ghost use Rattle.ledger.specs.Ledger.{lines_at};
 ghost use Rattle.stepfile.specs.Text.{bytes, argument_text};
 ghost use Rattle.writer.specs.Buffer.{Wrote, WroteIfRoom};
 ghost use Rattle.sentences.specs.Scene.{scene_held, whole_held};
 ghost use Rattle.sentences.specs.Explained.{said_of, setting_text, explained_text, explained_room};
 
 use crate::sentence::put_sentence;
-use ledger::{BEGINNINGS, NOTES, Told};
+use ledger::{Ledger, Told};
 use phrases::put_text;
 use protocol::Step;
-use service::FLAGS;
-use sizes::{MAX_CELLS, Sizes};
-use stepfile::Setting;
+use service::{FLAGS, HeldService};
+use sizes::Sizes;
+use stepfile::{NoSizes, Setting};
 use words::{SAID, WORDS, calls_with, reply_of};
 use writer::{put_argument, put_byte, put_said};
 
@@ -26,7 +26,7 @@ use writer::{put_argument, put_byte, put_said};
 pub const EXPLAINED_ROOM: usize = 64000;
 
 // Writes the line of a step, and answers the offset past it. The words before the step are those that keep_before has
-// kept; the table and the dirty copies are those after it, and the flags and the lines those before it. Where the buffer
+// kept; the service is that after it, and the flags and the ledger those before it. Where the buffer
 // has less than EXPLAINED_ROOM bytes from the offset on, writes nothing and answers the offset.
 pub fn explain_step(
     out: &mut [u8],
@@ -38,12 +38,9 @@ pub fn explain_step(
     said: u64,
     words: &[u64; SAID],
     before: &[u64; WORDS],
-    table: &[u64; WORDS],
-    flags: &[bool; FLAGS],
-    dirty: &[bool; MAX_CELLS],
-    written: &[u64; NOTES],
-    writers: &[u8; NOTES],
-    since: &[u64; BEGINNINGS],
+    came: &[bool; FLAGS],
+    service: &HeldService,
+    ledger: &Ledger,
     told: Told,
     caching: bool,
 ) -> usize
@@ -51,18 +48,17 @@ pub fn explain_step(
     requires said_bound { said / 256 ≤ said_room }
     requires words_len { length words.now ≡ said_room }
     requires before_len { length before.now ≡ table_words }
-    requires table_len { length table.now ≡ table_words }
-    requires flags_len { length flags.now ≡ lent_flags }
+    requires came_len { length came.now ≡ lent_flags }
     ensures wrote_if_room { (reply : Reply) (calls : List ℕ) (granted : List Granting)
         → Says said words.now reply calls granted
         → calls_said said words.now ≡ calls
         → WroteIfRoom explained_room out.old at
         (explained_text number reply calls granted
         (said_of fresh
-        (scene_held sizes step before.now table.now flags.now
-        dirty.now since.now told caching)
-        (whole_held before.now table.now
-        (lines_at (entered written.now writers.now [] [])))
+        (scene_held sizes step before.now service.now.table came.now
+        service.now.stores.dirty ledger.now.since told caching)
+        (whole_held before.now service.now.table
+        (lines_at ledger.now))
         step calls reply))
         out.new result }
     ensures upper_bound { result ≤ at + explained_room }
@@ -78,8 +74,8 @@ pub fn explain_step(
     let space = put_said(out, at, number, said, words);
     let sentence = put_text(out, space, b"    ");
     let feed = put_sentence(
-        out, sentence, fresh, sizes, step, reply, calls, before, table, flags, dirty, written,
-        writers, since, told, caching,
+        out, sentence, fresh, sizes, step, reply, calls, before, came, service, ledger, told,
+        caching,
     );
     put_byte(out, feed, b'\n')
 }
@@ -119,19 +115,19 @@ fn put_setting(out: &mut [u8], at: usize, setting: Setting) -> usize
     ensures upper_bound { result ≤ at + 134 }
 {
     match setting {
-        Setting::Are(sizes) => put_sizes(out, at, sizes),
-        Setting::OutOfRange => put_text(
+        Ok(sizes) => put_sizes(out, at, sizes),
+        Err(NoSizes::OutOfRange) => put_text(
             out,
             at,
             b"a setting lies outside its range: 1 to 8 stations, 1 to 64 files, 1 to 8 blocks, 0 to 512 places",
         ),
-        Setting::Missing => put_text(out, at, b"this line is no step"),
+        Err(NoSizes::Missing) => put_text(out, at, b"this line is no step"),
     }
 }
 
 fn put_sizes(out: &mut [u8], at: usize, sizes: Sizes) -> usize
     requires { at + 134 ≤ length out.old }
-    ensures wrote { Wrote out.old at (setting_text (Setting.Are sizes)) out.new result }
+    ensures wrote { Wrote out.old at (setting_text (Ok sizes)) out.new result }
     ensures upper_bound { result ≤ at + 134 }
 {
     let clients = put_text(out, at, b"the service has");

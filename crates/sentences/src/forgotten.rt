@@ -6,7 +6,7 @@ ghost use Rattle.protocol.specs.Client.{side_of};
 ghost use Rattle.records.specs.Record.{is_open};
 ghost use Rattle.words.specs.Rows.{table_words, sides_held};
 ghost use Rattle.ledger.specs.declared.lines.Lines.{Lines};
-ghost use Rattle.ledger.specs.Ledger.{entered, lines_at};
+ghost use Rattle.ledger.specs.Ledger.{lines_at};
 ghost use Rattle.writer.specs.Buffer.{Wrote};
 ghost use Rattle.sentences.specs.Scene.{whole_held};
 ghost use Rattle.sentences.specs.Explained.{grants, grant_in, granted_text, grants_text, opened_text};
@@ -14,7 +14,7 @@ ghost use Rattle.sentences.specs.Explained.{forgotten_text};
 
 use crate::scene::side_in;
 use decision::record_of;
-use ledger::NOTES;
+use ledger::Ledger;
 use phrases::{put_grant, put_losses, put_opened, put_text};
 use protocol::{ClientFile, Entry, Grant};
 use sizes::{MAX_FILES, Sizes};
@@ -29,8 +29,7 @@ pub fn put_forgotten(
     client: usize,
     before: &[u64; WORDS],
     table: &[u64; WORDS],
-    written: &[u64; NOTES],
-    writers: &[u8; NOTES],
+    ledger: &Ledger,
 ) -> usize
     requires permitted { Permitted sizes }
     requires at_in_bounds { at + 55266 ≤ length out.old }
@@ -39,22 +38,14 @@ pub fn put_forgotten(
     ensures wrote { Wrote out.old at
         (forgotten_text sizes
         (whole_held before.now table.now
-        (lines_at (entered written.now writers.now [] [])))
+        (lines_at ledger.now))
         client)
         out.new result }
     ensures upper_bound { result ≤ at + 55266 }
 {
     let lost = put_files_open(out, at, sizes, client, before);
     let losses = put_text(out, lost, b"; writes lost:");
-    let granted = put_losses(
-        out,
-        losses,
-        sizes.files,
-        sizes.blocks,
-        client,
-        written,
-        writers,
-    );
+    let granted = put_losses(out, losses, sizes.files, sizes.blocks, client, ledger);
     put_grants(out, granted, sizes, client, before, table)
 }
 
@@ -86,12 +77,10 @@ fn opened_by(table: &[u64; WORDS], files: usize, client: usize) -> [bool; MAX_FI
         (λ f. is_open (side_of (sides_held table.now f) client).opens) (replicate max_files false) }
 {
     let mut flags = [false; MAX_FILES];
-    let mut f: usize = 0;
-    while f < files {
+    for f in 0..files {
         let side = side_in(table, f, client);
         let opens = side.opens;
         flags[f] = opens.is_open();
-        f += 1;
     }
     flags
 }
@@ -115,13 +104,11 @@ fn put_grants(
     ensures upper_bound { result ≤ at + 11392 }
 {
     let mut next = at;
-    let mut f: usize = 0;
-    while f < sizes.files {
+    for f in 0..sizes.files {
         let entry = entry_at(before, f);
         let after = entry_at(table, f);
         let own = side_in(before, f, entry.waiter as usize);
         next = put_granted(out, next, sizes.clients, client, entry, after, own, f);
-        f += 1;
     }
     next
 }

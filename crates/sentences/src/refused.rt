@@ -6,7 +6,7 @@ ghost use Rattle.writer.specs.Buffer.{Wrote};
 ghost use Rattle.sentences.specs.Explained.{refused_text};
 
 use phrases::{put_no_place, put_refusal};
-use protocol::{Entry, NO_PLACE, Step, asked};
+use protocol::{Entry, Refusal, Step, asked};
 use service::{FLAGS, held_used};
 use sizes::{MAX_CELLS, MAX_CLIENTS, Sizes};
 
@@ -34,7 +34,7 @@ pub fn put_refused(
         out.new result }
     ensures upper_bound { result ≤ at + 354 }
 {
-    if number == NO_PLACE {
+    if number == Refusal::NoPlace.number() {
         let named = asked(step);
         let used = held_used(flags);
         return put_no_place(

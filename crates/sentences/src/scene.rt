@@ -13,12 +13,9 @@ use service::FLAGS;
 use sizes::{MAX_CLIENTS, MAX_FILES};
 use words::{ROW, WORDS, side_of};
 
-// The kinds of the steps on all files, after which no other kind comes.
-pub const RESTART: u64 = 11;
-
-pub const EMBARGO: u64 = 12;
-
-pub const LIFT: u64 = 13;
+// From the kind of a restart on, the kinds are those of the steps on all files.
+// Stays: a number, since the clause of `keep_before` says what is kept for each.
+const RESTART: u64 = 11;
 
 // Keeps what a sentence looks at of the table before a step of this kind: the row of the file, which is wrapped, and
 // before a step on all files the whole table.
@@ -41,10 +38,8 @@ fn keep_words(table: &[u64; WORDS], first: usize, count: usize, before: &mut [u6
     ensures { before.new
         ≡ stored count (λ k. first + k) (λ k. get_or table.now (first + k) 0) before.old }
 {
-    let mut k: usize = 0;
-    while k < count {
+    for k in 0..count {
         before[first + k] = table[first + k];
-        k += 1;
     }
 }
 

@@ -3,7 +3,7 @@ ghost use Rattle.std.specs.Prelude.{◌+◌, ◌≤◌, ◌≡◌, [], length};
 ghost use Rattle.sizes.specs.Sizes.{Permitted};
 ghost use Rattle.words.specs.Rows.{table_words};
 ghost use Rattle.service.specs.Lent.{lent_flags};
-ghost use Rattle.ledger.specs.Ledger.{entered, lines_at};
+ghost use Rattle.ledger.specs.Ledger.{lines_at};
 ghost use Rattle.writer.specs.Buffer.{Wrote};
 ghost use Rattle.sentences.specs.Scene.{scene_held, whole_held};
 ghost use Rattle.sentences.specs.Explained.{said_of, besides_text, embargoed_text};
@@ -11,21 +11,19 @@ ghost use Rattle.sentences.specs.Explained.{said_of, besides_text, embargoed_tex
 use crate::clash::put_clash;
 use crate::forgotten::{put_files_open, put_forgotten};
 use crate::refused::put_refused;
-use crate::scene::{
-    EMBARGO, LIFT, RESTART, embargo_since, embargoed_in, is_aside, reported_in, side_in,
-};
-use ledger::{BEGINNINGS, NOTES, Told};
+use crate::scene::{embargo_since, embargoed_in, is_aside, reported_in, side_in};
+use ledger::{Ledger, Told};
 use phrases::{
     mode_by_kind, put_answer, put_client, put_done, put_grant, put_read, put_still, put_text,
     put_wait,
 };
-use protocol::{REPORTS_CLASH, Reply, Step, asked};
-use service::FLAGS;
-use sizes::{MAX_CELLS, MAX_CLIENTS, MAX_FILES, Sizes};
+use protocol::{Refusal, Reply, Step, asked};
+use service::{FLAGS, HeldService};
+use sizes::{MAX_CLIENTS, MAX_FILES, Sizes};
 use words::{ROW, WORDS, entry_at, mode_of};
 
 // The sentence of a step that is answered so, with these callbacks. The words before the step are those that
-// keep_before has kept; the table and the dirty copies are those after it, and the flags and the lines those before it.
+// keep_before has kept; the service is that after it, and the flags and the ledger those before it.
 pub fn put_sentence(
     out: &mut [u8],
     at: usize,
@@ -35,26 +33,22 @@ pub fn put_sentence(
     reply: Reply,
     calls: [u8; MAX_CLIENTS],
     before: &[u64; WORDS],
-    table: &[u64; WORDS],
-    flags: &[bool; FLAGS],
-    dirty: &[bool; MAX_CELLS],
-    written: &[u64; NOTES],
-    writers: &[u8; NOTES],
-    since: &[u64; BEGINNINGS],
+    came: &[bool; FLAGS],
+    service: &HeldService,
+    ledger: &Ledger,
     told: Told,
     caching: bool,
 ) -> usize
     requires permitted { Permitted sizes }
     requires at_in_bounds { at + 55427 ≤ length out.old }
     requires before_len { length before.now ≡ table_words }
-    requires table_len { length table.now ≡ table_words }
-    requires flags_len { length flags.now ≡ lent_flags }
+    requires came_len { length came.now ≡ lent_flags }
     ensures wrote { Wrote out.old at
         (said_of fresh
-        (scene_held sizes step before.now table.now flags.now
-        dirty.now since.now told caching)
-        (whole_held before.now table.now
-        (lines_at (entered written.now writers.now [] [])))
+        (scene_held sizes step before.now service.now.table came.now
+        service.now.stores.dirty ledger.now.since told caching)
+        (whole_held before.now service.now.table
+        (lines_at ledger.now))
         step calls reply)
         out.new result }
     ensures upper_bound { result ≤ at + 55427 }
@@ -75,8 +69,8 @@ pub fn put_sentence(
             put_wait(out, at, sizes.clients, entry, mode, client, file, calls)
         }
         Reply::Value(_) => {
-            let aside = is_aside(flags, client);
-            let embargo = embargo_since(since, client);
+            let aside = is_aside(came, client);
+            let embargo = embargo_since(&ledger.since, client);
             put_read(
                 out,
                 at,
@@ -90,29 +84,39 @@ pub fn put_sentence(
             )
         }
         Reply::Refused(number) => {
-            if number == REPORTS_CLASH {
-                return put_clash(out, at, sizes, client, table, flags);
+            if number == Refusal::ReportsClash.number() {
+                return put_clash(out, at, sizes, client, &service.table, came);
             }
-            let reported = reported_in(flags);
-            let embargoed = embargoed_in(flags);
+            let reported = reported_in(came);
+            let embargoed = embargoed_in(came);
             let entry = entry_at(before, row);
-            let begun = embargo_since(since, client);
+            let begun = embargo_since(&ledger.since, client);
             put_refused(
-                out, at, sizes, flags, dirty, reported, embargoed, entry, since[row], begun, step,
+                out,
+                at,
+                sizes,
+                came,
+                &service.stores.dirty,
+                reported,
+                embargoed,
+                entry,
+                ledger.since[row],
+                begun,
+                step,
                 number,
             )
         }
         Reply::Answered(sent) => {
-            if named.kind == EMBARGO {
-                return put_embargoed(out, at, sizes, client, before, table, written, writers);
+            if let Step::Embargo { client, .. } = step {
+                return put_embargoed(out, at, sizes, client, before, &service.table, ledger);
             }
-            let after = entry_at(table, row);
+            let after = entry_at(&service.table, row);
             let still = put_answer(out, at, sent, client, file);
             put_still(out, still, sizes.clients, after)
         }
         Reply::AnsweredGrant(sent, opener, grant) => {
-            if named.kind == EMBARGO {
-                return put_embargoed(out, at, sizes, client, before, table, written, writers);
+            if let Step::Embargo { client, .. } = step {
+                return put_embargoed(out, at, sizes, client, before, &service.table, ledger);
             }
             let mode = mode_of(before[row * ROW + 1]);
             let own = side_in(before, row, opener as usize);
@@ -121,10 +125,10 @@ pub fn put_sentence(
             put_grant(out, granted, mode, grant, own, opener as usize, file)
         }
         Reply::Done => {
-            let aside = is_aside(flags, client);
-            let embargo = embargo_since(since, client);
+            let aside = is_aside(came, client);
+            let embargo = embargo_since(&ledger.since, client);
             let more = put_done(out, at, caching, aside, embargo, step);
-            put_besides(out, more, sizes, step, before, table, written, writers)
+            put_besides(out, more, sizes, step, before, &service.table, ledger)
         }
     }
 }
@@ -137,8 +141,7 @@ fn put_embargoed(
     client: usize,
     before: &[u64; WORDS],
     table: &[u64; WORDS],
-    written: &[u64; NOTES],
-    writers: &[u8; NOTES],
+    ledger: &Ledger,
 ) -> usize
     requires permitted { Permitted sizes }
     requires at_in_bounds { at + 55315 ≤ length out.old }
@@ -147,14 +150,14 @@ fn put_embargoed(
     ensures wrote { Wrote out.old at
         (embargoed_text sizes
         (whole_held before.now table.now
-        (lines_at (entered written.now writers.now [] [])))
+        (lines_at ledger.now))
         client)
         out.new result }
     ensures upper_bound { result ≤ at + 55315 }
 {
     let word = put_client(out, at, client);
     let tail = put_text(out, word, b" is put under embargo");
-    put_forgotten(out, tail, sizes, client, before, table, written, writers)
+    put_forgotten(out, tail, sizes, client, before, table, ledger)
 }
 
 // What is said besides of a restart and of a lift.
@@ -165,8 +168,7 @@ fn put_besides(
     step: Step,
     before: &[u64; WORDS],
     table: &[u64; WORDS],
-    written: &[u64; NOTES],
-    writers: &[u8; NOTES],
+    ledger: &Ledger,
 ) -> usize
     requires permitted { Permitted sizes }
     requires at_in_bounds { at + 55266 ≤ length out.old }
@@ -175,18 +177,14 @@ fn put_besides(
     ensures wrote { Wrote out.old at
         (besides_text sizes
         (whole_held before.now table.now
-        (lines_at (entered written.now writers.now [] [])))
+        (lines_at ledger.now))
         step)
         out.new result }
     ensures upper_bound { result ≤ at + 55266 }
 {
-    let named = asked(step);
-    let client = named.client;
-    if named.kind == RESTART {
-        return put_forgotten(out, at, sizes, client, before, table, written, writers);
+    match step {
+        Step::Restart { client } => put_forgotten(out, at, sizes, client, before, table, ledger),
+        Step::Lift { client } => put_files_open(out, at, sizes, client, before),
+        _ => at,
     }
-    if named.kind == LIFT {
-        return put_files_open(out, at, sizes, client, before);
-    }
-    at
 }

@@ -5,6 +5,7 @@ use mathlib.Core.Bool.{Bool, true, false, cond}
 use mathlib.Core.List.{List, [], ◌∷◌}
 use native.Mathlib.Omega.{arith}
 use lib.Dec.{eqb}
+use lib.Seq.{length-take-le}
 use lib.ListN.{length, get_or, set, length-set}
 use lib.Seq.{get_or-set_other}
 use borrow.Author.Tests.{eqb-true, eqb-false, ne_eqb, leb-false, not-false}
@@ -23,7 +24,7 @@ use Rattle.protocol.specs.declared.step.Step.TheVariants.{Restart, Embargo, Lift
 use Rattle.protocol.specs.Entry.{call_to, crashed_entry, reported_entry, forgotten_entry}
 use Rattle.protocol.specs.Clash.{clashes_on, Agree}
 use Rattle.protocol.proofs.View.{at}
-use Rattle.blocks.specs.Stores.{Stores}
+use Rattle.blocks.specs.declared.stores.Stores.{Stores}
 use Rattle.file.specs.FileStep.{FileAfter, after_forgetting}
 use Rattle.table.specs.TableStep.{no_entry}
 use Rattle.words.specs.Words.{record_held}
@@ -39,7 +40,6 @@ use Rattle.service.specs.Reports.{AcceptedAgree, AgreeAlong, RecoveryAgrees}
 use Rattle.service.specs.Served.{Serves}
 use Rattle.service.specs.Step.{step_of}
 use Rattle.service.proofs.Tests.{split, conflict, when}
-use Rattle.service.proofs.LentFlags.{flags_read}
 use Rattle.service.proofs.Lists.{get_d_set}
 use Rattle.service.proofs.Accepted.{Passed, tests_of, done_of, when_accepted, done_but_store, crash_accepted, refused_changes_nothing}
 use Rattle.service.proofs.Forgotten.{kept, told-silent}
@@ -357,7 +357,7 @@ held_agrees given t flags a long =
     (record {
       sizes = refl;
       entries = length_listed max_files (λ f. entry_held t f);
-      reports = ap length (sym (flags_read flags long)) ∙ length_listed max_clients (λ i. get_or flags i false);
+      reports = length-take-le max_clients flags (omega (arith, long));
       records =
           λ f hf.
           subst⁻¹ (λ (e : Entry). (in_force given).clients ≤ length e.records)
@@ -367,11 +367,11 @@ held_agrees given t flags a long =
 
 -- a crash in the arrays of a service
 pub held_crash :
-    {sizes : Sizes} {t t' : List ℕ} {flags flags' : List Bool} {a : Stores} {reply : Reply} {calls : List ℕ}
+    {sizes : Sizes} {t t' : List ℕ} {flags flags' : List Bool} {a a' : Stores} {reply : Reply} {calls : List ℕ}
     (given : Sizes) (self r : Service)
-    → Serves sizes Crash t flags a t' flags' a reply calls
+    → Serves sizes Crash t flags a t' flags' a' reply calls
     → sizes ≡ in_force given
-    → r ≡ service_held given t' flags' a
+    → r ≡ service_held given t' flags' a'
     → service_held given t flags a ≡ self
     → length flags ≡ lent_flags
     → (r ≡ (step_of self Crash).service) × RecoveryAgrees r

@@ -20,7 +20,7 @@ use Rattle.protocol.specs.declared.step.Step.{Step}
 use Rattle.protocol.specs.declared.step.Step.TheVariants.{Open, Close, Read, Write, Flush, Answer, Crash, Report, End}
 use Rattle.protocol.specs.declared.step.Step.TheVariants.{Restart, Embargo, Lift}
 use Rattle.protocol.specs.Step.{class_of, client_of}
-use Rattle.blocks.specs.Stores.{Stores}
+use Rattle.blocks.specs.declared.stores.Stores.{Stores}
 use Rattle.access.specs.BlockStep.{block_step}
 use Rattle.protocol.specs.declared.shared.SharedFile.{SharedFile}
 use Rattle.file.specs.FileStep.{leaving, file_step}

@@ -1,7 +1,7 @@
 -- Who is in and marked has a dirty block of the file, also after a client was put under embargo, after one was told, and
 -- after a restart. Assumes nothing.
 use Prim.Native.Nat.{ℕ, ◌<◌}
-use mathlib.Core.Path.{◌≡◌, refl, sym, ap, ◌∙◌, subst, subst⁻¹}
+use mathlib.Core.Path.{◌≡◌, sym, ap, ◌∙◌, subst, subst⁻¹}
 use mathlib.Core.Bool.{Bool, true, false}
 use mathlib.Core.List.{List}
 use lib.Dec.{eqb}
@@ -17,7 +17,7 @@ use Rattle.protocol.proofs.View.{View, BacksAt, Backs, restarted_view}
 use Rattle.protocol.proofs.Promises.{Promises}
 use Rattle.service.specs.declared.service.Service.{Service}
 use Rattle.service.specs.Aside.{Forgotten}
-use Rattle.service.specs.Contents.{table_in, embargoed_at, client_at}
+use Rattle.service.specs.Contents.{table_in, embargoed_at}
 use Rattle.service.specs.Demand3.{Memory, Recovery, none, since}
 use Rattle.service.specs.Embargo.{put_aside, told, restarted}
 use Rattle.service.proofs.Tests.{split, conflict}

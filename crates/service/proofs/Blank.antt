@@ -11,7 +11,7 @@ use Rattle.protocol.specs.declared.client.ClientFile.{ClientFile}
 use Rattle.protocol.specs.declared.entry.Entry.{Entry}
 use Rattle.protocol.specs.Entry.{call_to, calls_out, answered_entry, forgotten_entry}
 use Rattle.protocol.specs.Client.{no_client, answered_client}
-use Rattle.protocol.proofs.View.{View, at, with_entry, answered_view, call_answered_view, waiter_granted_view, forgotten_view}
+use Rattle.protocol.proofs.View.{View, at, with_entry, answered_view, waiter_granted_view, forgotten_view}
 use Rattle.protocol.proofs.View.{answer_view, restarted_view}
 use Rattle.service.specs.declared.service.Service.{Service}
 use Rattle.service.specs.Contents.{client_at, copy_at, held_at, dirty_at}

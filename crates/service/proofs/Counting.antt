@@ -255,18 +255,6 @@ pub summed_next :
 unfolding sum_below
 summed_next h more e = record { passed = omega arith; sums = rw add-one (ap₂ ◌+◌ h.sums e) }
 
--- the sum after a turn, where each number adds at most the blocks of a file
-pub summed_fits :
-    {n : ℕ} {g : ℕ → ℕ} {x k i : ℕ}
-    → Summed n g x i
-    → i < n
-    → k ≡ g i
-    → ((f : ℕ) → f < n → g f ≤ max_blocks)
-    → x + k ≤ n * max_blocks
-summed_fits {n} {g} {x} {k} {i} h more e below =
-    let next : Summed n g (x + k) (i + 1) = summed_next h more e in
-    omega (arith, next.sums, sum_most (i + 1) g (λ f l. below f (omega arith)))
-
 -- all are passed
 pub summed_all : {n : ℕ} {g : ℕ → ℕ} {x i : ℕ} → Summed n g x i → n ≤ i → x ≡ sum_below n g
 summed_all {g = g} h past = h.sums ∙ ap (λ (k : ℕ). sum_below k g) (omega arith)

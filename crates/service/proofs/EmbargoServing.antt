@@ -29,7 +29,7 @@ use Rattle.protocol.specs.Refusal.{restart_tests, embargo_tests, lift_tests}
 use Rattle.protocol.specs.Reply.{grant_values, is_refused, no_calls, no_grants, brought, placed}
 use Rattle.protocol.proofs.OtherKinds.{not_among}
 use Rattle.protocol.specs.contracts.reply.Reply.{the_type}
-use Rattle.blocks.specs.Stores.{Stores, lent}
+use Rattle.blocks.specs.declared.stores.Stores.{Stores}
 use Rattle.file.specs.FileStep.{FileAfter, after_forgetting, after_dropping}
 use Rattle.file.specs.Held.{Leaves}
 use Rattle.table.specs.TableStep.{no_entry}
@@ -60,15 +60,14 @@ module _
     (t t' : List ℕ)
     (a : Stores)
     (reply : Reply)
-    (b c : List ℕ)
-    (h d : List Bool)
+    (left : Stores)
     (there : k < max_files)
-    (p : Leaves (o (file_held t (k % max_files))) (k % max_files) t t' reply b c h d)
+    (p : Leaves (o (file_held t (k % max_files))) (k % max_files) t t' reply left)
     (given : Sizes)
     (flags : List Bool)
   where
-    put : Leaves (o (file_held t k)) k t t' reply b c h d
-    put = subst (λ g. Leaves (o (file_held t g)) g t t' reply b c h d) (mod-eq_of_lt there) p
+    put : Leaves (o (file_held t k)) k t t' reply left
+    put = subst (λ g. Leaves (o (file_held t g)) g t t' reply left) (mod-eq_of_lt there) p
 
     abbrev came : Service
     came = service_held given t flags a
@@ -77,7 +76,7 @@ module _
     same_left = ap o (sym (file_at_lem given flags a k t there))
 
     leaves-service :
-        service_held given t' flags (lent b c h d) ≡ with_file came k (o (file_at came k)).file (o (file_at came k)).stores
+        service_held given t' flags left ≡ with_file came k (o (file_at came k)).file (o (file_at came k)).stores
     leaves-service =
         ap (λ (a : Stores). service_held given t' flags a) put.stores_after
         ∙ puts_service given flags a (o (file_held t k)).stores k (o (file_held t k)).file t t' there put.puts
@@ -183,12 +182,12 @@ module _
     (most : Permitted sizes)
     (hk : k < sizes.files)
     (r : Forgets sizes i k t₀ a₀ words₀ pre t a words at)
-    (t' b c : List ℕ)
-    (h d : List Bool)
+    (t' : List ℕ)
+    (left : Stores)
     (reply : Reply)
     (words' : List ℕ)
     (at' : ℕ)
-    (p : Leaves (after_forgetting sizes k (file_held t (k % max_files)) a i) (k % max_files) t t' reply b c h d)
+    (p : Leaves (after_forgetting sizes k (file_held t (k % max_files)) a i) (k % max_files) t t' reply left)
     (brings : Brings reply at words at' words')
     (few : at' ≤ at + 4)
   where
@@ -200,23 +199,23 @@ module _
 
     forgets-service :
         (given : Sizes) (flags : List Bool)
-        → service_held given t' flags (lent b c h d) ≡ forgotten_on sizes i (forgotten_below sizes i k (service_held given t₀ flags a₀)) k
+        → service_held given t' flags left ≡ forgotten_on sizes i (forgotten_below sizes i k (service_held given t₀ flags a₀)) k
     forgets-service given flags =
-        leaves-service k forgets t t' a reply b c h d there p given flags
+        leaves-service k forgets t t' a reply left there p given flags
         ∙ ap (λ (s : Service). forgotten_on sizes i s k) (r.service given flags)
 
     same-reply :
         (given : Sizes) (flags : List Bool)
         → reply ≡ (forgotten_file sizes i (forgotten_below sizes i k (service_held given t₀ flags a₀)) k).reply
     same-reply given flags =
-        leaves-reply k forgets t t' a reply b c h d there p given flags
+        leaves-reply k forgets t t' a reply left there p given flags
         ∙ ap (λ (s : Service). (forgotten_file sizes i s k).reply) (r.service given flags)
 
-    pub forgets-next : Forgets sizes i (suc k) t₀ a₀ words₀ pre t' (lent b c h d) words' at'
+    pub forgets-next : Forgets sizes i (suc k) t₀ a₀ words₀ pre t' left words' at'
     unfolding forgotten_below grants_below
     forgets-next =
         record {
-          long = leaves-long k forgets t t' a reply b c h d there p sizes [] ∙ r.long;
+          long = leaves-long k forgets t t' a reply left there p sizes [] ∙ r.long;
           few = omega (arith, few, r.few);
           service = forgets-service;
           said = λ given flags.
@@ -247,17 +246,17 @@ pub drops_next :
     → Permitted sizes
     → k < sizes.files
     → Drops sizes i k t₀ a₀ t a
-    → (t' b c : List ℕ) (h d : List Bool) (reply : Reply)
-    → Leaves (after_dropping sizes k (file_held t (k % max_files)) a i) (k % max_files) t t' reply b c h d
-    → Drops sizes i (suc k) t₀ a₀ t' (lent b c h d)
+    → (t' : List ℕ) (left : Stores) (reply : Reply)
+    → Leaves (after_dropping sizes k (file_held t (k % max_files)) a i) (k % max_files) t t' reply left
+    → Drops sizes i (suc k) t₀ a₀ t' left
 unfolding dropped_below
-drops_next {sizes} {i} {k} {t₀} {a₀} {t} {a} most hk r t' b c h d reply p =
+drops_next {sizes} {i} {k} {t₀} {a₀} {t} {a} most hk r t' left reply p =
     let drops : SharedFile → FileAfter = λ x. after_dropping sizes k x a i in
     let there = file_fits most hk in
     record {
-      long = leaves-long k drops t t' a reply b c h d there p sizes [] ∙ r.long;
+      long = leaves-long k drops t t' a reply left there p sizes [] ∙ r.long;
       service = λ given flags.
-          leaves-service k drops t t' a reply b c h d there p given flags
+          leaves-service k drops t t' a reply left there p given flags
           ∙ ap (λ (s : Service). dropped_on sizes i s k) (r.service given flags);
     }
 
@@ -397,16 +396,6 @@ refused_moves sizes x k t flags a words₀ words said number some says =
         → sizes ≡ in_force given
         → moved false false (service_held given t flags a) x ≡ refused_with k (service_held given t flags a)
     is given force = rejected_in sizes (service_held given t flags a) x k force (number given) some
-
--- the same of a step said in another way
-pub moves_as :
-    {sizes : Sizes} {x y : Step} {t₀ : List ℕ} {flags₀ : List Bool} {a₀ : Stores} {words₀ t : List ℕ} {flags : List Bool}
-    {a : Stores} {words : List ℕ} {said : ℕ}
-    → y ≡ x
-    → MovesAll sizes x t₀ flags₀ a₀ words₀ t flags a words said
-    → MovesAll sizes y t₀ flags₀ a₀ words₀ t flags a words said
-moves_as {sizes} {x} {y} {t₀} {flags₀} {a₀} {words₀} {t} {flags} {a} {words} {said} is moves =
-    subst⁻¹ (λ (x : Step). MovesAll sizes x t₀ flags₀ a₀ words₀ t flags a words said) is moves
 
 -- the outcome o, where the step is done
 done_moves :

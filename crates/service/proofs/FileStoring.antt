@@ -1,55 +1,48 @@
 -- The steps on one file, with the store: what the code counts of the file is what the definition of the step counts.
 -- Assumes nothing.
-use Prim.Native.Nat.{ℕ, zero, suc, ◌+◌, ◌*◌, ◌%◌, ◌<◌, ◌≤◌}
-use mathlib.Core.Path.{◌≡◌, refl, sym, ap, ap₂, ◌∙◌, subst, subst⁻¹}
-use mathlib.Core.Bool.{Bool, true, false, cond, not, ◌&&◌, ◌||◌, or-true}
+use Prim.Native.Nat.{ℕ, zero, suc, ◌+◌, ◌%◌, ◌<◌, ◌≤◌}
+use mathlib.Core.Path.{◌≡◌, refl, sym, ap, ap₂, ◌∙◌, subst⁻¹}
+use mathlib.Core.Bool.{Bool, true, false, cond, ◌&&◌, ◌||◌, or-true}
 use mathlib.Core.List.{List}
-use native.Mathlib.Nat.{mod-eq_of_lt, mod-lt}
+use native.Mathlib.Nat.{mod-eq_of_lt}
 use native.Mathlib.Omega.{arith}
-use lib.Dec.{eqb, leb, ltb}
+use lib.Dec.{eqb, ltb}
 use lib.ListN.{length, get_or, set, take, length-set}
-use lib.Seq.{get_or-take, get_or-set_same, get_or-set_other, set-get_or}
-use borrow.Author.Tests.{eqb-true, eqb-false, eq-eqb, ne_eqb, leb-false, not-false}
+use lib.Seq.{get_or-set_same, get_or-set_other}
+use borrow.Author.Tests.{eqb-true, eqb-false, leb-false, not-false}
 use Rattle.records.specs.declared.record.Mode.{Mode}
 use Rattle.sizes.specs.declared.sizes.Sizes.{Sizes}
-use Rattle.sizes.specs.Sizes.{max_clients, max_files, max_blocks, max_places, in_force, Permitted, place, cell, first_place, first_cell, at_most}
+use Rattle.sizes.specs.Sizes.{max_clients, max_files, max_blocks, max_places, in_force, Permitted, place, cell, first_place, first_cell}
 use Rattle.sizes.proofs.Choosing.{split, conflict}
 use Rattle.decision.specs.Callback.{writes_back}
 use Rattle.decision.specs.Lists.{count, stored}
 use Rattle.decision.proofs.Storing.{stored_agree, stored_same}
-use Rattle.protocol.specs.declared.client.ClientFile.{ClientFile}
-use Rattle.protocol.specs.declared.client.Sides.{Sides}
 use Rattle.protocol.specs.declared.reply.Reply.{Reply}
 use Rattle.protocol.specs.declared.reply.Reply.TheVariants.{Granted, Waiting, Value, Refused, Answered}
 use Rattle.protocol.specs.declared.reply.Reply.TheVariants.{AnsweredGrant, Done}
 use Rattle.protocol.specs.declared.step.Step.{Step}
-use Rattle.protocol.specs.declared.step.Step.TheVariants.{Open, Close, Read, Write, Flush, Answer}
-use Rattle.protocol.specs.Client.{side_of, kept, keeps_blocks, write_needs_server}
+use Rattle.protocol.specs.declared.step.Step.TheVariants.{Open, Close, Read, Flush, Answer}
+use Rattle.protocol.specs.Client.{kept, keeps_blocks}
 use Rattle.protocol.specs.Entry.{call_to, calls_for, calls_out, grant_of}
-use Rattle.protocol.specs.Reply.{is_refused, no_calls}
-use Rattle.protocol.specs.Step.{OnFile, OnBlock, class_of}
-use Rattle.blocks.specs.Stores.{Stores, dirty_in, dirty_blocks, sent_blocks}
-use Rattle.access.specs.BlockStep.{after_write, block_step}
-use Rattle.file.specs.FileStep.{FileAfter, answered, after_open}
-use Rattle.table.specs.TableStep.{no_sides}
-use Rattle.words.specs.Rows.{listed, table_rows, table_words, word_at, sides_held}
-use Rattle.words.specs.Words.{side_held}
-use Rattle.words.proofs.Changing.{side_held_lem}
+use Rattle.protocol.specs.Reply.{is_refused}
+use Rattle.blocks.specs.declared.stores.Stores.{Stores}
+use Rattle.blocks.specs.Stores.{sent_blocks}
+use Rattle.access.specs.BlockStep.{block_step}
+use Rattle.file.specs.FileStep.{FileAfter, answered}
+use Rattle.words.specs.Rows.{listed, table_rows, table_words}
 use Rattle.words.proofs.Listing.{get_d_listed}
 use Rattle.service.specs.declared.service.Service.{Service}
-use Rattle.service.specs.declared.outcome.Outcome.{Outcome}
-use Rattle.service.specs.Contents.{sizes_of, entry_at, client_at, file_at, stores_of, embargoed_at, with_space}
-use Rattle.service.specs.Counted.{known_held, takes_held}
+use Rattle.service.specs.Contents.{sizes_of, entry_at, client_at, file_at, stores_of, with_space}
 use Rattle.service.specs.Lent.{state_flags, lent_flags, recovering_held, used_held, free_held, service_held}
 use Rattle.service.specs.Served.{sent_in, marked, Moves, Serves}
 use Rattle.service.specs.Space.{any_below, dirty_among, is_counted, counted_on, is_known, used_after, recounted, free_after}
 use Rattle.service.specs.Step.{moved}
 use Rattle.service.proofs.Tests.{either}
 use Rattle.service.proofs.Lists.{count_none}
-use Rattle.service.proofs.Accepted.{Passed, tests_in, done_of, when_moved}
-use Rattle.service.proofs.Counting.{any_cong, any_at, count_cong, count_one, recounted_near, counted_few}
+use Rattle.service.proofs.Accepted.{done_of}
+use Rattle.service.proofs.Counting.{any_cong, any_at, count_cong}
 use Rattle.service.proofs.LentFlags.{flag_embargoed, length_used, state_kept, used_set, used_marked, state_marked, length_marked}
-use Rattle.service.proofs.Storing.{forced, Keeping, all_kept, word_kept, free_set, Alike, dirty_rests, serves-refused, serves-done}
+use Rattle.service.proofs.Storing.{Keeping, all_kept, word_kept, free_set, Alike, dirty_rests, serves-refused, serves-done}
 use Rattle.service.proofs.Storing.{LeavesFree, did, free_stays}
 use Rattle.service.proofs.Storing.{knows, counted_by_lem, counted_held_lem, known_kept, recounted_same, recount_rests}
 
@@ -231,15 +224,6 @@ module _
       (put ∙ recount_rests sizes.store t c c' same)
       (serves-refused m open_alike e))
       (λ e. open_done drops c c' t' clean was is put e)
-
--- the number that is asked for is one of places
-pub few_counted :
-    (drops : Bool) (z : Sizes) (who : ℕ → Bool) (used dirty : List Bool) (f c : ℕ)
-    → Permitted z
-    → c ≡ cond drops (counted_on z who used dirty f) 0
-    → c ≤ max_places
-few_counted true z who used dirty f c p is = omega (arith, is, counted_few z who used dirty f p)
-few_counted false z who used dirty f c p is = omega (arith, is)
 
 -- ---- a close and a read
 

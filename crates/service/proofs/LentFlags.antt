@@ -5,15 +5,16 @@ use mathlib.Core.Bool.{Bool, true, false, ◌||◌}
 use mathlib.Core.List.{List, ◌++◌}
 use native.Mathlib.Omega.{arith}
 use lib.Dec.{eqb, ltb}
-use lib.ListN.{length, get_or, set, take, drop, length-set, length-drop, take-append-drop}
+use lib.ListN.{length, get_or, set, take, drop, length-set, length-append, length-drop, take-append-drop}
 use lib.Seq.{ext_get_or, get_or-take, get_or-drop, get_or-set_same, get_or-set_other, take-set-lt, take-set-le}
-use lib.Seq.{drop-set-lt, drop-set-add, take-take, length-take-le}
+use lib.Seq.{take_all, take_at, drop-set-lt, drop-set-add, take-take, length-take-le}
+use borrow.Rule.Slice.PartMut.{put_mid, same_len_mid}
+use Rattle.std.proofs.lemmas.Slice.{take-put_mid_below, drop-put_mid, between-put_mid, drop-append-drop}
 use borrow.Author.Tests.{eqb-true, eqb-false, ltb-true, ltb-false}
 use Rattle.sizes.proofs.Choosing.{split}
 use Rattle.sizes.specs.Sizes.{max_clients, max_places, place}
 use Rattle.decision.specs.Lists.{stored}
-use Rattle.decision.proofs.Storing.{length_stored, get_d_stored, get_d_stored_other, stored_agree, stored_whole}
-use Rattle.words.specs.Rows.{listed}
+use Rattle.decision.proofs.Storing.{length_stored, stored_agree}
 use Rattle.words.proofs.Listing.{get_d_listed, listed_agree}
 use Rattle.service.specs.Lent.{state_flags, lent_flags, recovering_held, reported_held, embargoed_held, used_held}
 use Rattle.service.specs.Served.{marked}
@@ -56,12 +57,16 @@ module _ {ℓ} {A : Type ℓ} where
 
 -- ---- reading them
 
-pub flags_read :
-    (l : List Bool) → length l ≡ lent_flags → listed max_clients (λ i. get_or l i false) ≡ reported_held l
-flags_read l long =
-    listed_agree max_clients (λ i. get_or l i false) (λ i. get_or (reported_held l) i false)
-    (λ i h. sym (get_or-take max_clients l i false h))
-    ∙ listed_get_d max_clients false (reported_held l) (length-take-le max_clients l (omega (arith, long)))
+pub embargoes_read :
+    (l : List Bool) → length l ≡ lent_flags → embargoed_held l ≡ take max_clients (drop (max_clients + 1) l)
+embargoes_read l long =
+    let part = take max_clients (drop (max_clients + 1) l) in
+    listed_agree max_clients (λ i. get_or l (max_clients + 1 + i) false) (λ i. get_or part i false)
+    (λ i h.
+    sym
+    (get_or-take max_clients (drop (max_clients + 1) l) i false h ∙ get_or-drop (max_clients + 1) l i false))
+    ∙ listed_get_d max_clients false part
+    (length-take-le max_clients (drop (max_clients + 1) l) (omega (arith, long, length-drop (max_clients + 1) l)))
 
 -- whether a client is under embargo, by its flag
 pub flag_embargoed :
@@ -79,77 +84,62 @@ length_used l long = length-drop state_flags l ∙ omega (arith, long)
 -- ---- storing them
 
 -- the flags l, once the reports r are stored, v after them, and the embargoes e last
-abbrev pub flags_put : List Bool → List Bool → Bool → List Bool → List Bool
-flags_put l r v e =
-    stored max_clients (λ i. max_clients + 1 + i) (λ i. get_or e i false)
-    (set (stored max_clients (λ i. i) (λ i. get_or r i false) l) max_clients v)
-
-abbrev FlagsPut : List Bool → List Bool → Bool → List Bool → Type 0
-FlagsPut l r v e =
-    (recovering_held (flags_put l r v e) ≡ v)
-    × (reported_held (flags_put l r v e) ≡ r)
-    × (embargoed_held (flags_put l r v e) ≡ e)
-    × (used_held (flags_put l r v e) ≡ used_held l)
-    × (length (flags_put l r v e) ≡ lent_flags)
-
 module _ (l r : List Bool) (v : Bool) (e : List Bool)
     (long : length l ≡ lent_flags) (size : length r ≡ max_clients) (many : length e ≡ max_clients) where
-  -- once the reports are stored, and v after them
   abbrev reports_put : List Bool
-  reports_put = stored max_clients (λ i. i) (λ i. get_or r i false) l
+  reports_put = r ++ drop max_clients l
 
   abbrev state_put : List Bool
   state_put = set reports_put max_clients v
 
-  reports_long : length reports_put ≡ lent_flags
-  reports_long = length_stored max_clients (λ i. i) (λ i. get_or r i false) l ∙ long
+  abbrev pub flags_put : List Bool
+  flags_put = put_mid (max_clients + 1) max_clients state_put e
 
   state_long : length state_put ≡ lent_flags
-  state_long = length-set reports_put max_clients v ∙ reports_long
+  state_long = length-set reports_put max_clients v ∙ length-append r (drop max_clients l) ∙ omega (arith, long, size, length-drop max_clients l)
 
-  recovering_put : recovering_held (flags_put l r v e) ≡ v
+  all_long : length flags_put ≡ lent_flags
+  all_long =
+      same_len_mid (max_clients + 1) max_clients state_put e
+      (many
+      ∙ sym (length-take-le max_clients (drop (max_clients + 1) state_put)
+      (omega (arith, state_long, length-drop (max_clients + 1) state_put))))
+      ∙ state_long
+
+  before : (n : ℕ) → n ≤ max_clients + 1 → take n flags_put ≡ take n state_put
+  before n h = take-put_mid_below (max_clients + 1) max_clients state_put e n h (omega (arith, state_long))
+
+  recovering_put : recovering_held flags_put ≡ v
   recovering_put =
-      get_d_stored_other max_clients (λ i. max_clients + 1 + i) (λ i. get_or e i false) state_put false max_clients
-      (λ k h q. omega arith)
-      ∙ get_or-set_same reports_put max_clients v false (omega (arith, reports_long))
+      sym (get_or-take (max_clients + 1) flags_put max_clients false (omega arith))
+      ∙ ap (λ (x : List Bool). get_or x max_clients false) (before (max_clients + 1) (omega arith))
+      ∙ get_or-take (max_clients + 1) state_put max_clients false (omega arith)
+      ∙ get_or-set_same reports_put max_clients v false (omega (arith, state_long, length-set reports_put max_clients v))
 
-  report_put : (i : ℕ) → i < max_clients → get_or (flags_put l r v e) i false ≡ get_or r i false
-  report_put i h =
-      get_d_stored_other max_clients (λ i. max_clients + 1 + i) (λ i. get_or e i false) state_put false i
-      (λ k m q. omega arith)
-      ∙ get_or-set_other reports_put max_clients i v false (λ q. omega arith)
-      ∙ get_d_stored max_clients (λ i. i) (λ i. get_or r i false) l false i h (omega (arith, h, long))
-      (λ k a b q. omega arith)
+  reports_are : reported_held flags_put ≡ r
+  reports_are =
+      before max_clients (omega arith)
+      ∙ take-set-le max_clients reports_put max_clients v (omega arith)
+      ∙ take_at r (drop max_clients l) max_clients size
 
-  all_long : length (flags_put l r v e) ≡ lent_flags
-  all_long = length_stored max_clients (λ i. max_clients + 1 + i) (λ i. get_or e i false) state_put ∙ state_long
+  embargoes_are : embargoed_held flags_put ≡ e
+  embargoes_are =
+      embargoes_read flags_put all_long
+      ∙ between-put_mid (max_clients + 1) max_clients state_put e state_flags (omega (arith, state_long)) many
 
-  reports_put_lem : reported_held (flags_put l r v e) ≡ r
-  reports_put_lem =
-      let few : length (reported_held (flags_put l r v e)) ≡ max_clients =
-      length-take-le max_clients (flags_put l r v e) (omega (arith, all_long)) in
-      ext_get_or false (reported_held (flags_put l r v e)) r (few ∙ sym size)
-      (λ i h.
-      let below : i < max_clients = omega (arith, h, few) in
-      get_or-take max_clients (flags_put l r v e) i false below ∙ report_put i below)
-
-  embargoes_put : embargoed_held (flags_put l r v e) ≡ e
-  embargoes_put =
-      listed_agree max_clients (λ i. get_or (flags_put l r v e) (max_clients + 1 + i) false) (λ i. get_or e i false)
-      (λ i h.
-      get_d_stored max_clients (λ i. max_clients + 1 + i) (λ i. get_or e i false) state_put false i h
-      (omega (arith, h, state_long))
-      (λ k a b q. omega arith))
-      ∙ listed_get_d max_clients false e many
-
-  used_put : used_held (flags_put l r v e) ≡ used_held l
+  used_put : used_held flags_put ≡ used_held l
   used_put =
-      drop_stored max_clients state_flags (λ i. max_clients + 1 + i) (λ i. get_or e i false) state_put (λ k h. omega arith)
+      drop-put_mid (max_clients + 1) max_clients state_put e state_flags (omega arith) (omega (arith, state_long)) many
       ∙ drop-set-lt state_flags reports_put max_clients v (omega arith)
-      ∙ drop_stored max_clients state_flags (λ i. i) (λ i. get_or r i false) l (λ k h. omega arith)
+      ∙ drop-append-drop max_clients l r state_flags (omega arith) size
 
-  pub flags_put_lem : FlagsPut l r v e
-  flags_put_lem = (recovering_put, reports_put_lem, embargoes_put, used_put, all_long)
+  pub flags_put_lem :
+      (recovering_held flags_put ≡ v)
+      × (reported_held flags_put ≡ r)
+      × (embargoed_held flags_put ≡ e)
+      × (used_held flags_put ≡ used_held l)
+      × (length flags_put ≡ lent_flags)
+  flags_put_lem = (recovering_put, reports_are, embargoes_are, used_put, all_long)
 
 -- the flags, once client i has reported
 pub flag_reported :
@@ -178,25 +168,26 @@ pub used_set : (l : List Bool) (p : ℕ) (v : Bool) → used_held (set l (state_
 used_set l p v = drop-set-add state_flags l p v
 
 -- all of them stored
-pub used_held_lem :
-    (l used : List Bool)
-    → length l ≡ lent_flags
-    → length used ≡ max_places
-    → used_held (stored max_places (λ p. state_flags + p) (λ p. get_or used p false) l) ≡ used
-used_held_lem l used long size =
-    drop_stored_past max_places state_flags (λ p. state_flags + p) (λ p. p) (λ p. get_or used p false) l (λ k h. refl)
-    ∙ stored_whole max_places false used (used_held l) size (length_used l long)
+module _ (l used : List Bool) (long : length l ≡ lent_flags) (size : length used ≡ max_places) where
+  abbrev pub blocks_put : List Bool
+  blocks_put = put_mid state_flags max_places l used
+
+  pub used_put_lem :
+      (used_held blocks_put ≡ used) × (take state_flags blocks_put ≡ take state_flags l) × (length blocks_put ≡ lent_flags)
+  used_put_lem =
+      let all : length blocks_put ≡ lent_flags =
+      same_len_mid state_flags max_places l used
+      (size ∙ sym (length-take-le max_places (drop state_flags l) (omega (arith, long, length-drop state_flags l))))
+      ∙ long in (
+        sym (take_all max_places (drop state_flags blocks_put) (omega (arith, all, length-drop state_flags blocks_put)))
+            ∙ between-put_mid state_flags max_places l used lent_flags (omega (arith, long)) size,
+        take-put_mid_below state_flags max_places l used state_flags (omega arith) (omega (arith, long)),
+        all,
+      )
 
 -- and all of them read
-pub used_listed :
-    (l used : List Bool)
-    → length l ≡ lent_flags
-    → length used ≡ max_places
-    → stored max_places (λ p. p) (λ p. get_or l (state_flags + p) false) used ≡ used_held l
-used_listed l used long size =
-    stored_agree max_places (λ p. p) (λ p. get_or l (state_flags + p) false) (λ p. get_or (used_held l) p false) used
-    (λ k h. sym (get_or-drop state_flags l k false))
-    ∙ stored_whole max_places false (used_held l) used (length_used l long) size
+pub used_read : (l : List Bool) → length l ≡ lent_flags → take max_places (drop state_flags l) ≡ used_held l
+used_read l long = take_all max_places (drop state_flags l) (omega (arith, long, length-drop state_flags l))
 
 -- the blocks of a file marked as used: the used blocks, the state, and how many flags there are
 pub used_marked :

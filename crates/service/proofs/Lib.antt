@@ -65,5 +65,4 @@ pub mod TableStoring
 pub mod Reporting
 pub mod EmbargoServing
 pub mod Recounting
-pub mod AskedKinds
 pub mod Speaking

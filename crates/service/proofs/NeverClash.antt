@@ -16,6 +16,7 @@ use Rattle.protocol.specs.declared.step.Step.{Step}
 use Rattle.protocol.specs.declared.step.Step.TheVariants.{Open, Close, Read, Write, Flush, Answer, Crash, Report, End}
 use Rattle.protocol.specs.declared.step.Step.TheVariants.{Restart, Embargo, Lift}
 use Rattle.protocol.specs.Clash.{clashes_on}
+use Rattle.protocol.specs.declared.reply.Reply.TheVariants.{Refused}
 use Rattle.protocol.specs.Reply.{is_refused}
 use Rattle.protocol.specs.Refusal.{Test}
 use Rattle.protocol.specs.Book.{History}
@@ -31,7 +32,6 @@ use Rattle.service.specs.Contents.{sizes_of, table_in, entry_at, reported_at, em
 use Rattle.service.specs.Demand3.{refused, after, Memory, blank, remembered, Recovery, none, since, recovery_after}
 use Rattle.service.specs.Fresh.{fresh}
 use Rattle.service.specs.NothingBehind.{after_steps}
-use Rattle.service.specs.Served.{number_in}
 use Rattle.service.specs.Reports.{Passes, RulesKept}
 use Rattle.service.proofs.Tests.{split, conflict}
 use Rattle.service.proofs.Views.{In, view_of, heard_of, client_is}
@@ -149,7 +149,8 @@ module _
       (sym (ap (λ (o : Outcome). is_refused o.reply) (accepted s x e)) ∙ ap is_refused is)
       (accepts (sizes_of s) s x))
       (λ e.
-      let number : refusal_of s x ≡ 22 = sym (ap (λ (o : Outcome). number_in o.reply) (rejected s x e)) ∙ ap number_in is in
+      let same : Refused (refusal_of s x) ≡ Refused 22 = sym (ap (λ (o : Outcome). o.reply) (rejected s x e)) ∙ is in
+      let number : refusal_of s x ≡ 22 = cc in
       no_22 s m r x h
       (subst (λ (z : Sizes). eqb (first_of (tests_of z s x)) 22 ≡ true) size (eq-eqb (refusal_of s x) 22 number)))
 

@@ -24,7 +24,6 @@ use Rattle.protocol.proofs.View.{View}
 use Rattle.protocol.proofs.Promises.{Promises}
 use Rattle.blocks.specs.Stores.{any_dirty}
 use Rattle.service.specs.declared.service.Service.{Service}
-use Rattle.service.specs.declared.outcome.Outcome.{Outcome}
 use Rattle.service.specs.Contents.{entry_at, embargoed_at, client_at, stores_of}
 use Rattle.service.specs.Embargo.{put_aside, grants_aside}
 use Rattle.service.specs.Fresh.{fresh}

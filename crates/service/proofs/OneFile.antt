@@ -14,7 +14,7 @@ use Rattle.protocol.specs.declared.client.ClientFile.{ClientFile}
 use Rattle.protocol.specs.declared.client.Sides.{Sides}
 use Rattle.protocol.specs.declared.entry.Entry.{Entry}
 use Rattle.protocol.specs.Client.{no_client, side_of, with_side}
-use Rattle.blocks.specs.Stores.{Stores}
+use Rattle.blocks.specs.declared.stores.Stores.{Stores}
 use Rattle.protocol.specs.declared.shared.SharedFile.{SharedFile}
 use Rattle.table.specs.TableStep.{no_entry, no_sides, sides_in}
 use Rattle.service.specs.declared.service.Service.{Service}

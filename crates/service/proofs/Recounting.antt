@@ -7,12 +7,14 @@ use lib.Dec.{eqb}
 use lib.ListN.{length, set, length-set}
 use Rattle.sizes.specs.declared.sizes.Sizes.{Sizes}
 use Rattle.sizes.specs.Sizes.{Permitted, in_force}
+use Rattle.sizes.proofs.Choosing.{conflict}
 use Rattle.decision.specs.Lists.{first_of}
 use Rattle.protocol.specs.declared.step.Step.{Step}
-use Rattle.protocol.specs.declared.step.Step.TheVariants.{Restart, Embargo, Lift}
+use Rattle.protocol.specs.declared.step.Step.TheVariants.{Open, Close, Read, Write, Flush, Answer, Crash}
+use Rattle.protocol.specs.declared.step.Step.TheVariants.{Report, End, Restart, Embargo, Lift}
 use Rattle.protocol.specs.Reply.{is_refused}
-use Rattle.protocol.specs.Step.{OnAll, class_of}
-use Rattle.blocks.specs.Stores.{Stores}
+use Rattle.protocol.specs.Step.{OnAll, is_on_all}
+use Rattle.blocks.specs.declared.stores.Stores.{Stores}
 use Rattle.words.specs.Rows.{table_rows, table_words}
 use Rattle.words.specs.Said.{SaysIn}
 use Rattle.service.specs.declared.service.Service.{Service}
@@ -59,7 +61,6 @@ moved_store x done s =
 
 -- what there is to know of a step on all files
 pub record Everywhere (x : Step) : Type 0 where
-  pub class : class_of x ≡ OnAll
   pub leaves : (s : Service) → moved (takes_place s x) (is_full s) s x ≡ moved false false s x
   pub store : (s : Service) → SameStore s (moved false false s x).service
   pub used : (s : Service) → used_after s x ≡ s.server.used
@@ -83,38 +84,49 @@ embargo_store i f s =
 lift_store : (i : ℕ) (s : Service) → SameStore s (done_of (sizes_of s) s (Lift i)).service
 lift_store i s = let z : Sizes = sizes_of s in dropped_store z i z.files s
 
-pub restart_everywhere : (i : ℕ) → Everywhere (Restart i)
+restart_everywhere : (i : ℕ) → Everywhere (Restart i)
 unfolding moved
 restart_everywhere i =
     record {
-      class = refl;
       leaves = λ s. refl;
       store = moved_store (Restart i) (restart_store i);
       used = λ s. refl;
       free = λ s s'. refl;
     }
 
-pub embargo_everywhere : (i f : ℕ) → Everywhere (Embargo i f)
+embargo_everywhere : (i f : ℕ) → Everywhere (Embargo i f)
 unfolding moved
 embargo_everywhere i f =
     record {
-      class = refl;
       leaves = λ s. refl;
       store = moved_store (Embargo i f) (embargo_store i f);
       used = λ s. refl;
       free = λ s s'. refl;
     }
 
-pub lift_everywhere : (i : ℕ) → Everywhere (Lift i)
+lift_everywhere : (i : ℕ) → Everywhere (Lift i)
 unfolding moved
 lift_everywhere i =
     record {
-      class = refl;
       leaves = λ s. refl;
       store = moved_store (Lift i) (lift_store i);
       used = λ s. refl;
       free = λ s s'. refl;
     }
+
+pub everywhere : (x : Step) → is_on_all x ≡ true → Everywhere x
+everywhere (Open m i f) on = conflict on refl
+everywhere (Close m i f) on = conflict on refl
+everywhere (Read i f b) on = conflict on refl
+everywhere (Write i f b v) on = conflict on refl
+everywhere (Flush i f b) on = conflict on refl
+everywhere (Answer i f) on = conflict on refl
+everywhere Crash on = conflict on refl
+everywhere (Report i) on = conflict on refl
+everywhere End on = conflict on refl
+everywhere (Restart i) on = restart_everywhere i
+everywhere (Embargo i f) on = embargo_everywhere i f
+everywhere (Lift i) on = lift_everywhere i
 
 -- the number of free places after it
 abbrev free_in : Service → Bool → Service → ℕ

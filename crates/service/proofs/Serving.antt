@@ -3,15 +3,15 @@
 use Prim.Native.Nat.{ℕ, ◌%◌, ◌<◌, ◌≤◌, ◌+◌}
 use mathlib.Core.Path.{◌≡◌, refl, sym, ap, ap₂, ◌∙◌, subst⁻¹}
 use mathlib.Core.Bool.{Bool, true, false, not}
-use mathlib.Core.List.{List, [], ◌∷◌}
+use mathlib.Core.List.{List}
 use native.Mathlib.Nat.{mod-lt}
 use native.Mathlib.Omega.{arith}
 use lib.Dec.{eqb, leb, ltb}
 use lib.ListN.{length, get_or, set, length-set}
-use types.Run.{OneOf}
-use denote.Enum.Declared.{tag_of}
 use lib.Seq.{get_or-take}
-use borrow.Author.Tests.{eqb-false, leb-true, ltb-true, not-false}
+use borrow.Author.Tests.{eqb-false, leb-true, ltb-true, not-false, ne_eqb}
+use Rattle.std.specs.Prelude.{⊤, Err}
+use Rattle.std.specs.declared.result.Result.{Result}
 use Rattle.sizes.specs.declared.sizes.Sizes.{Sizes}
 use Rattle.sizes.specs.Sizes.{max_clients, max_files, Permitted}
 use Rattle.sizes.proofs.Choosing.{split, conflict, and_left, and_right}
@@ -19,8 +19,8 @@ use Rattle.decision.specs.Lists.{first_of}
 use Rattle.protocol.specs.declared.client.ClientFile.{ClientFile}
 use Rattle.protocol.specs.declared.client.Sides.{Sides}
 use Rattle.protocol.specs.declared.reply.Reply.{Reply}
-use Rattle.protocol.specs.declared.reply.Reply.TheVariants.{Granted, Waiting, Value, Refused, Answered}
-use Rattle.protocol.specs.declared.reply.Reply.TheVariants.{AnsweredGrant, Done}
+use Rattle.protocol.specs.declared.reply.Reply.TheVariants.{Refused}
+use Rattle.protocol.specs.declared.reply.Reply.TheVariants.{Done}
 use Rattle.protocol.specs.declared.shared.SharedFile.{SharedFile}
 use Rattle.protocol.specs.Step.{Class}
 use Rattle.protocol.specs.Step.{OnFile, OnBlock, OnTable}
@@ -30,9 +30,10 @@ use Rattle.protocol.specs.Client.{side_of}
 use Rattle.protocol.specs.Entry.{crashed_entry, reported_entry}
 use Rattle.protocol.specs.Reply.{letter_of, is_refused, no_calls, no_grants}
 use Rattle.protocol.specs.Step.{class_of, client_of}
-use Rattle.protocol.proofs.OtherKinds.{not_among}
-use Rattle.protocol.specs.contracts.reply.Reply.{the_type}
-use Rattle.blocks.specs.Stores.{Stores, lent}
+use Rattle.protocol.specs.declared.refusal.Refusal.{Refusal}
+use Rattle.protocol.specs.Refused.{number_of, refusal_in}
+use Rattle.protocol.proofs.Refused.{numbered, refused_by}
+use Rattle.blocks.specs.declared.stores.Stores.{Stores}
 use Rattle.access.specs.BlockStep.{block_step}
 use Rattle.access.specs.BlockStep.{Leaves as LeavesBlock}
 use Rattle.file.specs.FileStep.{FileAfter, file_step}
@@ -59,7 +60,7 @@ use Rattle.service.specs.Step.{file_outcome}
 use Rattle.service.specs.Lent.{lent_flags, recovering_held, reported_held, embargoed_held, table_held, service_held, is_side, may_change}
 use Rattle.service.specs.Lent.{may_report, used_held, free_held}
 use Rattle.service.specs.Lent.{Keeps}
-use Rattle.service.specs.Served.{reply_numbered, number_in, Moves, SweptBy}
+use Rattle.service.specs.Served.{reply_numbered, Moves, SweptBy}
 use Rattle.service.proofs.Arms.Result.{file_result, block_result, table_result}
 use Rattle.service.proofs.LentFlags.{flag_embargoed, flag_reported, used_kept, same_flags}
 
@@ -119,15 +120,13 @@ module _
     (f : ℕ)
     (t₀ t : List ℕ)
     (flags : List Bool)
-    (a₀ : Stores)
-    (b c : List ℕ)
-    (h d : List Bool)
+    (a₀ left : Stores)
     (reply : Reply)
     (calls : List ℕ)
     (class : class_of x ≡ OnFile f)
     (holds :
     Holds (file_step sizes (flag_of flags (client_of x)) (recovering_held flags) (file_held t₀ (f % max_files)) a₀ x) (f % max_files) t₀ t reply
-    calls b c h d) where
+    calls left) where
   file_keeps : Keeps x reply t₀ flags t flags
   file_keeps =
       record {
@@ -140,7 +139,7 @@ module _
         reports = λ e. refl;
       }
 
-  pub file_moves : (calls? (letter_of reply) ≡ false → calls ≡ no_calls) → Moves takes full sizes x t₀ flags a₀ t flags (lent b c h d) reply calls
+  pub file_moves : (calls? (letter_of reply) ≡ false → calls ≡ no_calls) → Moves takes full sizes x t₀ flags a₀ t flags left reply calls
   file_moves quiet =
       let there : f % max_files < max_files = mod-lt f (omega arith) in
       record {
@@ -168,12 +167,12 @@ module _
 
 pub block_moves :
     (takes full : Bool) (sizes : Sizes) (x : Step) (i f : ℕ) (t : List ℕ) (flags : List Bool) (a₀ : Stores) (own : ClientFile)
-    (b c : List ℕ) (h d : List Bool) (reply : Reply)
+    (left : Stores) (reply : Reply)
     → class_of x ≡ OnBlock i f
     → own ≡ side_held (word_at t (f % max_files) (10 + i % max_clients))
-    → LeavesBlock (block_step sizes (flag_of flags i) (recovering_held flags) (get_or flags (i % max_clients) false) own takes full a₀ x) reply b c h d
-    → Moves takes full sizes x t flags a₀ t flags (lent b c h d) reply no_calls
-block_moves takes full sizes x i f t flags a₀ own b c h d reply class is l =
+    → LeavesBlock (block_step sizes (flag_of flags i) (recovering_held flags) (get_or flags (i % max_clients) false) own takes full a₀ x) reply left
+    → Moves takes full sizes x t flags a₀ t flags left reply no_calls
+block_moves takes full sizes x i f t flags a₀ own left reply class is l =
     let file : f % max_files < max_files = mod-lt f (omega arith) in
     let client : i % max_clients < max_clients = mod-lt i (omega arith) in
     record {
@@ -188,7 +187,7 @@ block_moves takes full sizes x i f t flags a₀ own b c h d reply class is l =
           ∙ sym is in
           let told : reported_at s (i % max_clients) ≡ get_or flags (i % max_clients) false =
           get_or-take max_clients flags (i % max_clients) false client in
-          block_result takes full s x sizes force i f reply b c h d class
+          block_result takes full s x sizes force i f reply left class
           (rw (side, told, embargoed_at_lem given t flags a₀ i) l);
       quiet = λ e. refl;
       keeps =
@@ -207,7 +206,7 @@ is_side_lem k e =
 abbrev pub clash_held : Sizes → List ℕ → List Bool → ℕ → Bool
 clash_held sizes t flags i = clashing sizes (table_held t flags) (listed max_files (λ f. sides_held t f)) i
 
-recovery_as :
+pub recovery_as :
     (v w : Recovery)
     → v.recovering ≡ w.recovering
     → v.reported ≡ w.reported
@@ -315,15 +314,16 @@ abbrev pub recovery_held : List Bool → Recovery
 recovery_held flags =
     record { recovering = recovering_held flags; reported = reported_held flags; embargoed = embargoed_held flags }
 
--- a report that is refused
+-- a step that is refused
 pub refused_moves :
-    (takes full : Bool) (sizes : Sizes) (i : ℕ) (t : List ℕ) (flags : List Bool) (a : Stores) (k : ℕ)
+    (takes full : Bool) (sizes : Sizes) (x : Step) (t : List ℕ) (flags : List Bool) (a : Stores) (k : ℕ)
+    → class_of x ≡ OnTable
     → Permitted sizes
     → length flags ≡ lent_flags
-    → recovery_step sizes (recovery_held flags) (clash_held sizes t flags i) (Report i) ≡ kept (recovery_held flags) (Refused k)
-    → Moves takes full sizes (Report i) t flags a t flags a (Refused k) no_calls
-refused_moves takes full sizes i t flags a k p size is =
-    table_moves takes full sizes (Report i) t t flags flags a (recovery_held flags) (kept (recovery_held flags) (Refused k)) (Refused k) refl
+    → recovery_step sizes (recovery_held flags) (clash_held sizes t flags (reporter x)) x ≡ kept (recovery_held flags) (Refused k)
+    → Moves takes full sizes x t flags a t flags a (Refused k) no_calls
+refused_moves takes full sizes x t flags a k class p size is =
+    table_moves takes full sizes x t t flags flags a (recovery_held flags) (kept (recovery_held flags) (Refused k)) (Refused k) class
     (sym is) refl refl refl size p.files
     (record {
       rows = swept_stay sizes t;
@@ -335,7 +335,11 @@ refused_moves takes full sizes i t flags a k p size is =
       same = refl;
     })
 
--- one that is taken
+-- the reply to a refusal
+pub refused_numbered : (r : Refusal) → reply_numbered (number_of r) ≡ Refused (number_of r)
+refused_numbered r = rw (ne_eqb (number_of r) 0 (numbered r))
+
+-- a report that is taken
 abbrev pub heard : ℕ → List Bool → RecoveryOutcome
 heard i flags =
     record {
@@ -372,35 +376,40 @@ module _ (takes full : Bool) (sizes : Sizes) (i : ℕ) (t₀ t : List ℕ) (flag
         same = refl;
       })
 
--- a reply that is no refusal has no number
-abbrev accepted : List ℕ
-accepted = 0 ∷ 1 ∷ 2 ∷ 4 ∷ 5 ∷ 6 ∷ []
+-- the end of a recovery, where it is refused
+pub end_refused :
+    (takes full : Bool) (sizes : Sizes) (t : List ℕ) (flags : List Bool) (v : Recovery) (a : Stores) {r : Result ⊤ Refusal} {refusal : Refusal}
+    → Permitted sizes
+    → length flags ≡ lent_flags
+    → v ≡ recovery_held flags
+    → refusal_in r ≡ first_of (end_tests sizes v.recovering v.reported v.embargoed)
+    → r ≡ Err refusal
+    → Moves takes full sizes End t flags a t flags a (reply_numbered (number_of refusal)) no_calls
+unfolding recovery_step
+end_refused takes full sizes t flags v a {r} {refusal} p size held told is =
+    subst⁻¹ (λ (y : Reply). Moves takes full sizes End t flags a t flags a y no_calls) (refused_numbered refusal)
+    (refused_moves takes full sizes End t flags a (number_of refusal) refl p size
+    (refused_by (end_tests sizes (recovering_held flags) (reported_held flags) (embargoed_held flags))
+    (λ k. kept (recovery_held flags) (Refused k)) _
+    (told ∙ ap (λ (w : Recovery). first_of (end_tests sizes w.recovering w.reported w.embargoed)) held)
+    is))
 
-pub no_number : (y : Reply) → OneOf accepted (tag_of the_type y) → 0 ≡ number_in y
-no_number (Granted g) h = refl
-no_number Waiting h = refl
-no_number (Value v) h = refl
-no_number (Refused k) h = absurd (not_among accepted 3 refl h)
-no_number (Answered n) h = refl
-no_number (AnsweredGrant n j g) h = refl
-no_number Done h = refl
-
--- the end of a recovery
+-- and where it is done
 module _ (takes full : Bool) (sizes : Sizes) (t : List ℕ) (flags₀ flags : List Bool) (v : Recovery) (o : RecoveryOutcome) where
   end_stays : (clash : Bool) → (recovery_step sizes v clash End).sweep ≡ Stay
   unfolding recovery_step
   end_stays clash =
       split (eqb (first_of (end_tests sizes v.recovering v.reported v.embargoed)) 0) (λ e. rw e) (λ e. rw e)
 
-  end_numbered :
+  end_done :
       (clash : Bool)
-      → reply_numbered (number_in (recovery_step sizes v clash End).reply) ≡ (recovery_step sizes v clash End).reply
+      → 0 ≡ first_of (end_tests sizes v.recovering v.reported v.embargoed)
+      → (recovery_step sizes v clash End).reply ≡ Done
   unfolding recovery_step
-  end_numbered clash =
-      split (eqb (first_of (end_tests sizes v.recovering v.reported v.embargoed)) 0) (λ e. rw e) (λ e. rw (e, e))
+  end_done clash told = rw (← told)
 
   pub end_moves :
-      (a : Stores) (k : ℕ)
+      (a : Stores)
       → Permitted sizes
       → ((clash : Bool) → o ≡ recovery_step sizes v clash End)
       → v.recovering ≡ recovering_held flags₀
@@ -412,12 +421,12 @@ module _ (takes full : Bool) (sizes : Sizes) (t : List ℕ) (flags₀ flags : Li
       → embargoed_held flags ≡ o.recovery.embargoed
       → used_held flags ≡ used_held flags₀
       → length flags ≡ lent_flags
-      → k ≡ number_in o.reply
-      → Moves takes full sizes End t flags₀ a t flags a (reply_numbered k) no_calls
-  end_moves a k p so recovers reports embargoes size recovers' reports' embargoes' used long number =
+      → 0 ≡ first_of (end_tests sizes v.recovering v.reported v.embargoed)
+      → Moves takes full sizes End t flags₀ a t flags a Done no_calls
+  end_moves a p so recovers reports embargoes size recovers' reports' embargoes' used long told =
       let clash = clash_held sizes t flags₀ 0 in
       let is = so clash in
-      table_moves takes full sizes End t t flags₀ flags a v o (reply_numbered k) refl is recovers reports embargoes size p.files
+      table_moves takes full sizes End t t flags₀ flags a v o Done refl is recovers reports embargoes size p.files
       (record {
         rows =
             subst⁻¹ (λ (s : Sweep). Swept sizes s t t) (ap (λ (o : RecoveryOutcome). o.sweep) is ∙ end_stays clash)
@@ -427,8 +436,5 @@ module _ (takes full : Bool) (sizes : Sizes) (t : List ℕ) (flags₀ flags : Li
         embargoes = embargoes';
         used = used;
         flags_long = long ∙ sym size;
-        same =
-            ap reply_numbered (number ∙ ap (λ (o : RecoveryOutcome). number_in o.reply) is)
-            ∙ end_numbered clash
-            ∙ sym (ap (λ (o : RecoveryOutcome). o.reply) is);
+        same = sym (ap (λ (o : RecoveryOutcome). o.reply) is ∙ end_done clash told);
       })

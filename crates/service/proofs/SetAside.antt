@@ -1,10 +1,10 @@
 -- What an embargo is worth: the server has nothing of a client under embargo, what it does changes nothing but its own
 -- copies, and once it is told it is under embargo no more. Assumes nothing.
 use Prim.Native.Nat.{ℕ, ◌<◌}
-use mathlib.Core.Path.{◌≡◌, refl, sym, ap, ◌∙◌, subst, subst⁻¹}
-use mathlib.Core.Bool.{Bool, true, false, cond, ◌&&◌, ◌||◌}
+use mathlib.Core.Path.{◌≡◌, refl, sym, ap, ◌∙◌, subst⁻¹}
+use mathlib.Core.Bool.{true, false, ◌&&◌, ◌||◌}
 use mathlib.Core.List.{List, [], ◌∷◌}
-use mathlib.Core.Logic.{◌⊎◌, inl, inr}
+use mathlib.Core.Logic.{inl, inr}
 use lib.Dec.{eqb}
 use lib.ListN.{get_or, set}
 use lib.Seq.{get_or-set_other}
@@ -18,7 +18,7 @@ use Rattle.protocol.specs.declared.step.Step.TheVariants.{Read, Write, Restart, 
 use Rattle.blocks.specs.Stores.{written_stores}
 use Rattle.service.specs.declared.service.Service.{Service}
 use Rattle.service.specs.declared.outcome.Outcome.{Outcome}
-use Rattle.service.specs.Aside.{Forgotten, Alone, Unseen, Told, SetsAside, Embargoes}
+use Rattle.service.specs.Aside.{Forgotten, Alone, Unseen, Told, Embargoes}
 use Rattle.service.specs.Contents.{sizes_of, table_in, embargoed_at, client_at, used_at, stores_of, with_stores, with_space}
 use Rattle.service.specs.Space.{counted_on, is_known, taken_in, recounted, spaced}
 use Rattle.service.specs.Demand3.{refused, after, Memory, blank, remembered, Recovery, none, recovery_after, promises_nothing}
@@ -28,7 +28,7 @@ use Rattle.service.specs.NothingBehind.{after_steps}
 use Rattle.service.proofs.Tests.{split, conflict, both, when, and_false}
 use Rattle.service.proofs.Contents.{cell_same}
 use Rattle.service.proofs.Counting.{any_cong, count_cong}
-use Rattle.service.proofs.Accepted.{Passed, tests_of, done_of, when_accepted, done_but_store}
+use Rattle.service.proofs.Accepted.{Passed, tests_of, when_accepted, done_but_store}
 use Rattle.service.proofs.Unknown.{set_or}
 use Rattle.service.proofs.WhileAside.{aside_read, aside_caches}
 use Rattle.service.proofs.Reached.{Reached, reached_fresh, reached-after}

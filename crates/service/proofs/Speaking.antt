@@ -1,12 +1,9 @@
 -- A step that is served and said is taken. Assumes nothing.
-use Prim.Native.Nat.{ℕ, ◌%◌, ◌<◌, ◌≤◌}
-use mathlib.Core.Path.{◌≡◌, refl, sym, ap, ◌∙◌, subst⁻¹}
-use mathlib.Core.Bool.{Bool, false}
+use Prim.Native.Nat.{ℕ, ◌%◌}
+use mathlib.Core.Path.{◌≡◌, refl, sym, ap, ◌∙◌, subst}
+use mathlib.Core.Bool.{Bool, true, false}
 use mathlib.Core.List.{List}
-use native.Mathlib.Omega.{arith}
-use lib.Dec.{ltb}
-use lib.ListN.{length}
-use borrow.Author.Tests.{lt-ltb, le-ltb}
+use Rattle.std.specs.Prelude.{Some, None}
 use Rattle.sizes.specs.declared.sizes.Sizes.{Sizes}
 use Rattle.sizes.specs.Sizes.{in_force}
 use Rattle.sizes.proofs.Choosing.{split, conflict, when, unless}
@@ -14,18 +11,16 @@ use Rattle.protocol.specs.declared.reply.Reply.{Reply}
 use Rattle.protocol.specs.declared.reply.Reply.TheVariants.{Refused}
 use Rattle.protocol.specs.declared.reply.Granting.{Granting}
 use Rattle.protocol.specs.Reply.{letter_of, no_calls, no_grants}
-use Rattle.protocol.specs.declared.step.Numbers.{Numbers}
 use Rattle.protocol.specs.declared.step.Step.{Step}
 use Rattle.protocol.specs.Step.{Class}
-use Rattle.protocol.specs.Step.{OnAll}
-use Rattle.protocol.specs.Step.{kinds, class_of, numbers_of, step_asked}
-use Rattle.protocol.proofs.StepNumbers.{asked_back, kind_low}
-use Rattle.blocks.specs.Stores.{Stores}
+use Rattle.protocol.specs.Step.{OnFile, OnBlock, OnTable, OnAll}
+use Rattle.protocol.specs.Step.{class_of, on_all, is_on_all}
+use Rattle.blocks.specs.declared.stores.Stores.{Stores}
 use Rattle.words.specs.Said.{calls?, reply_said, calls_said, grants_said, SaysIn}
 use Rattle.service.specs.declared.service.Service.{Service}
 use Rattle.service.specs.declared.outcome.Outcome.{Outcome}
 use Rattle.service.specs.Step.{step_of}
-use Rattle.service.specs.Lent.{service_held, outcome_asked, may_change, may_report, Keeps, Stepped}
+use Rattle.service.specs.Lent.{service_held, may_change, may_report, Keeps, Stepped}
 use Rattle.service.specs.Served.{Serves, ServesAll}
 
 -- the calls are read back: those that went out, or none
@@ -40,111 +35,88 @@ calls_back words₀ words said reply calls grants s quiet =
     (λ e. when _ _ (same ∙ e) ∙ s.says.called e)
     (λ e. unless _ _ (same ∙ e) ∙ sym (quiet e))
 
-module _ (given : Sizes) (kind i f b v : ℕ) (t₀ : List ℕ) (flags₀ : List Bool) (a₀ : Stores) (words₀ : List ℕ) where
+-- a class that is on all files
+on_all_class : (c : Class) → on_all c ≡ true → c ≡ OnAll
+on_all_class (OnFile f) on = conflict on refl
+on_all_class (OnBlock i f) on = conflict on refl
+on_all_class OnTable on = conflict on refl
+on_all_class OnAll on = refl
+
+module _ (given : Sizes) (t₀ : List ℕ) (flags₀ : List Bool) (a₀ : Stores) (words₀ : List ℕ) where
   abbrev came : Service
   came = service_held given t₀ flags₀ a₀
 
-  abbrev asked : Outcome
-  asked = outcome_asked came kind i f b v
-
-  -- what is said of an outcome that is the one asked for
-  said_of :
-      (o : Outcome) (t : List ℕ) (flags : List Bool) (a : Stores) (words : List ℕ) (said : ℕ)
-      → asked ≡ o
-      → length t ≡ length t₀
-      → length flags ≡ length flags₀
-      → service_held given t flags a ≡ o.service
-      → SaysIn words₀ said words o.reply o.calls o.grants
-      → (calls? (letter_of o.reply) ≡ false → o.calls ≡ no_calls)
-      → Keeps (step_asked kind i f b v) o.reply t₀ flags₀ t flags
-      → Stepped given kind i f b v t₀ flags₀ a₀ words₀ t flags a words said
-  said_of o t flags a words said is long flags_long service says quiet keeps =
-      record {
-        long = long;
-        flags_long = flags_long;
-        words_long = says.long;
-        short = says.short;
-        service = service ∙ sym (ap (λ (o : Outcome). o.service) is);
-        says = subst⁻¹ (λ (o : Outcome). SaysIn words₀ said words o.reply o.calls o.grants) is says;
-        calls = calls_back words₀ words said o.reply o.calls o.grants says quiet ∙ sym (ap (λ (o : Outcome). o.calls) is);
-        keeps = subst⁻¹ (λ (o : Outcome). Keeps (step_asked kind i f b v) o.reply t₀ flags₀ t flags) is keeps;
-      }
-
-  -- a kind that is none
+  -- where there is no step
   pub stepped_none :
       (words : List ℕ) (said : ℕ)
-      → 13 < kind
       → SaysIn words₀ said words (Refused 1) no_calls no_grants
-      → Stepped given kind i f b v t₀ flags₀ a₀ words₀ t₀ flags₀ a₀ words said
-  stepped_none words said past says =
-      said_of (record { service = came; reply = Refused 1; calls = no_calls; grants = no_grants }) t₀ flags₀ a₀ words said
-      (unless _ _ (le-ltb _ _ past))
-      refl refl refl says
-      (λ e. refl)
-      (record { refused = λ e. (refl, refl); words = λ g k there below stays. refl; reports = λ e. refl })
+      → Stepped given None t₀ flags₀ a₀ words₀ t₀ flags₀ a₀ words said
+  stepped_none words said says =
+      record {
+        long = refl;
+        flags_long = refl;
+        words_long = says.long;
+        short = says.short;
+        service = refl;
+        says = says;
+        calls = calls_back words₀ words said (Refused 1) no_calls no_grants says (λ e. refl);
+        keeps = (refl, refl);
+      }
 
+  -- a step on a file, on a block or on the table
   pub stepped_step :
-      (sizes : Sizes) (t : List ℕ) (flags : List Bool) (a : Stores) (words : List ℕ) (said : ℕ) (reply : Reply) (calls : List ℕ)
-      → kind ≤ 10
+      (x : Step) (sizes : Sizes) (t : List ℕ) (flags : List Bool) (a : Stores) (words : List ℕ) (said : ℕ) (reply : Reply)
+      (calls : List ℕ)
       → sizes ≡ in_force given
-      → Serves sizes (step_asked kind i f b v) t₀ flags₀ a₀ t flags a reply calls
+      → Serves sizes x t₀ flags₀ a₀ t flags a reply calls
       → SaysIn words₀ said words reply calls no_grants
-      → Stepped given kind i f b v t₀ flags₀ a₀ words₀ t flags a words said
-  stepped_step sizes t flags a words said reply calls known force serves says =
-      said_of (record { service = service_held given t flags a; reply = reply; calls = calls; grants = no_grants }) t flags a words said
-      (when _ _ (lt-ltb kind kinds (omega arith)) ∙ sym (serves.taken given force))
-      serves.long
-      serves.flags_long
-      refl
-      says
-      serves.quiet
-      serves.keeps
+      → Stepped given (Some x) t₀ flags₀ a₀ words₀ t flags a words said
+  stepped_step x sizes t flags a words said reply calls force serves says =
+      let taken = serves.taken given force in
+      record {
+        long = serves.long;
+        flags_long = serves.flags_long;
+        words_long = says.long;
+        short = says.short;
+        service = ap (λ (o : Outcome). o.service) taken;
+        says = subst (λ (o : Outcome). SaysIn words₀ said words o.reply o.calls o.grants) taken says;
+        calls =
+            calls_back words₀ words said reply calls no_grants says serves.quiet ∙ ap (λ (o : Outcome). o.calls) taken;
+        keeps = subst (λ (o : Outcome). Keeps x o.reply t₀ flags₀ t flags) taken serves.keeps;
+      }
 
--- ---- a step on all files
+  -- a step on all files
+  pub stepped_all :
+      (x : Step) (sizes : Sizes) (t : List ℕ) (flags : List Bool) (a : Stores) (words : List ℕ) (said : ℕ)
+      → is_on_all x ≡ true
+      → sizes ≡ in_force given
+      → ServesAll sizes x t₀ flags₀ a₀ words₀ t flags a words said
+      → Stepped given (Some x) t₀ flags₀ a₀ words₀ t flags a words said
+  stepped_all x sizes t flags a words said on force serves =
+      let o = step_of came x in
+      let says = serves.says given force in
+      let class = on_all_class (class_of x) on in
+      record {
+        long = serves.long;
+        flags_long = serves.flags_long;
+        words_long = says.long;
+        short = says.short;
+        service = serves.service given force;
+        says = says;
+        calls = calls_back words₀ words said o.reply o.calls o.grants says (λ e. serves.silent given force);
+        keeps =
+            record {
+              refused = serves.refused given force;
+              words = λ g k there below stays. conflict refl (ap (λ (c : Class). may_change c g k) (sym class) ∙ stays);
+              reports = λ e. conflict refl (ap may_report (sym class) ∙ e);
+            };
+      }
 
-pub stepped_all :
-    (given : Sizes) (kind i f b v : ℕ) (x : Step) (t₀ : List ℕ) (flags₀ : List Bool) (a₀ : Stores) (words₀ : List ℕ)
-    (sizes : Sizes) (t : List ℕ) (flags : List Bool) (a : Stores) (words : List ℕ) (said : ℕ)
-    → kind < kinds
-    → step_asked kind i f b v ≡ x
-    → class_of x ≡ OnAll
-    → sizes ≡ in_force given
-    → ServesAll sizes x t₀ flags₀ a₀ words₀ t flags a words said
-    → Stepped given kind i f b v t₀ flags₀ a₀ words₀ t flags a words said
-stepped_all given kind i f b v x t₀ flags₀ a₀ words₀ sizes t flags a words said known is class force serves =
-    let s = service_held given t₀ flags₀ a₀ in
-    said_of given kind i f b v t₀ flags₀ a₀ words₀ (step_of s x) t flags a words said
-    (when _ _ (lt-ltb kind kinds known) ∙ ap (step_of s) is)
-    serves.long
-    serves.flags_long
-    (serves.service given force)
-    (serves.says given force)
-    (λ e. serves.silent given force)
-    (subst⁻¹ (λ (y : Step). Keeps y (step_of s x).reply t₀ flags₀ t flags) is
-    (record {
-      refused = serves.refused given force;
-      words = λ g k there below stays. conflict refl (ap (λ (class : Class). may_change class g k) (sym class) ∙ stays);
-      reports = λ e. conflict refl (ap may_report (sym class) ∙ e);
-    }))
-
--- ---- a step that is given as a value
-
--- its numbers ask for it
-pub asked_outcome :
-    (s : Service) (x : Step) (n : Numbers)
-    → n ≡ numbers_of x
-    → outcome_asked s n.kind n.client n.file n.block n.value ≡ step_of s x
-asked_outcome s x n is =
-    ap (λ (n : Numbers). outcome_asked s n.kind n.client n.file n.block n.value) is
-    ∙ when _ _ (lt-ltb (numbers_of x).kind kinds (kind_low x))
-    ∙ ap (step_of s) (asked_back x)
-
--- what the arrays hold and what was said, read back, is its outcome
+-- what the arrays hold and what was said, read back, is the outcome of the step
 pub stepped_outcome :
-    (given : Sizes) (x : Step) (n : Numbers) (t₀ : List ℕ) (flags₀ : List Bool) (a₀ : Stores) (words₀ t : List ℕ)
+    (given : Sizes) (x : Step) (t₀ : List ℕ) (flags₀ : List Bool) (a₀ : Stores) (words₀ t : List ℕ)
     (flags : List Bool) (a : Stores) (words : List ℕ) (said : ℕ)
-    → n ≡ numbers_of x
-    → Stepped given n.kind n.client n.file n.block n.value t₀ flags₀ a₀ words₀ t flags a words said
+    → Stepped given (Some x) t₀ flags₀ a₀ words₀ t flags a words said
     → ◌≡◌ {A = Outcome}
     (record {
       service = service_held given t flags a;
@@ -153,5 +125,5 @@ pub stepped_outcome :
       grants = grants_said said words;
     })
     (step_of (service_held given t₀ flags₀ a₀) x)
-stepped_outcome given x n t₀ flags₀ a₀ words₀ t flags a words said is s =
-    rw (s.service, s.says.says.back, s.calls, s.says.says.granted) (asked_outcome (service_held given t₀ flags₀ a₀) x n is)
+stepped_outcome given x t₀ flags₀ a₀ words₀ t flags a words said s =
+    rw (s.service, s.says.says.back, s.calls, s.says.says.granted) refl

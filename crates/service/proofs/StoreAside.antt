@@ -17,7 +17,7 @@ use Rattle.protocol.specs.declared.entry.Entry.{Entry}
 use Rattle.protocol.specs.declared.shared.SharedFile.{SharedFile}
 use Rattle.protocol.specs.Client.{side_of, keeps_blocks}
 use Rattle.protocol.specs.Entry.{call_to, calls_out, answered_entry, forgotten_entry, grant_of}
-use Rattle.blocks.specs.Stores.{Stores}
+use Rattle.blocks.specs.declared.stores.Stores.{Stores}
 use Rattle.file.specs.FileStep.{FileAfter, after_forgetting, after_dropping}
 use Rattle.service.specs.declared.service.Service.{Service}
 use Rattle.service.specs.Contents.{table_in, embargoed_at, file_at, stores_of}

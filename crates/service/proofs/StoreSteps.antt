@@ -15,7 +15,8 @@ use Rattle.sizes.proofs.InForce.{client_fits, file_fits, block_fits}
 use Rattle.decision.specs.Lists.{stored}
 use Rattle.decision.proofs.Storing.{length_stored, get_d_stored_other}
 use Rattle.protocol.specs.Client.{kept, sent}
-use Rattle.blocks.specs.Stores.{Stores, dropped_unless}
+use Rattle.blocks.specs.declared.stores.Stores.{Stores}
+use Rattle.blocks.specs.Stores.{dropped_unless}
 use Rattle.service.specs.Space.{is_counted, counted_on, recounted}
 use Rattle.service.proofs.Tests.{split, conflict, both}
 use Rattle.service.proofs.Lists.{get_d_stored}

@@ -1,35 +1,33 @@
 -- From a step but for the store to the step: the word after the rows and the flags of the used blocks are put to it.
 -- Assumes nothing.
-use Prim.Native.Nat.{ℕ, ◌+◌, ◌*◌, ◌-◌, ◌<◌, ◌≤◌}
+use Prim.Native.Nat.{ℕ, ◌+◌, ◌*◌, ◌<◌}
 use mathlib.Core.Path.{◌≡◌, refl, sym, ap, ap₂, ◌∙◌}
-use mathlib.Core.Bool.{Bool, true, false, cond, not, ◌&&◌, ◌||◌}
+use mathlib.Core.Bool.{Bool, true, false, not, ◌&&◌, ◌||◌}
 use mathlib.Core.List.{List}
 use native.Mathlib.Omega.{arith}
-use lib.Dec.{eqb, leb}
 use lib.ListN.{length, get_or, set, take, length-set}
 use lib.Seq.{get_or-take, get_or-set_same, get_or-set_other, set-get_or}
 use borrow.Author.Tests.{eq-eqb, le-leb}
 use Rattle.sizes.specs.declared.sizes.Sizes.{Sizes}
 use Rattle.sizes.specs.Sizes.{max_clients, max_files, in_force, Permitted}
-use Rattle.sizes.proofs.Choosing.{split, conflict}
+use Rattle.sizes.proofs.Choosing.{conflict}
 use Rattle.protocol.specs.declared.client.Sides.{Sides}
 use Rattle.protocol.specs.declared.entry.Entry.{Entry}
 use Rattle.protocol.specs.declared.reply.Reply.{Reply}
 use Rattle.protocol.specs.declared.shared.SharedFile.{SharedFile}
 use Rattle.protocol.specs.declared.step.Step.{Step}
 use Rattle.protocol.specs.Reply.{is_refused, no_grants}
-use Rattle.protocol.specs.Step.{OnFile, OnBlock, OnTable, class_of}
-use Rattle.blocks.specs.Stores.{Stores}
+use Rattle.blocks.specs.declared.stores.Stores.{Stores}
 use Rattle.words.specs.Rows.{row_words, table_rows, table_words, word_at, entry_held, sides_held}
 use Rattle.words.proofs.Listing.{listed_agree}
 use Rattle.words.proofs.Places.{same_row}
 use Rattle.service.specs.declared.service.Service.{Service}
 use Rattle.service.specs.declared.outcome.Outcome.{Outcome}
-use Rattle.service.specs.Contents.{sizes_of, with_space}
+use Rattle.service.specs.Contents.{with_space}
 use Rattle.service.specs.Counted.{known_held}
-use Rattle.service.specs.Lent.{state_flags, recovering_held, reported_held, embargoed_held, used_held, free_held, service_held}
+use Rattle.service.specs.Lent.{state_flags, recovering_held, used_held, free_held, service_held}
 use Rattle.service.specs.Served.{Moves, Serves}
-use Rattle.service.specs.Space.{dirty_among, is_counted, counted_on, counted_in, is_known, takes_place, is_full, taken_in}
+use Rattle.service.specs.Space.{is_counted, counted_on, counted_in, is_known, takes_place, is_full}
 use Rattle.service.specs.Space.{used_after, recounted, free_after, spaced}
 use Rattle.service.specs.Step.{moved, with_store, step_of}
 use Rattle.service.proofs.Accepted.{Passed, tests_in, done_of, when_moved, moved_rests, step_stored}

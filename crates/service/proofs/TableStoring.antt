@@ -5,7 +5,7 @@ use mathlib.Core.Path.{◌≡◌, refl, sym, ap, ap₂, ◌∙◌, subst⁻¹}
 use mathlib.Core.Bool.{Bool, true, false, not, ◌&&◌, ◌||◌}
 use mathlib.Core.List.{List}
 use native.Mathlib.Omega.{arith}
-use lib.Dec.{eqb, ltb}
+use lib.Dec.{eqb}
 use lib.ListN.{length, get_or, set}
 use lib.Seq.{get_or-take, get_or-set_same, get_or-set_other}
 use borrow.Author.Tests.{eqb-true, eqb-false, not-false}
@@ -16,22 +16,22 @@ use Rattle.protocol.specs.declared.reply.Reply.{Reply}
 use Rattle.protocol.specs.declared.step.Step.{Step}
 use Rattle.protocol.specs.declared.step.Step.TheVariants.{Crash, Report, End}
 use Rattle.protocol.specs.Reply.{is_refused}
-use Rattle.blocks.specs.Stores.{Stores}
+use Rattle.blocks.specs.declared.stores.Stores.{Stores}
 use Rattle.table.specs.TableStep.{is_heard, table_step}
 use Rattle.words.specs.Rows.{table_rows, table_words}
 use Rattle.service.specs.declared.service.Service.{Service}
 use Rattle.service.specs.declared.outcome.Outcome.{Outcome}
 use Rattle.service.specs.Contents.{sizes_of, with_space}
-use Rattle.service.specs.Counted.{is_anew, anew_on, anew_in}
+use Rattle.service.specs.Counted.{anew_on, anew_in}
 use Rattle.service.specs.Lent.{lent_flags, recovering_held, reported_held, embargoed_held, used_held, free_held, service_held}
 use Rattle.service.specs.Served.{Moves, Serves}
-use Rattle.service.specs.Space.{sum_below, dirty_among, is_counted, counted_on, counted_in, used_in, is_known, used_after, recounted}
+use Rattle.service.specs.Space.{dirty_among, is_counted, counted_on, counted_in, used_in, is_known, used_after, recounted}
 use Rattle.service.specs.Space.{free_after}
 use Rattle.service.specs.Step.{moved}
 use Rattle.service.proofs.Lists.{count_none}
 use Rattle.service.proofs.Counting.{any_cong, count_cong, count_or, sum_cong, sum_add, recounted_near}
 use Rattle.service.proofs.LentFlags.{flag_embargoed, used_kept}
-use Rattle.service.proofs.Storing.{forced, Keeping, all_kept, word_kept, free_set, LeavesFree, Alike, did, free_stays}
+use Rattle.service.proofs.Storing.{forced, Keeping, all_kept, word_kept, free_set, Alike, did, free_stays}
 use Rattle.service.proofs.Storing.{serves-refused, serves-done, knows, counted_all_by, counted_all_held, recounted_same}
 use Rattle.service.proofs.FileStoring.{or_right, dirty_there}
 

@@ -8,18 +8,16 @@ use native.Mathlib.Omega.{arith}
 use lib.Dec.{eqb, ltb}
 use lib.ListN.{length, get_or, set, length-set}
 use lib.Seq.{get_or-set_same, get_or-set_other}
-use borrow.Author.Tests.{eqb-true, eqb-false, lt-ltb}
+use borrow.Author.Tests.{eqb-true, eqb-false}
 use Rattle.sizes.specs.declared.sizes.Sizes.{Sizes}
 use Rattle.sizes.specs.Sizes.{max_clients, Permitted}
 use Rattle.sizes.proofs.InForce.{client_fits, file_fits}
 use Rattle.protocol.specs.Client.{no_client}
-use Rattle.protocol.proofs.View.{at}
 use Rattle.file.specs.FileStep.{after_dropping}
-use Rattle.table.specs.declared.table.Table.{Table}
 use Rattle.service.specs.declared.service.Service.{Service}
-use Rattle.service.specs.Contents.{table_in, entry_at, embargoed_at, sides_at, client_at, copy_at, held_at, dirty_at, with_table}
-use Rattle.service.specs.Embargo.{marking, dropped_on, dropped_below, heard, told}
-use Rattle.service.proofs.Tests.{split, conflict, eqb_same, when, unless}
+use Rattle.service.specs.Contents.{table_in, embargoed_at, client_at, copy_at, held_at, dirty_at}
+use Rattle.service.specs.Embargo.{dropped_on, dropped_below, told}
+use Rattle.service.proofs.Tests.{split, eqb_same, when}
 use Rattle.service.proofs.Contents.{get_d_kept}
 use Rattle.service.proofs.Views.{Sized, is_in, within, within_none, view_of, heard_of, same_view}
 use Rattle.service.proofs.OneFile.{side_put}

@@ -8,7 +8,7 @@ use native.Mathlib.Omega.{arith}
 use lib.Dec.{eqb, ltb}
 use lib.ListN.{length, get_or, set, length-set, get_or-eq_default}
 use lib.Seq.{get_or-set_same, get_or-set_other}
-use borrow.Author.Tests.{eqb-true, eqb-false, eq-eqb, ne_eqb, le-ltb, ltb-true, ltb-false}
+use borrow.Author.Tests.{eqb-false, ne_eqb, le-ltb, ltb-true, ltb-false}
 use Rattle.records.specs.declared.record.Mode.{Mode}
 use Rattle.records.specs.declared.record.Mode.TheVariants.{Read as ForRead, Write as ForWrite}
 use Rattle.records.specs.declared.record.ClientRecord.{ClientRecord}
@@ -17,17 +17,17 @@ use Rattle.sizes.specs.Sizes.{nobody}
 use Rattle.decision.specs.declared.state.FileState.{FileState}
 use Rattle.decision.specs.declared.state.FileState.TheVariants.{Closed, ClosedDirty, OneReader, OneReaderDirty}
 use Rattle.decision.specs.declared.state.FileState.TheVariants.{MultReaders, OneWriter, WriteShared}
-use Rattle.decision.specs.Callback.{writes_back, invalidates, asks_nothing, callback_kind, callback_due}
+use Rattle.decision.specs.Callback.{writes_back, invalidates, callback_kind, callback_due}
 use Rattle.decision.specs.Lists.{stored, filled}
 use Rattle.decision.specs.State.{state_of}
 use Rattle.decision.proofs.Storing.{length_stored, get_d_stored}
 use Rattle.protocol.specs.declared.client.ClientFile.{ClientFile}
 use Rattle.protocol.specs.declared.entry.Entry.{Entry}
 use Rattle.protocol.specs.declared.reply.Grant.{Grant}
-use Rattle.protocol.specs.Entry.{record_at, waits, kind_of, call_to, calls_due, waiting_entry, granted_entry, closed_entry}
+use Rattle.protocol.specs.Entry.{record_at, waits, kind_of, call_to, waiting_entry, granted_entry, closed_entry}
 use Rattle.protocol.specs.Entry.{flushed_entry, answered_entry, forgotten_entry, crashed_entry, reported_entry}
 use Rattle.service.specs.Aside.{Unknown}
-use Rattle.service.proofs.Tests.{split, conflict, when, unless}
+use Rattle.service.proofs.Tests.{split, when, unless}
 
 -- what is stored for every one of n is what is found, or nothing if there is no room for it
 stored_or {ℓ} :

@@ -6,7 +6,6 @@ use mathlib.Core.Bool.{Bool, true, false, cond, not, ◌&&◌, ◌||◌}
 use mathlib.Core.List.{List}
 use lib.ListN.{set, length}
 use lib.Seq.{ext_get_or}
-use lib.Dec.{ltb}
 use borrow.Author.Tests.{leb-false, lt-ltb, not-false}
 use Rattle.records.specs.Record.{is_open}
 use Rattle.sizes.specs.declared.sizes.Sizes.{Sizes}

@@ -1,46 +1,42 @@
 -- A write, with the store: one that takes a place is found by the flags, at wrapped numbers. Assumes nothing.
-use Prim.Native.Nat.{ℕ, ◌+◌, ◌*◌, ◌%◌, ◌<◌, ◌≤◌}
+use Prim.Native.Nat.{ℕ, ◌+◌, ◌%◌, ◌<◌, ◌≤◌}
 use mathlib.Core.Path.{◌≡◌, refl, sym, ap, ap₂, ◌∙◌, subst, subst⁻¹}
-use mathlib.Core.Bool.{Bool, true, false, cond, not, ◌&&◌, ◌||◌, or-true}
+use mathlib.Core.Bool.{Bool, true, false, cond, not, ◌&&◌, ◌||◌}
 use mathlib.Core.List.{List}
-use native.Mathlib.Nat.{add-zero, mod-eq_of_lt, mod-lt}
+use native.Mathlib.Nat.{add-zero, mod-eq_of_lt}
 use native.Mathlib.Omega.{arith}
 use lib.Dec.{eqb, leb, ltb}
-use lib.ListN.{length, get_or, set, take, length-set}
-use lib.Seq.{get_or-take, get_or-drop, get_or-set_same, get_or-set_other, set-get_or, set_out}
-use borrow.Author.Tests.{eqb-true, eqb-false, eq-eqb, ne_eqb, leb-true, leb-false, ltb-true, ltb-false}
+use lib.ListN.{length, get_or, set, length-set}
+use lib.Seq.{get_or-take, get_or-drop, get_or-set_same, set-get_or, set_out}
+use borrow.Author.Tests.{eqb-true, eqb-false, ne_eqb, leb-true, leb-false, ltb-true, ltb-false}
 use Rattle.sizes.specs.declared.sizes.Sizes.{Sizes}
-use Rattle.sizes.specs.Sizes.{max_clients, max_files, max_blocks, max_cells, in_force, Permitted, place, cell, at_most}
+use Rattle.sizes.specs.Sizes.{max_clients, max_files, max_blocks, in_force, Permitted, place, cell, at_most}
 use Rattle.sizes.proofs.Choosing.{split, conflict, when, unless}
-use Rattle.decision.specs.Lists.{first_of}
 use Rattle.protocol.specs.declared.client.ClientFile.{ClientFile}
 use Rattle.protocol.specs.declared.client.Sides.{Sides}
 use Rattle.protocol.specs.declared.reply.Reply.{Reply}
 use Rattle.protocol.specs.declared.reply.Reply.TheVariants.{Refused}
-use Rattle.protocol.specs.declared.step.Step.{Step}
 use Rattle.protocol.specs.declared.step.Step.TheVariants.{Write}
 use Rattle.protocol.specs.Client.{side_of, write_needs_server}
 use Rattle.protocol.specs.Reply.{is_refused}
-use Rattle.blocks.specs.Stores.{Stores}
-use Rattle.access.specs.BlockStep.{BlockAfter, after_write, block_step}
+use Rattle.blocks.specs.declared.stores.Stores.{Stores}
+use Rattle.access.specs.BlockStep.{after_write, block_step}
 use Rattle.table.specs.TableStep.{no_sides}
 use Rattle.words.specs.Rows.{table_rows, table_words, word_at, sides_held}
 use Rattle.words.specs.Words.{side_held}
 use Rattle.words.proofs.Changing.{side_held_lem}
 use Rattle.words.proofs.Listing.{get_d_listed}
 use Rattle.service.specs.declared.service.Service.{Service}
-use Rattle.service.specs.declared.outcome.Outcome.{Outcome}
-use Rattle.service.specs.Contents.{sizes_of, client_at, stores_of, embargoed_at}
+use Rattle.service.specs.Contents.{sizes_of, client_at, stores_of}
 use Rattle.service.specs.Counted.{known_held, takes_held}
 use Rattle.service.specs.Lent.{state_flags, lent_flags, recovering_held, used_held, free_held, service_held}
 use Rattle.service.specs.Served.{Moves, Serves}
-use Rattle.service.specs.Space.{dirty_among, is_counted, counted_on, is_within, takes_place, is_full, used_after, recounted}
+use Rattle.service.specs.Space.{dirty_among, is_counted, counted_on, is_within, takes_place, is_full, recounted}
 use Rattle.service.specs.Step.{block_outcome, moved}
-use Rattle.service.proofs.Accepted.{tests_in}
 use Rattle.service.proofs.Counting.{any_cong, count_cong, count_one, recounted_near}
 use Rattle.service.proofs.LentFlags.{flag_embargoed, length_used, state_kept, used_set}
 use Rattle.service.proofs.Storing.{Keeping, all_kept, word_kept, free_set, Alike, serves-refused, knows, recounted_same}
-use Rattle.service.proofs.Storing.{LeavesFree, did, free_stays}
+use Rattle.service.proofs.Storing.{LeavesFree, did}
 use Rattle.service.proofs.FileStoring.{spends, or_left, or_right, dirty_beside, dirty_unknown}
 use Rattle.service.proofs.FileStoring.{dirty_more, dirty_there, used_beside, used_there, known_running}
 

@@ -6,7 +6,8 @@ use Rattle.protocol.specs.declared.client.ClientFile.{ClientFile}
 use Rattle.protocol.specs.declared.client.Sides.{Sides}
 use Rattle.protocol.specs.declared.entry.Entry.{Entry}
 use Rattle.protocol.specs.Client.{side_of}
-use Rattle.blocks.specs.Stores.{Stores, block_in, copy_in, held_in, dirty_in}
+use Rattle.blocks.specs.declared.stores.Stores.{Stores}
+use Rattle.blocks.specs.Stores.{block_in, copy_in, held_in, dirty_in}
 use Rattle.protocol.specs.declared.shared.SharedFile.{SharedFile}
 use Rattle.table.specs.declared.table.Table.{Table}
 use Rattle.table.specs.TableStep.{entry_in, sides_in, is_reported, is_embargoed}

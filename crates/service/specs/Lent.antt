@@ -1,5 +1,5 @@
 -- The service that lent arrays hold, and what a step leaves in them. Any words and flags hold some service.
-use Rattle.std.specs.Prelude.{ℕ, ◌+◌, ◌*◌, ◌%◌, ◌/◌, ◌<◌, ◌≤◌, ◌≡◌, Bool, true, false, cond, not, ◌&&◌, List, eqb, leb, ltb, length, get_or, take, drop}
+use Rattle.std.specs.Prelude.{ℕ, ◌+◌, ◌*◌, ◌%◌, ◌/◌, ◌<◌, ◌≤◌, ◌≡◌, Bool, true, false, not, ◌&&◌, List, Option, Some, None, eqb, leb, ltb, length, get_or, take, drop}
 use Rattle.sizes.specs.declared.sizes.Sizes.{Sizes}
 use Rattle.sizes.specs.Sizes.{max_clients, max_files, max_places}
 use Rattle.protocol.specs.declared.reply.Reply.{Reply}
@@ -8,8 +8,8 @@ use Rattle.protocol.specs.Step.{Class}
 use Rattle.protocol.specs.Step.{OnFile, OnBlock, OnTable, OnAll}
 use Rattle.protocol.specs.declared.step.Step.{Step}
 use Rattle.protocol.specs.Reply.{is_refused, no_calls, no_grants}
-use Rattle.protocol.specs.Step.{class_of, kinds, step_asked}
-use Rattle.blocks.specs.Stores.{Stores}
+use Rattle.protocol.specs.Step.{class_of}
+use Rattle.blocks.specs.declared.stores.Stores.{Stores}
 use Rattle.table.specs.declared.table.Table.{Table}
 use Rattle.words.specs.Rows.{listed, row_words, word_at, entry_held, sides_held}
 use Rattle.words.specs.Said.{said_room, calls_said, SaysIn}
@@ -61,11 +61,10 @@ service_held z t flags a =
       dirty = a.dirty;
     }
 
--- "1 the line isn't a step": what the service makes of the numbers of a step
-abbrev pub outcome_asked : Service → ℕ → ℕ → ℕ → ℕ → ℕ → Outcome
-outcome_asked s kind i f b v =
-    cond (ltb kind kinds) (step_of s (step_asked kind i f b v))
-    (record { service = s; reply = Refused 1; calls = no_calls; grants = no_grants })
+-- "1 the line isn't a step": what the service makes of a step, and of none
+abbrev pub outcome_of : Service → Option Step → Outcome
+outcome_of s (Some x) = step_of s x
+outcome_of s None = record { service = s; reply = Refused 1; calls = no_calls; grants = no_grants }
 
 -- ---- what a step leaves
 
@@ -95,21 +94,25 @@ pub record Keeps (x : Step) (reply : Reply) (t₀ : List ℕ) (flags₀ : List B
   pub words : (g k : ℕ) → g < max_files → k < row_words → may_change (class_of x) g k ≡ false → word_at t g k ≡ word_at t₀ g k
   pub reports : may_report (class_of x) ≡ false → take state_flags flags ≡ take state_flags flags₀
 
--- The step that the five numbers are is taken: the arrays hold the service that it makes of the one that they held, and
--- its reply and its calls are said.
+-- where there is no step, all stays
+abbrev pub KeepsAfter : Option Step → Reply → List ℕ → List Bool → List ℕ → List Bool → Type 0
+KeepsAfter (Some x) reply t₀ flags₀ t flags = Keeps x reply t₀ flags₀ t flags
+KeepsAfter None reply t₀ flags₀ t flags = (t ≡ t₀) × (flags ≡ flags₀)
+
+-- The step, if there is one, is taken: the service that is held is that which it makes of the one that was held, and its
+-- reply and its calls are said.
 pub record Stepped
-    (given : Sizes) (kind i f b v : ℕ) (t₀ : List ℕ) (flags₀ : List Bool) (a₀ : Stores) (words₀ t : List ℕ)
+    (given : Sizes) (x : Option Step) (t₀ : List ℕ) (flags₀ : List Bool) (a₀ : Stores) (words₀ t : List ℕ)
     (flags : List Bool) (a : Stores) (words : List ℕ) (said : ℕ) : Type 0 where
   pub long : length t ≡ length t₀
   pub flags_long : length flags ≡ length flags₀
   pub words_long : length words ≡ length words₀
   pub short : said / 256 ≤ said_room
-  pub service : service_held given t flags a ≡ (outcome_asked (service_held given t₀ flags₀ a₀) kind i f b v).service
+  pub service : service_held given t flags a ≡ (outcome_of (service_held given t₀ flags₀ a₀) x).service
   pub says :
       SaysIn words₀ said words
-      (outcome_asked (service_held given t₀ flags₀ a₀) kind i f b v).reply
-      (outcome_asked (service_held given t₀ flags₀ a₀) kind i f b v).calls
-      (outcome_asked (service_held given t₀ flags₀ a₀) kind i f b v).grants
-  pub calls : calls_said said words ≡ (outcome_asked (service_held given t₀ flags₀ a₀) kind i f b v).calls
-  pub keeps :
-      Keeps (step_asked kind i f b v) (outcome_asked (service_held given t₀ flags₀ a₀) kind i f b v).reply t₀ flags₀ t flags
+      (outcome_of (service_held given t₀ flags₀ a₀) x).reply
+      (outcome_of (service_held given t₀ flags₀ a₀) x).calls
+      (outcome_of (service_held given t₀ flags₀ a₀) x).grants
+  pub calls : calls_said said words ≡ (outcome_of (service_held given t₀ flags₀ a₀) x).calls
+  pub keeps : KeepsAfter x (outcome_of (service_held given t₀ flags₀ a₀) x).reply t₀ flags₀ t flags

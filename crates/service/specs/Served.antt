@@ -1,8 +1,6 @@
 -- What a step leaves, as the code finds it: by the sizes in force, with its reply as a value. Derived: the contract of
 -- `take_step` does not mention it.
 use Rattle.std.specs.Prelude.{ℕ, ◌+◌, ◌*◌, ◌%◌, ◌≤◌, ◌<◌, ◌≡◌, Bool, true, false, cond, ◌||◌, List, eqb, length, get_or}
-use Rattle.records.specs.declared.record.Mode.{Mode}
-use Rattle.records.specs.declared.record.Mode.TheVariants.{Read, Write}
 use Rattle.sizes.specs.declared.sizes.Sizes.{Sizes}
 use Rattle.sizes.specs.Sizes.{in_force}
 use Rattle.protocol.specs.declared.reply.Reply.{Reply}
@@ -11,7 +9,7 @@ use Rattle.protocol.specs.declared.reply.Reply.TheVariants.{AnsweredGrant, Done}
 use Rattle.protocol.specs.declared.step.Step.{Step}
 use Rattle.protocol.specs.Reply.{letter_of, is_refused, no_calls, no_grants}
 use Rattle.decision.specs.Lists.{stored}
-use Rattle.blocks.specs.Stores.{Stores}
+use Rattle.blocks.specs.declared.stores.Stores.{Stores}
 use Rattle.table.specs.declared.recovery.RecoveryOutcome.{RecoveryOutcome}
 use Rattle.table.specs.Swept.{Swept}
 use Rattle.words.specs.Rows.{word_at}
@@ -21,23 +19,9 @@ use Rattle.service.specs.Embargo.{forgotten_below, grants_below, dropped_below}
 use Rattle.service.specs.Step.{moved, step_of}
 use Rattle.service.specs.Lent.{state_flags, recovering_held, reported_held, embargoed_held, used_held, service_held, Keeps}
 
--- the mode of an open or a close, by its kind
-abbrev pub mode_asked : ℕ → Mode
-mode_asked kind = cond (eqb (kind % 2) 1) Write Read
-
 -- the reply to a step on the table, by the number of its refusal; 0 is none
 abbrev pub reply_numbered : ℕ → Reply
 reply_numbered k = cond (eqb k 0) Done (Refused k)
-
--- and that number
-abbrev pub number_in : Reply → ℕ
-number_in (Granted g) = 0
-number_in Waiting = 0
-number_in (Value v) = 0
-number_in (Refused k) = k
-number_in (Answered n) = 0
-number_in (AnsweredGrant n i g) = 0
-number_in Done = 0
 
 -- how many blocks an answer tells that it sent
 abbrev pub sent_in : Reply → ℕ

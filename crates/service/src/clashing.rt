@@ -1,7 +1,8 @@
-// Whether what a client reports clashes with what the server has accepted, on the arrays that hold the service. It looks
+// Whether what a client reports clashes with what the server has accepted, on the rows and flags of the held service. It looks
 // once at each file, and no further where the client says nothing of it.
 ghost use Rattle.std.specs.Prelude.{◌≡◌, false, ◌+◌, ◌≤◌, ◌<◌, length, get_or};
 ghost use Rattle.sizes.specs.Sizes.{Permitted, max_clients, max_files};
+ghost use Rattle.decision.specs.Lists.{found_below};
 ghost use Rattle.protocol.specs.Clash.{accepted_of, clashes_with, clashes_on};
 ghost use Rattle.table.specs.Clash.{clash_file};
 ghost use Rattle.words.specs.Words.{side_held};
@@ -31,33 +32,32 @@ pub fn accepted_in(table: &[u64; WORDS], f: usize, client: usize) -> ClientFile
     }
 }
 
-// The first client that has reported and clashes with this side of the file; the number of the clients where none does.
+// The first client that has reported and clashes with this side of the file.
 pub fn clashes_with(
     clients: usize,
     own: ClientFile,
     f: usize,
     table: &[u64; WORDS],
     flags: &[bool; FLAGS],
-) -> usize
+) -> Option<usize>
     requires clients_le_max_clients { clients ≤ max_clients }
     requires f_lt_max_files { f < max_files }
     requires table_len { length table.now ≡ table_words }
     requires flags_len { length flags.now ≡ lent_flags }
-    ensures { result ≡ clashes_with clients (λ j. get_or flags.now j false)
-        (entry_held table.now f) own }
+    ensures { result ≡ found_below clients (clashes_with clients (λ j. get_or flags.now j false)
+        (entry_held table.now f) own) }
 {
-    let mut j: usize = 0;
-    while j < clients {
+    for j in 0..clients {
         let accepted = accepted_in(table, f, j);
         if flags[j] & own.clashes(accepted) {
-            return j;
+            return Some(j);
         }
-        j += 1;
     }
-    clients
+    None
 }
 
 // Passes four files at a time of which the client's words say nothing.
+// Stays: no chain over `step_by(4)`, for it hands on the place that it came to.
 fn pass_fours(files: usize, client: usize, from: usize, table: &[u64; WORDS]) -> usize
     requires files_le_max_files { files ≤ max_files }
     requires client_lt_max_clients { client < max_clients }
@@ -88,14 +88,12 @@ fn next_said(files: usize, client: usize, from: usize, table: &[u64; WORDS]) -> 
     requires table_len { length table.now ≡ table_words }
     ensures { (from ≤ result) × (result ≤ files) × Silent client from result table.now }
 {
-    let mut f = pass_fours(files, client, from, table);
-    while f < files {
+    for f in pass_fours(files, client, from, table)..files {
         if table[f * ROW + (10 + client)] % 4294967296 != 0 {
             return f;
         }
-        f += 1;
     }
-    f
+    files
 }
 
 // Whether this side of the file clashes, alone or with one that was accepted.
@@ -114,25 +112,31 @@ fn clashes_on(
         (entry_held table.now f) own }
 {
     let with = clashes_with(clients, own, f, table, flags);
-    own.says_anything() & (own.clashes(ClientFile::none()) | (with < clients))
+    own.says_anything() & (own.clashes(ClientFile::none()) | with.is_some())
 }
 
-// The first file of which the client's side clashes; the number of the files where none does.
-pub fn clash_file(sizes: Sizes, client: usize, table: &[u64; WORDS], flags: &[bool; FLAGS]) -> usize
+// The first file of which the client's side clashes.
+pub fn clash_file(
+    sizes: Sizes,
+    client: usize,
+    table: &[u64; WORDS],
+    flags: &[bool; FLAGS],
+) -> Option<usize>
     requires permitted { Permitted sizes }
     requires client_lt_max_clients { client < max_clients }
     requires table_len { length table.now ≡ table_words }
     requires flags_len { length flags.now ≡ lent_flags }
-    ensures { result ≡ clash_file sizes (λ j. get_or flags.now j false) (entry_held table.now)
-        (λ f. side_held (word_at table.now f (10 + client))) }
+    ensures { result ≡ found_below sizes.files (clash_file sizes (λ j. get_or flags.now j false) (entry_held table.now)
+        (λ f. side_held (word_at table.now f (10 + client)))) }
 {
+    // Stays: no chain, for each turn begins where `next_said` stopped.
     let mut f = next_said(sizes.files, client, 0, table);
     while f < sizes.files {
         let own = side_of(table[f * ROW + (10 + client)]);
         if clashes_on(sizes.clients, own, f, table, flags) {
-            return f;
+            return Some(f);
         }
         f = next_said(sizes.files, client, f + 1, table);
     }
-    f
+    None
 }

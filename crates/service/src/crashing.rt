@@ -4,13 +4,9 @@ ghost use Rattle.std.specs.Prelude.{◌≡◌};
 ghost use Rattle.service.specs.Reports.{RecoveryAgrees};
 ghost use Rattle.service.specs.Step.{step_of};
 
-use crate::flags::FLAGS;
-use crate::holding::{held_service, hold};
-use crate::recovering::step_table;
+use crate::held_service::HeldService;
 use crate::service::Service;
 use protocol::Step;
-use sizes::{MAX_CELLS, MAX_PLACES};
-use words::WORDS;
 
 impl Service {
     // The service after a crash. Whatever it was, the reports accepted in the recovery that begins agree.
@@ -19,22 +15,8 @@ impl Service {
         ensures recovery_agrees { RecoveryAgrees result }
     {
         let given = self.sizes;
-        let mut table = [0u64; WORDS];
-        let mut flags = [false; FLAGS];
-        let mut blocks = [0u64; MAX_PLACES];
-        let mut copies = [0u64; MAX_CELLS];
-        let mut held = [false; MAX_CELLS];
-        let mut dirty = [false; MAX_CELLS];
-        hold(
-            self,
-            &mut table,
-            &mut flags,
-            &mut blocks,
-            &mut copies,
-            &mut held,
-            &mut dirty,
-        );
-        let _ = step_table(given.in_force(), 8, 0, &mut table, &mut flags, &dirty);
-        held_service(given, &table, &flags, &blocks, &copies, &held, &dirty)
+        let mut held = HeldService::holding(self);
+        let _ = held.step_table(given.in_force(), Step::Crash);
+        held.to_service(given)
     }
 }

@@ -1,4 +1,4 @@
-// The steps on all files, on the arrays that hold the service: a client restarts, is put under embargo, or is told that it
+// The steps on all files, on the held service: a client restarts, is put under embargo, or is told that it
 // was. The server forgets it on every file in force, and the opens of others that this grants are said one after the
 // other, by ascending file; the client drops what it has of every file in force.
 ghost use Rattle.std.specs.Prelude.{◌≡◌, true, false, cond, List, ◌++◌, ℕ, ◌+◌, ◌*◌, ◌<◌, ◌≤◌, length, set};
@@ -6,21 +6,21 @@ ghost use Rattle.sizes.specs.Sizes.{Permitted, max_clients};
 ghost use Rattle.protocol.specs.declared.reply.Grant.{Grant};
 ghost use Rattle.protocol.specs.declared.reply.Granting.{Granting};
 ghost use Rattle.decision.specs.Lists.{first_of};
+ghost use Rattle.protocol.specs.Refused.{refusal_in};
 ghost use Rattle.protocol.specs.Refusal.{embargo_tests};
 ghost use Rattle.protocol.specs.Reply.{brought};
-ghost use Rattle.blocks.specs.Stores.{lent};
 ghost use Rattle.words.specs.Rows.{table_words};
 ghost use Rattle.words.specs.Said.{said_room, Begun, SaidSoFar};
 ghost use Rattle.service.specs.Lent.{lent_flags, recovering_held};
 ghost use Rattle.service.specs.Served.{Forgets, Drops, MovesAll};
 
-use crate::flags::FLAGS;
+use crate::flags::{EMBARGOED, FLAGS, RECOVERING};
+use crate::held_service::HeldService;
+use blocks::Stores;
 use decision::asks_nothing;
 use file::{drop_file, forget};
-use protocol::{
-    Entry, IN_RECOVERY, NO_CALL, NO_CLIENT, NO_FILE, NOT_UNDER_EMBARGO, Reply, Step, refused_if,
-};
-use sizes::{MAX_CELLS, MAX_CLIENTS, MAX_FILES, Sizes};
+use protocol::{Entry, Refusal, Reply, Step, refuse_if};
+use sizes::{MAX_CLIENTS, MAX_FILES, Sizes};
 use words::{SAID, WORDS, entry_at, say, say_granting};
 
 // The open of another that the reply grants, if it grants one, as the next words.
@@ -50,9 +50,7 @@ fn forget_files(
     client: usize,
     from: usize,
     table: &mut [u64; WORDS],
-    copies: &mut [u64; MAX_CELLS],
-    held: &mut [bool; MAX_CELLS],
-    dirty: &mut [bool; MAX_CELLS],
+    stores: &mut Stores,
     words: &mut [u64; SAID],
 ) -> usize
     requires permitted { Permitted sizes }
@@ -60,44 +58,33 @@ fn forget_files(
     requires table_len { length table.old ≡ table_words }
     requires words_len { length words.old ≡ said_room }
     requires from_bound { from ≤ 8 }
-    ensures { (blocks words₀ pre : List ℕ) → Begun words₀ from pre words.old → length pre ≡ from
+    ensures { (words₀ pre : List ℕ) → Begun words₀ from pre words.old → length pre ≡ from
         → Forgets sizes client sizes.files table.old
-        (lent blocks copies.old held.old dirty.old)
+        stores.old
         words₀ pre table.new
-        (lent blocks copies.new held.new dirty.new)
+        stores.new
         words.new result }
 {
     let mut at: usize = from;
-    let mut file: usize = 0;
-    while file < sizes.files {
-        let reply = forget(sizes, client, file, table, copies, held, dirty);
+    for file in 0..sizes.files {
+        let reply = forget(sizes, client, file, table, stores);
         at = say_brought(reply, at, words);
-        file += 1;
     }
     at
 }
 
 // The client drops what it has of every file in force.
-fn drop_files(
-    sizes: Sizes,
-    client: usize,
-    table: &mut [u64; WORDS],
-    copies: &mut [u64; MAX_CELLS],
-    held: &mut [bool; MAX_CELLS],
-    dirty: &mut [bool; MAX_CELLS],
-)
+fn drop_files(sizes: Sizes, client: usize, table: &mut [u64; WORDS], stores: &mut Stores)
     requires permitted { Permitted sizes }
     requires client_lt_clients { client < sizes.clients }
     requires table_len { length table.old ≡ table_words }
-    ensures { (blocks : List ℕ) → Drops sizes client sizes.files table.old
-        (lent blocks copies.old held.old dirty.old)
+    ensures { Drops sizes client sizes.files table.old
+        stores.old
         table.new
-        (lent blocks copies.new held.new dirty.new) }
+        stores.new }
 {
-    let mut file: usize = 0;
-    while file < sizes.files {
-        drop_file(sizes, client, file, table, copies, held, dirty);
-        file += 1;
+    for file in 0..sizes.files {
+        drop_file(sizes, client, file, table, stores);
     }
 }
 
@@ -110,115 +97,100 @@ fn tell(client: usize, flags: &mut [bool; FLAGS])
         (set (set flags.old (9 + client) false) client true)
         (set flags.old (9 + client) false) }
 {
-    flags[9 + client] = false;
-    if flags[8] {
+    flags[EMBARGOED + client] = false;
+    if flags[RECOVERING] {
         flags[client] = true;
     }
 }
 
-pub fn restart_client(
+// The refusal of an embargo: that of an answer, save that whether the client is under embargo is not asked.
+fn embargo_refusal(
     sizes: Sizes,
+    recovering: bool,
+    entry: Entry,
     client: usize,
-    table: &mut [u64; WORDS],
-    flags: &mut [bool; FLAGS],
-    copies: &mut [u64; MAX_CELLS],
-    held: &mut [bool; MAX_CELLS],
-    dirty: &mut [bool; MAX_CELLS],
-    words: &mut [u64; SAID],
-) -> u64
-    requires permitted { Permitted sizes }
-    requires table_len { length table.old ≡ table_words }
-    requires flags_len { length flags.old ≡ lent_flags }
-    requires words_len { length words.old ≡ said_room }
-    ensures { (blocks : List ℕ) → MovesAll sizes (Step.Restart client) table.old flags.old
-        (lent blocks copies.old held.old dirty.old)
-        words.old table.new flags.new
-        (lent blocks copies.new held.new dirty.new)
-        words.new result }
+    file: usize,
+) -> Result<(), Refusal>
+    ensures { refusal_in result ≡ first_of (embargo_tests sizes recovering entry client file) }
 {
-    if sizes.clients <= client {
-        return say(Reply::Refused(NO_CLIENT), [0; MAX_CLIENTS], words);
-    }
-    let at = forget_files(sizes, client, 0, table, copies, held, dirty, words);
-    drop_files(sizes, client, table, copies, held, dirty);
-    tell(client, flags);
-    75 + 256 * at as u64
-}
-
-// The refusal of an embargo, 0 for none: that of an answer, save that whether the client is under embargo is not asked.
-fn embargo_refusal(sizes: Sizes, recovering: bool, entry: Entry, client: usize, file: usize) -> u8
-    ensures { result ≡ first_of (embargo_tests sizes recovering entry client file) }
-{
-    let uncalled = asks_nothing(entry.call_to(sizes.clients, client));
-    let answered = refused_if(uncalled, NO_CALL, 0);
-    let recovers = refused_if(recovering, IN_RECOVERY, answered);
-    refused_if(
-        sizes.clients <= client,
-        NO_CLIENT,
-        refused_if(sizes.files <= file, NO_FILE, recovers),
+    refuse_if(sizes.clients <= client, Refusal::NoClient)?;
+    refuse_if(sizes.files <= file, Refusal::NoFile)?;
+    refuse_if(recovering, Refusal::InRecovery)?;
+    refuse_if(
+        asks_nothing(entry.call_to(sizes.clients, client)),
+        Refusal::NoCall,
     )
 }
 
-pub fn embargo_client(
-    sizes: Sizes,
-    client: usize,
-    file: usize,
-    table: &mut [u64; WORDS],
-    flags: &mut [bool; FLAGS],
-    copies: &mut [u64; MAX_CELLS],
-    held: &mut [bool; MAX_CELLS],
-    dirty: &mut [bool; MAX_CELLS],
-    words: &mut [u64; SAID],
-) -> u64
-    requires permitted { Permitted sizes }
-    requires table_len { length table.old ≡ table_words }
-    requires flags_len { length flags.old ≡ lent_flags }
-    requires words_len { length words.old ≡ said_room }
-    ensures { (blocks : List ℕ) → MovesAll sizes (Step.Embargo client file) table.old flags.old
-        (lent blocks copies.old held.old dirty.old)
-        words.old table.new flags.new
-        (lent blocks copies.new held.new dirty.new)
-        words.new result }
-{
-    let entry = entry_at(table, file % MAX_FILES);
-    let refusal = embargo_refusal(sizes, flags[8], entry, client, file);
-    if refusal != 0 {
-        return say(Reply::Refused(refusal), [0; MAX_CLIENTS], words);
+impl HeldService {
+    // The client has restarted.
+    pub fn restart_client(&mut self, sizes: Sizes, client: usize, words: &mut [u64; SAID]) -> u64
+        requires permitted { Permitted sizes }
+        requires words_len { length words.old ≡ said_room }
+        ensures { MovesAll sizes (Step.Restart client) self.old.table self.old.flags
+            self.old.stores
+            words.old self.new.table self.new.flags
+            self.new.stores
+            words.new result }
+    {
+        if sizes.clients <= client {
+            return say(Reply::from(Refusal::NoClient), [0; MAX_CLIENTS], words);
+        }
+        let at = forget_files(sizes, client, 0, &mut self.table, &mut self.stores, words);
+        drop_files(sizes, client, &mut self.table, &mut self.stores);
+        tell(client, &mut self.flags);
+        75 + 256 * at as u64
     }
-    // No block was sent.
-    words[0] = 0;
-    let at = forget_files(sizes, client, 1, table, copies, held, dirty, words);
-    flags[9 + client] = true;
-    65 + 256 * at as u64
-}
 
-pub fn lift_embargo(
-    sizes: Sizes,
-    client: usize,
-    table: &mut [u64; WORDS],
-    flags: &mut [bool; FLAGS],
-    copies: &mut [u64; MAX_CELLS],
-    held: &mut [bool; MAX_CELLS],
-    dirty: &mut [bool; MAX_CELLS],
-    words: &mut [u64; SAID],
-) -> u64
-    requires permitted { Permitted sizes }
-    requires table_len { length table.old ≡ table_words }
-    requires flags_len { length flags.old ≡ lent_flags }
-    requires words_len { length words.old ≡ said_room }
-    ensures { (blocks : List ℕ) → MovesAll sizes (Step.Lift client) table.old flags.old
-        (lent blocks copies.old held.old dirty.old)
-        words.old table.new flags.new
-        (lent blocks copies.new held.new dirty.new)
-        words.new result }
-{
-    if sizes.clients <= client {
-        return say(Reply::Refused(NO_CLIENT), [0; MAX_CLIENTS], words);
+    // The client is put under embargo, for its callback on the file.
+    pub fn embargo_client(
+        &mut self,
+        sizes: Sizes,
+        client: usize,
+        file: usize,
+        words: &mut [u64; SAID],
+    ) -> u64
+        requires permitted { Permitted sizes }
+        requires words_len { length words.old ≡ said_room }
+        ensures { MovesAll sizes (Step.Embargo client file) self.old.table self.old.flags
+            self.old.stores
+            words.old self.new.table self.new.flags
+            self.new.stores
+            words.new result }
+    {
+        let entry = entry_at(&self.table, file % MAX_FILES);
+        if let Err(refusal) = embargo_refusal(sizes, self.flags[RECOVERING], entry, client, file) {
+            return say(Reply::from(refusal), [0; MAX_CLIENTS], words);
+        }
+        // No block was sent.
+        words[0] = 0;
+        let at = forget_files(sizes, client, 1, &mut self.table, &mut self.stores, words);
+        self.flags[EMBARGOED + client] = true;
+        65 + 256 * at as u64
     }
-    if !flags[9 + client] {
-        return say(Reply::Refused(NOT_UNDER_EMBARGO), [0; MAX_CLIENTS], words);
+
+    // The client is told that it was under embargo.
+    pub fn lift_embargo(&mut self, sizes: Sizes, client: usize, words: &mut [u64; SAID]) -> u64
+        requires permitted { Permitted sizes }
+        requires words_len { length words.old ≡ said_room }
+        ensures { MovesAll sizes (Step.Lift client) self.old.table self.old.flags
+            self.old.stores
+            words.old self.new.table self.new.flags
+            self.new.stores
+            words.new result }
+    {
+        if sizes.clients <= client {
+            return say(Reply::from(Refusal::NoClient), [0; MAX_CLIENTS], words);
+        }
+        if !self.flags[EMBARGOED + client] {
+            return say(
+                Reply::from(Refusal::NotUnderEmbargo),
+                [0; MAX_CLIENTS],
+                words,
+            );
+        }
+        drop_files(sizes, client, &mut self.table, &mut self.stores);
+        tell(client, &mut self.flags);
+        say(Reply::Done, [0; MAX_CLIENTS], words)
     }
-    drop_files(sizes, client, table, copies, held, dirty);
-    tell(client, flags);
-    say(Reply::Done, [0; MAX_CLIENTS], words)
 }

@@ -6,6 +6,12 @@ ghost use Rattle.service.specs.Lent.{lent_flags, recovering_held, reported_held,
 use sizes::{MAX_CLIENTS, MAX_PLACES};
 use table::Recovery;
 
+// Where the flag of the recovery stands.
+pub const RECOVERING: usize = MAX_CLIENTS;
+
+// Where the flags of the clients under embargo begin.
+pub const EMBARGOED: usize = MAX_CLIENTS + 1;
+
 // Where the flags of the used blocks begin.
 pub const USED: usize = 2 * MAX_CLIENTS + 1;
 
@@ -17,14 +23,14 @@ pub fn recovery_of(flags: &[bool; FLAGS]) -> Recovery
         × (result.reported ≡ reported_held flags.now)
         × (result.embargoed ≡ embargoed_held flags.now) }
 {
+    let mut reported = [false; MAX_CLIENTS];
+    reported.copy_from_slice(&flags[..MAX_CLIENTS]);
+    let mut embargoed = [false; MAX_CLIENTS];
+    embargoed.copy_from_slice(&flags[EMBARGOED..USED]);
     Recovery {
-        recovering: flags[8],
-        reported: [
-            flags[0], flags[1], flags[2], flags[3], flags[4], flags[5], flags[6], flags[7],
-        ],
-        embargoed: [
-            flags[9], flags[10], flags[11], flags[12], flags[13], flags[14], flags[15], flags[16],
-        ],
+        recovering: flags[RECOVERING],
+        reported,
+        embargoed,
     }
 }
 
@@ -38,21 +44,7 @@ pub fn put_recovery(flags: &mut [bool; FLAGS], recovery: Recovery)
 {
     let reports = recovery.reported;
     let embargoed = recovery.embargoed;
-    flags[0] = reports[0];
-    flags[1] = reports[1];
-    flags[2] = reports[2];
-    flags[3] = reports[3];
-    flags[4] = reports[4];
-    flags[5] = reports[5];
-    flags[6] = reports[6];
-    flags[7] = reports[7];
-    flags[8] = recovery.recovering;
-    flags[9] = embargoed[0];
-    flags[10] = embargoed[1];
-    flags[11] = embargoed[2];
-    flags[12] = embargoed[3];
-    flags[13] = embargoed[4];
-    flags[14] = embargoed[5];
-    flags[15] = embargoed[6];
-    flags[16] = embargoed[7];
+    flags[..MAX_CLIENTS].copy_from_slice(&reports);
+    flags[RECOVERING] = recovery.recovering;
+    flags[EMBARGOED..USED].copy_from_slice(&embargoed);
 }

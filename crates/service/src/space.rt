@@ -1,16 +1,18 @@
-// The store, on the arrays that hold the service: whether a write takes a free place, and how many blocks are used or
+// The store, on the held service: whether a write takes a free place, and how many blocks are used or
 // reserved by a client that the server knows of.
-ghost use Rattle.std.specs.Prelude.{◌≡◌, false, cond, ℕ, ◌+◌, ◌-◌, ◌%◌, ◌<◌, ◌≤◌, length, get_or, set};
-ghost use Rattle.sizes.specs.Sizes.{Permitted, max_clients, max_files, max_blocks, max_places, max_cells};
+ghost use Rattle.std.specs.Prelude.{◌≡◌, Bool, false, cond, ◌&&◌, ℕ, ◌+◌, ◌-◌, ◌%◌, ◌<◌, ◌≤◌, length, get_or, set};
+ghost use Rattle.sizes.specs.Sizes.{Permitted, max_clients, max_files, max_blocks, max_places, max_cells, place, cell};
 ghost use Rattle.words.specs.Rows.{table_rows, table_words};
 ghost use Rattle.service.specs.Lent.{lent_flags, recovering_held, used_held, free_held};
-ghost use Rattle.service.specs.Space.{dirty_among, is_counted, counted_on, counted_in, used_in, recounted};
+ghost use Rattle.service.specs.Space.{any_below, sum_below, dirty_among, is_counted, counted_on, counted_in, used_in, recounted};
 ghost use Rattle.service.specs.Counted.{known_held, takes_held, used_on, is_anew, anew_on, anew_in};
 
-use crate::flags::{FLAGS, USED};
+use crate::flags::{EMBARGOED, FLAGS, RECOVERING, USED};
+use crate::held_service::HeldService;
+use crate::sums::{any_below, sum_of_files};
 use blocks::{cell_of, first_cell, place_of};
-use decision::one_if;
-use sizes::{MAX_BLOCKS, MAX_CELLS, MAX_FILES, Sizes, at_most};
+use decision::count_below;
+use sizes::{MAX_BLOCKS, MAX_CELLS, MAX_FILES, Sizes};
 use words::{ROWS, WORDS};
 
 // Whether any of the eight flags from base on is set.
@@ -18,209 +20,17 @@ pub fn is_any_dirty(base: usize, dirty: &[bool; MAX_CELLS]) -> bool
     requires { base + max_blocks ≤ max_cells }
     ensures { result ≡ false → (b : ℕ) → b < max_blocks → get_or dirty.now (base + b) false ≡ false }
 {
-    let low = dirty[base] | dirty[base + 1] | dirty[base + 2] | dirty[base + 3];
-    let high = dirty[base + 4] | dirty[base + 5] | dirty[base + 6] | dirty[base + 7];
-    low | high
+    dirty[base..base + MAX_BLOCKS].contains(&true)
 }
 
-// Whether the block is dirty at a client without embargo; in a recovery, at one that has reported.
-fn is_dirty_known(
-    recovering: bool,
-    clients: usize,
-    file: usize,
-    block: usize,
-    flags: &[bool; FLAGS],
-    dirty: &[bool; MAX_CELLS],
-) -> bool
-    requires clients_le_max_clients { clients ≤ max_clients }
+// Whether the block is used.
+fn is_used(file: usize, block: usize, flags: &[bool; FLAGS]) -> bool
     requires file_lt_max_files { file < max_files }
     requires block_lt_max_blocks { block < max_blocks }
     requires flags_len { length flags.now ≡ lent_flags }
-    ensures { result ≡ dirty_among clients (known_held recovering flags.now) dirty.now file block }
+    ensures { result ≡ get_or (used_held flags.now) (place file block) false }
 {
-    let mut found = false;
-    let mut i: usize = 0;
-    while i < clients {
-        let known = !flags[9 + i] & (!recovering | flags[i]);
-        found = found | (known & dirty[cell_of(i, file, block)]);
-        i += 1;
-    }
-    found
-}
-
-// Whether a write of the block by the client takes a free place. The numbers are wrapped.
-pub fn takes_place(
-    clients: usize,
-    client: usize,
-    file: usize,
-    block: usize,
-    flags: &[bool; FLAGS],
-    dirty: &[bool; MAX_CELLS],
-) -> bool
-    requires clients_le_max_clients { clients ≤ max_clients }
-    requires flags_len { length flags.now ≡ lent_flags }
-    ensures { result ≡ takes_held clients (client % max_clients) (file % max_files) (block % max_blocks)
-        flags.now dirty.now }
-{
-    if flags[USED + place_of(file, block)] | dirty[cell_of(client, file, block)] {
-        return false;
-    }
-    !is_dirty_known(
-        false,
-        clients,
-        file % MAX_FILES,
-        block % MAX_BLOCKS,
-        flags,
-        dirty,
-    )
-}
-
-// Whether the block is used, or dirty at a client that the server knows of.
-fn is_counted(
-    clients: usize,
-    file: usize,
-    block: usize,
-    flags: &[bool; FLAGS],
-    dirty: &[bool; MAX_CELLS],
-) -> bool
-    requires clients_le_max_clients { clients ≤ max_clients }
-    requires file_lt_max_files { file < max_files }
-    requires block_lt_max_blocks { block < max_blocks }
-    requires flags_len { length flags.now ≡ lent_flags }
-    ensures { result ≡ is_counted clients (known_held (recovering_held flags.now) flags.now)
-        (used_held flags.now) dirty.now file block }
-{
-    if flags[USED + place_of(file, block)] {
-        return true;
-    }
-    is_dirty_known(flags[8], clients, file, block, flags, dirty)
-}
-
-// How many blocks of the file are.
-pub fn counted_on(
-    sizes: Sizes,
-    file: usize,
-    flags: &[bool; FLAGS],
-    dirty: &[bool; MAX_CELLS],
-) -> usize
-    requires permitted { Permitted sizes }
-    requires file_lt_max_files { file < max_files }
-    requires flags_len { length flags.now ≡ lent_flags }
-    ensures { result ≡ counted_on sizes (known_held (recovering_held flags.now) flags.now)
-        (used_held flags.now) dirty.now file }
-{
-    let mut found: usize = 0;
-    let mut b: usize = 0;
-    while b < sizes.blocks {
-        found += one_if(is_counted(sizes.clients, file, b, flags, dirty));
-        b += 1;
-    }
-    found
-}
-
-// The same where it is asked for, else 0.
-pub fn counted_if(
-    asked: bool,
-    sizes: Sizes,
-    file: usize,
-    flags: &[bool; FLAGS],
-    dirty: &[bool; MAX_CELLS],
-) -> usize
-    requires permitted { Permitted sizes }
-    requires file_lt_max_files { file < max_files }
-    requires flags_len { length flags.now ≡ lent_flags }
-    ensures { result ≡ cond asked (counted_on sizes (known_held (recovering_held flags.now) flags.now)
-        (used_held flags.now) dirty.now file) 0 }
-{
-    if !asked {
-        return 0;
-    }
-    counted_on(sizes, file, flags, dirty)
-}
-
-// How many blocks are, of all files.
-pub fn counted_in(sizes: Sizes, flags: &[bool; FLAGS], dirty: &[bool; MAX_CELLS]) -> usize
-    requires permitted { Permitted sizes }
-    requires flags_len { length flags.now ≡ lent_flags }
-    ensures { result ≡ counted_in sizes (known_held (recovering_held flags.now) flags.now)
-        (used_held flags.now) dirty.now }
-{
-    let mut found: usize = 0;
-    let mut f: usize = 0;
-    while f < sizes.files {
-        found += counted_on(sizes, f, flags, dirty);
-        f += 1;
-    }
-    found
-}
-
-// Whether the block is dirty at the client, and nobody else counts on it.
-fn is_reserved_anew(
-    clients: usize,
-    client: usize,
-    file: usize,
-    block: usize,
-    flags: &[bool; FLAGS],
-    dirty: &[bool; MAX_CELLS],
-) -> bool
-    requires clients_le_max_clients { clients ≤ max_clients }
-    requires client_lt_max_clients { client < max_clients }
-    requires file_lt_max_files { file < max_files }
-    requires block_lt_max_blocks { block < max_blocks }
-    requires flags_len { length flags.now ≡ lent_flags }
-    ensures { result ≡ is_anew clients client flags.now dirty.now file block }
-{
-    if !dirty[cell_of(client, file, block)] {
-        return false;
-    }
-    !is_counted(clients, file, block, flags, dirty)
-}
-
-// How many such blocks the file has.
-fn reserved_on(
-    sizes: Sizes,
-    client: usize,
-    file: usize,
-    flags: &[bool; FLAGS],
-    dirty: &[bool; MAX_CELLS],
-) -> usize
-    requires permitted { Permitted sizes }
-    requires client_lt_max_clients { client < max_clients }
-    requires file_lt_max_files { file < max_files }
-    requires flags_len { length flags.now ≡ lent_flags }
-    ensures { result ≡ anew_on sizes client flags.now dirty.now file }
-{
-    if !is_any_dirty(first_cell(client, file), dirty) {
-        return 0;
-    }
-    let mut found: usize = 0;
-    let mut b: usize = 0;
-    while b < sizes.blocks {
-        found += one_if(is_reserved_anew(sizes.clients, client, file, b, flags, dirty));
-        b += 1;
-    }
-    found
-}
-
-// How many there are: as many as the report of the client reserves.
-pub fn reserved_anew(
-    sizes: Sizes,
-    client: usize,
-    flags: &[bool; FLAGS],
-    dirty: &[bool; MAX_CELLS],
-) -> usize
-    requires permitted { Permitted sizes }
-    requires client_lt_max_clients { client < max_clients }
-    requires flags_len { length flags.now ≡ lent_flags }
-    ensures { result ≡ anew_in sizes client flags.now dirty.now }
-{
-    let mut found: usize = 0;
-    let mut f: usize = 0;
-    while f < sizes.files {
-        found += reserved_on(sizes, client, f, flags, dirty);
-        f += 1;
-    }
-    found
+    flags[USED + place_of(file, block)]
 }
 
 // How many blocks of the file are used.
@@ -228,15 +38,10 @@ fn used_on(sizes: Sizes, file: usize, flags: &[bool; FLAGS]) -> usize
     requires permitted { Permitted sizes }
     requires file_lt_max_files { file < max_files }
     requires flags_len { length flags.now ≡ lent_flags }
-    ensures { result ≡ used_on sizes (used_held flags.now) file }
+    ensures used { result ≡ used_on sizes (used_held flags.now) file }
+    ensures few { result ≤ max_blocks }
 {
-    let mut found: usize = 0;
-    let mut b: usize = 0;
-    while b < sizes.blocks {
-        found += one_if(flags[USED + place_of(file, b)]);
-        b += 1;
-    }
-    found
+    count_below(sizes.blocks, |b| is_used(file, b, flags))
 }
 
 // How many blocks of all files are used.
@@ -245,20 +50,130 @@ pub fn used_in(sizes: Sizes, flags: &[bool; FLAGS]) -> usize
     requires flags_len { length flags.now ≡ lent_flags }
     ensures { result ≡ used_in sizes (used_held flags.now) }
 {
-    let mut found: usize = 0;
-    let mut f: usize = 0;
-    while f < sizes.files {
-        found += used_on(sizes, f, flags);
-        f += 1;
-    }
-    found
+    sum_of_files(sizes.files, |f| used_on(sizes, f, flags))
 }
 
-// What is left of a number; 0 where more is taken.
-pub fn less(number: usize, taken: usize) -> usize
-    ensures { result ≡ number - taken }
-{
-    if taken < number { number - taken } else { 0 }
+impl HeldService {
+    // Whether the block is dirty at the client, and it is without embargo; in a recovery, one that has reported.
+    fn is_dirty_at(&self, recovering: bool, client: usize, file: usize, block: usize) -> bool
+        requires client_lt_max_clients { client < max_clients }
+        requires file_lt_max_files { file < max_files }
+        requires block_lt_max_blocks { block < max_blocks }
+        ensures { result ≡ (known_held recovering self.now.flags client
+            && get_or self.now.stores.dirty (cell client file block) false) }
+    {
+        let known = !self.flags[EMBARGOED + client] & (!recovering | self.flags[client]);
+        known & self.stores.dirty[cell_of(client, file, block)]
+    }
+
+    // Whether it is dirty at such a client.
+    fn is_dirty_known(&self, recovering: bool, clients: usize, file: usize, block: usize) -> bool
+        requires clients_le_max_clients { clients ≤ max_clients }
+        requires file_lt_max_files { file < max_files }
+        requires block_lt_max_blocks { block < max_blocks }
+        ensures { result ≡ dirty_among clients (known_held recovering self.now.flags) self.now.stores.dirty
+            file block }
+    {
+        any_below(clients, |i| self.is_dirty_at(recovering, i, file, block))
+    }
+
+    // Whether a write of the block by the client takes a free place. The numbers are wrapped.
+    pub fn takes_place(&self, clients: usize, client: usize, file: usize, block: usize) -> bool
+        requires clients_le_max_clients { clients ≤ max_clients }
+        ensures { result ≡ takes_held clients (client % max_clients) (file % max_files) (block % max_blocks)
+            self.now.flags self.now.stores.dirty }
+    {
+        let f = file % MAX_FILES;
+        let b = block % MAX_BLOCKS;
+        if is_used(f, b, &self.flags) | self.stores.dirty[cell_of(client, file, block)] {
+            return false;
+        }
+        !self.is_dirty_known(false, clients, f, b)
+    }
+
+    // Whether the block is used, or dirty at a client that the server knows of.
+    fn is_counted(&self, clients: usize, file: usize, block: usize) -> bool
+        requires clients_le_max_clients { clients ≤ max_clients }
+        requires file_lt_max_files { file < max_files }
+        requires block_lt_max_blocks { block < max_blocks }
+        ensures { result ≡ is_counted clients (known_held (recovering_held self.now.flags) self.now.flags)
+            (used_held self.now.flags) self.now.stores.dirty file block }
+    {
+        is_used(file, block, &self.flags)
+            || self.is_dirty_known(self.flags[RECOVERING], clients, file, block)
+    }
+
+    // How many blocks of the file are.
+    pub fn counted_on(&self, sizes: Sizes, file: usize) -> usize
+        requires permitted { Permitted sizes }
+        requires file_lt_max_files { file < max_files }
+        ensures counted { result ≡ counted_on sizes (known_held (recovering_held self.now.flags) self.now.flags)
+            (used_held self.now.flags) self.now.stores.dirty file }
+        ensures few { result ≤ max_blocks }
+    {
+        count_below(sizes.blocks, |b| self.is_counted(sizes.clients, file, b))
+    }
+
+    // The same where it is asked for, else 0.
+    pub fn counted_if(&self, asked: bool, sizes: Sizes, file: usize) -> usize
+        requires permitted { Permitted sizes }
+        requires file_lt_max_files { file < max_files }
+        ensures counted { result ≡ cond asked (counted_on sizes (known_held (recovering_held self.now.flags) self.now.flags)
+            (used_held self.now.flags) self.now.stores.dirty file) 0 }
+        ensures few { result ≤ max_blocks }
+    {
+        if asked {
+            self.counted_on(sizes, file)
+        } else {
+            0
+        }
+    }
+
+    // How many blocks are, of all files.
+    pub fn counted_in(&self, sizes: Sizes) -> usize
+        requires permitted { Permitted sizes }
+        ensures { result ≡ counted_in sizes (known_held (recovering_held self.now.flags) self.now.flags)
+            (used_held self.now.flags) self.now.stores.dirty }
+    {
+        sum_of_files(sizes.files, |f| self.counted_on(sizes, f))
+    }
+
+    // Whether the block is dirty at the client, and nobody else counts on it.
+    fn is_reserved_anew(&self, clients: usize, client: usize, file: usize, block: usize) -> bool
+        requires clients_le_max_clients { clients ≤ max_clients }
+        requires client_lt_max_clients { client < max_clients }
+        requires file_lt_max_files { file < max_files }
+        requires block_lt_max_blocks { block < max_blocks }
+        ensures { result ≡ is_anew clients client self.now.flags self.now.stores.dirty file block }
+    {
+        self.stores.dirty[cell_of(client, file, block)] && !self.is_counted(clients, file, block)
+    }
+
+    // How many such blocks the file has.
+    fn reserved_on(&self, sizes: Sizes, client: usize, file: usize) -> usize
+        requires permitted { Permitted sizes }
+        requires client_lt_max_clients { client < max_clients }
+        requires file_lt_max_files { file < max_files }
+        ensures reserved { result ≡ anew_on sizes client self.now.flags self.now.stores.dirty file }
+        ensures few { result ≤ max_blocks }
+    {
+        if !is_any_dirty(first_cell(client, file), &self.stores.dirty) {
+            return 0;
+        }
+        count_below(
+            sizes.blocks,
+            |b| self.is_reserved_anew(sizes.clients, client, file, b),
+        )
+    }
+
+    // How many there are: as many as the report of the client reserves.
+    pub fn reserved_anew(&self, sizes: Sizes, client: usize) -> usize
+        requires permitted { Permitted sizes }
+        requires client_lt_max_clients { client < max_clients }
+        ensures { result ≡ anew_in sizes client self.now.flags self.now.stores.dirty }
+    {
+        sum_of_files(sizes.files, |f| self.reserved_on(sizes, client, f))
+    }
 }
 
 // The number of free places, where so many were taken before and so many are after.
@@ -272,6 +187,6 @@ pub fn recount(store: usize, table: &mut [u64; WORDS], before: usize, after: usi
     if before == after {
         return;
     }
-    let most = at_most(table[ROWS] as usize, store) + before;
-    table[ROWS] = at_most(less(most, after), store) as u64;
+    let most = (table[ROWS] as usize).min(store) + before;
+    table[ROWS] = most.saturating_sub(after).min(store) as u64;
 }

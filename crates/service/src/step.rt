@@ -1,15 +1,12 @@
-// A step on a service by value: it is held in arrays, takes the step there, and is made of them again.
+// A step on a service by value: it is held, takes the step there, and is made of what is held again.
 ghost use Rattle.std.specs.Prelude.{◌≡◌};
 ghost use Rattle.service.specs.Step.{step_of};
 
-use crate::flags::FLAGS;
-use crate::holding::{held_service, hold};
+use crate::held_service::HeldService;
 use crate::outcome::Outcome;
 use crate::service::Service;
-use crate::taking::take_step;
-use protocol::{Step, asked};
-use sizes::{MAX_CELLS, MAX_PLACES};
-use words::{SAID, WORDS, calls_with, grants_of, reply_of};
+use protocol::Step;
+use words::{SAID, calls_with, grants_of, reply_of};
 
 impl Service {
     // One step, from any service.
@@ -17,40 +14,11 @@ impl Service {
         ensures { result ≡ step_of self step }
     {
         let sizes = self.sizes;
-        let mut table = [0u64; WORDS];
-        let mut flags = [false; FLAGS];
-        let mut blocks = [0u64; MAX_PLACES];
-        let mut copies = [0u64; MAX_CELLS];
-        let mut held = [false; MAX_CELLS];
-        let mut dirty = [false; MAX_CELLS];
+        let mut held = HeldService::holding(self);
         let mut words = [0u64; SAID];
-        hold(
-            self,
-            &mut table,
-            &mut flags,
-            &mut blocks,
-            &mut copies,
-            &mut held,
-            &mut dirty,
-        );
-        let numbers = asked(step);
-        let said = take_step(
-            sizes,
-            numbers.kind,
-            numbers.client,
-            numbers.file,
-            numbers.block,
-            numbers.value,
-            &mut table,
-            &mut flags,
-            &mut blocks,
-            &mut copies,
-            &mut held,
-            &mut dirty,
-            &mut words,
-        );
+        let said = held.take_step(sizes, Some(step), &mut words);
         Outcome {
-            service: held_service(sizes, &table, &flags, &blocks, &copies, &held, &dirty),
+            service: held.to_service(sizes),
             reply: reply_of(said, &words),
             calls: calls_with(said, &words),
             grants: grants_of(said, &words),

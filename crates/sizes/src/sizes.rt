@@ -16,7 +16,7 @@ pub const MAX_PLACES: usize = MAX_FILES * MAX_BLOCKS;
 pub const MAX_CELLS: usize = MAX_FILES * MAX_CLIENTS * MAX_BLOCKS;
 
 // The sizes as given; one that is out of its range counts as not given.
-#[derive(Clone, Copy)]
+#[derive(Clone, Copy, PartialEq, Eq)]
 pub struct Sizes {
     pub clients: usize,
     pub files: usize,
@@ -25,9 +25,11 @@ pub struct Sizes {
     pub store: usize,
 }
 
-impl Sizes {
+impl Default for Sizes {
+    ghost is_default = { λ z. z ≡ default_sizes };
+
     // 8 clients, 32 files, 4 blocks and a store of 512, where nothing else is chosen.
-    pub fn default() -> Self
+    fn default() -> Self
         ensures { result ≡ default_sizes }
     {
         Sizes {
@@ -37,7 +39,9 @@ impl Sizes {
             store: MAX_PLACES,
         }
     }
+}
 
+impl Sizes {
     // Whether each size lies inside its range.
     pub fn are_permitted(self) -> bool
         ensures { result ≡ are_permitted self }
@@ -83,5 +87,5 @@ fn permitted_or(size: usize, most: usize, otherwise: usize) -> usize
 pub fn at_most(number: usize, most: usize) -> usize
     ensures { result ≡ at_most most number }
 {
-    if number <= most { number } else { most }
+    number.min(most)
 }

@@ -1,19 +1,19 @@
 -- Whatever reads as a step is how the step is written. Assumes nothing.
 use Prim.Native.Nat.{ℕ, ◌+◌, ◌-◌, ◌*◌, ◌/◌, ◌%◌, ◌^◌, ◌≤◌, ◌<◌}
 use mathlib.Core.Path.{◌≡◌, refl, sym, ◌∙◌, ap}
-use mathlib.Core.Bool.{true, false, false≢true}
+use mathlib.Core.Bool.{true, false≢true}
 use mathlib.Core.List.{List, [], ◌∷◌, ◌++◌, append_assoc, append-nil}
 use native.Mathlib.Omega.{arith}
 use lib.Dec.{eqb, leb, ltb}
 use borrow.Author.Tests.{ltb-true, leb-true, eqb-true, eqb-false}
 use Rattle.protocol.specs.declared.step.Step.{Step}
-use Rattle.stepfile.specs.declared.parsed.Parsed.TheVariants.{Is}
 use Rattle.stepfile.specs.Text.{decimal, argument_text, values_text}
 use Rattle.stepfile.specs.Grammar.{Reading, found, nothing, onward, is_digit, digits_on, numeral, argument, Shape, whole, taking, no_word, two, three, four, words, same, shape_in, shape_of, shaped, step, alone, parse_line}
 use Rattle.stepfile.specs.StepText.{word_of, numbers_of, step_text, EachFits}
 use Rattle.sizes.proofs.Choosing.{when, unless, and_left, and_right, split}
 use Rattle.stepfile.proofs.ReadsBack.{filled}
 use Rattle.stepfile.proofs.Decimals.{decimal_small, decimal_large}
+use Rattle.std.proofs.Common.{Some}
 
 -- nothing is found where something is
 pub never : {A : Type 0} (r : Reading A) (a : A) (l : List ℕ) → r ≡ nothing → r ≡ found a l → ⊥
@@ -257,14 +257,14 @@ step_as_written (a ∷ []) s rest e = absurd (never _ _ _ refl e)
 step_as_written (a ∷ b ∷ l) s rest e = in_table words all_of_word (a ∷ b ∷ []) l s rest e
 
 -- what a line that is a step reads as
-pub line_as_step : (l : List ℕ) (s : Step) → parse_line l ≡ Is s → AsStep l s []
+pub line_as_step : (l : List ℕ) (s : Step) → parse_line l ≡ Some s → AsStep l s []
 unfolding parse_line
 line_as_step l s e = from (step l) refl e
   where
-    from : (r : Reading Step) → step l ≡ r → alone r ≡ Is s → AsStep l s []
+    from : (r : Reading Step) → step l ≡ r → alone r ≡ Some s → AsStep l s []
     from (found x []) q f = let is : x ≡ s = cc in step_as_written l s [] (q ∙ ap (λ y. found y []) is)
     from (found x (b ∷ m)) q f = let z : ◌≡◌ {A = ℕ} 0 1 = cc in absurd (omega arith)
     from nothing q f = let z : ◌≡◌ {A = ℕ} 0 1 = cc in absurd (omega arith)
 
-pub as_written : (l : List ℕ) (s : Step) → parse_line l ≡ Is s → l ≡ step_text s
+pub as_written : (l : List ℕ) (s : Step) → parse_line l ≡ Some s → l ≡ step_text s
 as_written l s e = (line_as_step l s e).text ∙ append-nil (step_text s)

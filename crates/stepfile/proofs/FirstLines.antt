@@ -11,19 +11,17 @@ use Rattle.records.specs.declared.record.Mode.TheVariants.{Read as ForRead, Writ
 use Rattle.protocol.specs.declared.step.Step.{Step}
 use Rattle.protocol.specs.declared.step.Step.TheVariants.{Open, Close, Read, Write, Flush, Answer, Crash, Report, End}
 use Rattle.protocol.specs.declared.step.Step.TheVariants.{Restart, Embargo, Lift}
-use Rattle.stepfile.specs.declared.parsed.Parsed.{Parsed}
-use Rattle.stepfile.specs.declared.parsed.Parsed.TheVariants.{Is, NoStep}
-use Rattle.stepfile.specs.declared.parsed.Read.TheVariants.{Line}
 use Rattle.stepfile.specs.Text.{decimal, values_text}
 use Rattle.stepfile.specs.Grammar.{Reading, found, nothing, onward, step, parse_line}
 use Rattle.stepfile.specs.StepText.{word_of, numbers_of, step_text}
-use Rattle.stepfile.specs.Input.{before_whole, whole_lines, first_line, line_read, read_at, no_step_at}
+use Rattle.stepfile.specs.Input.{before_whole, whole_lines, first_line, line_read, read_at, no_step_at, line_of}
 use Rattle.sizes.proofs.Choosing.{when, unless, split}
 use Rattle.stepfile.proofs.Digits.{at_offset}
 use Rattle.stepfile.proofs.Decimals.{decimal_small, decimal_large}
 use Rattle.stepfile.proofs.ReadsBack.{step_back, reads_back}
 use Rattle.stepfile.proofs.AsWritten.{never, step_as_written, line_as_step}
 use Rattle.stepfile.proofs.Splitting.{NoLF, no_lf_append}
+use Rattle.std.proofs.Common.{Option, Some, None}
 
 -- an input that starts with a line, and the line that an input starts with
 pub first_found : (l r : List ℕ) → NoLF l → first_line (l ++ (10 ∷ r)) ≡ found l r
@@ -112,7 +110,7 @@ step_no_lf s = no_lf_append (word_of s) (values_text (numbers_of s)) (word_no_lf
 
 -- a step with LF after it is a line
 module _ (s : List ℕ) (at : ℕ) (x : Step) (next : ℕ) (read : step (drop at s) ≡ found x (drop next s)) where
-  pub reads_step : next < length s → get_or s next 0 ≡ 10 → Line (Is x) (next + 1) ≡ read_at s at
+  pub reads_step : next < length s → get_or s next 0 ≡ 10 → line_of (Some x) (next + 1) ≡ read_at s at
   reads_step h lf =
       let d = drop at s in
       let r = drop (next + 1) s in
@@ -124,21 +122,21 @@ module _ (s : List ℕ) (at : ℕ) (x : Step) (next : ℕ) (read : step (drop at
       sym (length-drop at s) ∙ ap length text ∙ length-append (step_text x) (10 ∷ r)
       ∙ ap (λ k. length (step_text x) + suc k) (length-drop (next + 1) s) in
       let offset : at + length (step_text x) + 1 ≡ next + 1 = omega arith in
-      sym (ap (line_read parse_line at) line ∙ ap (λ p. Line p (at + length (step_text x) + 1)) (reads_back x w.fits) ∙ ap (Line (Is x)) offset)
+      sym (ap (line_read parse_line at) line ∙ ap (λ p. line_of p (at + length (step_text x) + 1)) (reads_back x w.fits) ∙ ap (line_of (Some x)) offset)
 
 -- a line that is a step has that step at its front, with LF after it
-no_step : (d l r : List ℕ) → first_line d ≡ found l r → ((y : Step) → step d ≡ found y (10 ∷ r) → ⊥) → (p : Parsed) → parse_line l ≡ p → parse_line l ≡ NoStep
-no_step d l r e never-step (Is y) f =
+no_step : (d l r : List ℕ) → first_line d ≡ found l r → ((y : Step) → step d ≡ found y (10 ∷ r) → ⊥) → (p : Option Step) → parse_line l ≡ p → parse_line l ≡ None
+no_step d l r e never-step (Some y) f =
     let w = line_as_step l y f in
     let fl = first_line_lem d l r e in
     let line : l ≡ step_text y = w.text ∙ append-nil (step_text y) in
     absurd (never-step y (ap step (fl.text ∙ ap (λ k. k ++ (10 ∷ r)) line) ∙ step_back y w.fits (10 ∷ r) refl))
-no_step d l r e never-step NoStep f = f
+no_step d l r e never-step None f = f
 
 no_step_read : (d : List ℕ) (at : ℕ) → ((y : Step) (r : List ℕ) → step d ≡ found y (10 ∷ r) → ⊥) → (t : Reading (List ℕ)) → first_line d ≡ t
-    → line_read (λ line. NoStep) at t ≡ line_read parse_line at t
+    → line_read (λ line. None) at t ≡ line_read parse_line at t
 no_step_read d at never-step (found l r) e =
-    ap (λ p. Line p (at + length l + 1)) (sym (no_step d l r e (λ y. never-step y r) (parse_line l) refl))
+    ap (λ p. line_of p (at + length l + 1)) (sym (no_step d l r e (λ y. never-step y r) (parse_line l) refl))
 no_step_read d at never-step nothing e = refl
 
 -- so where the front is no step, or LF does not follow it, the line is none

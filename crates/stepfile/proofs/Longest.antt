@@ -11,15 +11,14 @@ use Rattle.records.specs.declared.record.Mode.TheVariants.{Read as ForRead, Writ
 use Rattle.protocol.specs.declared.step.Step.{Step}
 use Rattle.protocol.specs.declared.step.Step.TheVariants.{Open, Close, Read, Write, Flush, Answer, Crash, Report, End}
 use Rattle.protocol.specs.declared.step.Step.TheVariants.{Restart, Embargo, Lift}
-use Rattle.stepfile.specs.declared.parsed.Parsed.{Parsed}
-use Rattle.stepfile.specs.declared.parsed.Parsed.TheVariants.{Is, NoStep}
 use Rattle.stepfile.specs.Text.{decimal, values_text}
-use Rattle.stepfile.specs.declared.setting.Setting.TheVariants.{Missing}
+use Rattle.stepfile.specs.declared.setting.NoSizes.TheVariants.{Missing}
 use Rattle.stepfile.specs.Grammar.{Reading, found, nothing, onward, argument, parse_line}
 use Rattle.stepfile.specs.Setting.{begins_with_set, store_at, sizes_at, settled, setting_of}
 use Rattle.stepfile.specs.StepText.{word_of, numbers_of, step_text, EachFits}
 use Rattle.stepfile.proofs.Decimals.{decimal_most}
 use Rattle.stepfile.proofs.AsWritten.{never, argument_as_written, line_as_step}
+use Rattle.std.proofs.Common.{Option, Some, None, Err}
 
 values_most : (ns : List ℕ) → EachFits ns → length (values_text ns) ≤ 21 * length ns
 unfolding values_text
@@ -61,14 +60,14 @@ pub step_most : (s : Step) → EachFits (numbers_of s) → length (step_text s) 
 step_most s fits =
     omega (arith, length-append (word_of s) (values_text (numbers_of s)), word_two s, numbers_most s, values_most (numbers_of s) fits)
 
-pub too_long : (l : List ℕ) → 86 < length l → parse_line l ≡ NoStep
+pub too_long : (l : List ℕ) → 86 < length l → parse_line l ≡ None
 too_long l long = from (parse_line l) refl
   where
-    from : (p : Parsed) → parse_line l ≡ p → parse_line l ≡ NoStep
-    from (Is s) e =
+    from : (p : Option Step) → parse_line l ≡ p → parse_line l ≡ None
+    from (Some s) e =
         let w = line_as_step l s e in
         absurd (omega (arith, ap length w.text, length-append (step_text s) [], step_most s w.fits))
-    from NoStep e = e
+    from None e = e
 
 -- ---- no settings line: a word of three letters and three or four numbers
 
@@ -106,15 +105,15 @@ sizes_most l z rest e =
       ap (λ (r : Reading Sizes). length (rest_of r)) k₄,
     )
 
-pub no_setting : (l : List ℕ) → 87 < length l → setting_of l ≡ Missing
+pub no_setting : (l : List ℕ) → 87 < length l → setting_of l ≡ Err Missing
 unfolding setting_of
 no_setting l long = split (begins_with_set l) (λ e. when _ _ e ∙ from (sizes_at (drop 3 l)) refl) (λ e. unless _ _ e)
   where
-    from : (r : Reading Sizes) → sizes_at (drop 3 l) ≡ r → settled r ≡ Missing
+    from : (r : Reading Sizes) → sizes_at (drop 3 l) ≡ r → settled r ≡ Err Missing
     from (found z []) e = absurd (omega (arith, sizes_most (drop 3 l) z [] e, length-drop 3 l))
     from (found z (b ∷ m)) e = refl
     from nothing e = refl
 
 -- a line that is longer than both
-pub no_step : (l : List ℕ) → 87 < length l → parse_line l ≡ NoStep
+pub no_step : (l : List ℕ) → 87 < length l → parse_line l ≡ None
 no_step l long = too_long l (omega arith)

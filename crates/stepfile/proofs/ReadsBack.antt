@@ -10,13 +10,13 @@ use Rattle.records.specs.declared.record.Mode.TheVariants.{Read as ForRead, Writ
 use Rattle.protocol.specs.declared.step.Step.{Step}
 use Rattle.protocol.specs.declared.step.Step.TheVariants.{Open, Close, Read, Write, Flush, Answer, Crash, Report, End}
 use Rattle.protocol.specs.declared.step.Step.TheVariants.{Restart, Embargo, Lift}
-use Rattle.stepfile.specs.declared.parsed.Parsed.TheVariants.{Is}
 use Rattle.stepfile.specs.Text.{decimal, argument_text, values_text}
 use Rattle.stepfile.specs.Grammar.{Reading, found, nothing, onward, is_digit, digits_on, numeral, argument, Shape, whole, taking, no_word, shape_of, shaped, step, alone, parse_line}
 use Rattle.stepfile.specs.StepText.{numbers_of, step_text, EachFits}
 use Rattle.sizes.proofs.Choosing.{when, unless, split}
 use Rattle.stepfile.proofs.Digits.{digit, other, more}
 use Rattle.stepfile.proofs.Decimals.{decimal_small, decimal_large}
+use Rattle.std.proofs.Common.{Some}
 
 -- the list does not go on with a digit
 abbrev pub NoDigit : List ℕ → Type 0
@@ -106,6 +106,6 @@ step_back (Restart i) fits l h = shaped_back _ (i ∷ []) _ refl fits l h
 step_back (Embargo i f) fits l h = shaped_back _ (i ∷ f ∷ []) _ refl fits l h
 step_back (Lift i) fits l h = shaped_back _ (i ∷ []) _ refl fits l h
 
-pub reads_back : (s : Step) → EachFits (numbers_of s) → parse_line (step_text s) ≡ Is s
+pub reads_back : (s : Step) → EachFits (numbers_of s) → parse_line (step_text s) ≡ Some s
 unfolding parse_line
 reads_back s fits = ap alone (ap step (sym (append-nil (step_text s))) ∙ step_back s fits [] tt)

@@ -1,12 +1,10 @@
 -- The grammar of a line of the step file, read from left to right: each definition gives what it finds at the front
 -- of a list of bytes, and the bytes that follow it.
-use Rattle.std.specs.Prelude.{ℕ, ◌+◌, ◌-◌, ◌*◌, ◌^◌, Bool, true, false, cond, ◌&&◌, List, [], ◌∷◌, eqb, leb, ltb}
+use Rattle.std.specs.Prelude.{ℕ, ◌+◌, ◌-◌, ◌*◌, ◌^◌, Bool, true, false, cond, ◌&&◌, List, [], ◌∷◌, Option, Some, None, eqb, leb, ltb}
 use Rattle.records.specs.declared.record.Mode.TheVariants.{Read as ForRead, Write as ForWrite}
 use Rattle.protocol.specs.declared.step.Step.{Step}
 use Rattle.protocol.specs.declared.step.Step.TheVariants.{Open, Close, Read, Write, Flush, Answer, Crash, Report, End}
 use Rattle.protocol.specs.declared.step.Step.TheVariants.{Restart, Embargo, Lift}
-use Rattle.stepfile.specs.declared.parsed.Parsed.{Parsed}
-use Rattle.stepfile.specs.declared.parsed.Parsed.TheVariants.{Is, NoStep}
 use Rattle.stepfile.specs.Text.{bytes}
 
 -- what stands at the front of a list, with the rest of the list
@@ -105,10 +103,10 @@ step (a ∷ []) = nothing
 step (a ∷ b ∷ l) = shaped (shape_of a b) l
 
 -- a line is a step if nothing follows the step
-abbrev pub alone : Reading Step → Parsed
-alone (found s []) = Is s
-alone (found s (b ∷ l)) = NoStep
-alone nothing = NoStep
+abbrev pub alone : Reading Step → Option Step
+alone (found s []) = Some s
+alone (found s (b ∷ l)) = None
+alone nothing = None
 
-unfoldable pub parse_line : List ℕ → Parsed
+unfoldable pub parse_line : List ℕ → Option Step
 parse_line l = alone (step l)

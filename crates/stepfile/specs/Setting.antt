@@ -1,11 +1,15 @@
 -- The settings line: "a first line SET with the three numbers" (document 02, Wish 7), and "a fourth setting, 512 if not
 -- given" (Wish 13).
-use Rattle.std.specs.Prelude.{ℕ, Bool, cond, ◌&&◌, List, [], ◌∷◌, eqb, get_or, drop}
+use Rattle.std.specs.Prelude.{ℕ, Bool, cond, ◌&&◌, List, [], ◌∷◌, Result, Ok, Err, eqb, get_or, drop}
 use Rattle.sizes.specs.declared.sizes.Sizes.{Sizes}
 use Rattle.sizes.specs.Sizes.{max_places, are_permitted}
-use Rattle.stepfile.specs.declared.setting.Setting.{Setting}
-use Rattle.stepfile.specs.declared.setting.Setting.TheVariants.{Are, OutOfRange, Missing}
+use Rattle.stepfile.specs.declared.setting.NoSizes.{NoSizes}
+use Rattle.stepfile.specs.declared.setting.NoSizes.TheVariants.{OutOfRange, Missing}
 use Rattle.stepfile.specs.Grammar.{Reading, found, nothing, onward, argument}
+
+-- what a line gives as settings
+abbrev pub Setting : Type 0
+Setting = Result Sizes NoSizes
 
 -- the word, as ASCII
 abbrev pub begins_with_set : List ℕ → Bool
@@ -30,9 +34,9 @@ sizes_at l =
 
 -- "19 when a setting lies outside its range"; a line with anything after its numbers is no settings line
 abbrev pub settled : Reading Sizes → Setting
-settled (found z []) = cond (are_permitted z) (Are z) OutOfRange
-settled (found z (b ∷ l)) = Missing
-settled nothing = Missing
+settled (found z []) = cond (are_permitted z) (Ok z) (Err OutOfRange)
+settled (found z (b ∷ l)) = Err Missing
+settled nothing = Err Missing
 
 unfoldable pub setting_of : List ℕ → Setting
-setting_of l = cond (begins_with_set l) (settled (sizes_at (drop 3 l))) Missing
+setting_of l = cond (begins_with_set l) (settled (sizes_at (drop 3 l))) (Err Missing)

@@ -6,5 +6,5 @@
 mod parsed;
 mod setting;
 
-pub use parsed::{Parsed, Read};
-pub use setting::Setting;
+pub use parsed::Line;
+pub use setting::{NoSizes, Setting};

@@ -1,18 +1,10 @@
 // What reading a line gives.
 use protocol::Step;
 
-// What a line gives.
+// What stands at an offset of an input that has an LF from there on: the step of the line, if it is one, and the offset
+// past its LF.
 #[derive(Clone, Copy)]
-pub enum Parsed {
-    Is(Step),
-    NoStep,
-}
-
-// What stands at an offset of an input.
-#[derive(Clone, Copy)]
-pub enum Read {
-    // A line: what it gives, and the offset past its LF.
-    Line { parsed: Parsed, next: usize },
-    // No LF from the offset on.
-    Part,
+pub struct Line {
+    pub step: Option<Step>,
+    pub next: usize,
 }

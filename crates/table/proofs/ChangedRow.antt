@@ -4,9 +4,7 @@ use Prim.Native.Nat.{ℕ, ◌+◌, ◌*◌, ◌<◌, ◌≤◌}
 use mathlib.Core.Path.{◌≡◌, refl, sym, ap, ◌∙◌, subst, subst⁻¹}
 use mathlib.Core.Bool.{Bool, true, false, cond}
 use mathlib.Core.List.{List}
-use mathlib.Core.Logic.{◌≢◌, ⊎_elim}
-use native.Mathlib.Nat.{eq-or-lt_of_le, le_of_suc-le-suc}
-use native.Mathlib.Numerals.{add-one}
+use mathlib.Core.Logic.{◌≢◌}
 use native.Mathlib.Omega.{arith}
 use lib.Dec.{leb}
 use lib.ListN.{length, set, length-set}
@@ -28,40 +26,6 @@ use Rattle.words.proofs.Changing.{stored_three, reported_held_lem}
 use Rattle.words.proofs.Listing.{length_listed, get_d_listed}
 use Rattle.words.proofs.Places.{stored_there, stored_beside, stored_elsewhere}
 use Rattle.table.specs.Swept.{Cleared, PutsEntry}
-
-module _ {f : ℕ} {t₀ : List ℕ} where
-  pub cleared_none : Cleared f t₀ t₀ 0
-  cleared_none =
-      record {
-        long = refl;
-        cleared = λ j h. absurd (omega arith);
-        head = refl;
-        past = λ j h. refl;
-        beside = λ g j off h. refl;
-      }
-
-  pub cleared_more :
-      {t : List ℕ} {i : ℕ}
-      → f * row_words + (2 + i) < length t₀
-      → i < max_clients
-      → Cleared f t₀ t i
-      → Cleared f t₀ (set t (f * row_words + (2 + i)) 0) (i + 1)
-  cleared_more {t} {i} there more c =
-      record {
-        long = length-set t (f * row_words + (2 + i)) 0 ∙ c.long;
-        cleared =
-            λ j h.
-            ⊎_elim
-            (λ (e : j ≡ i). rw e (stored_there t f (2 + i) 0 (omega (arith, there, c.long))))
-            (λ (less : j < i). stored_beside t f (2 + i) 0 (2 + j) (λ e. omega arith) ∙ c.cleared j less)
-            (eq-or-lt_of_le (le_of_suc-le-suc (rw add-one at h)));
-        head = stored_beside t f (2 + i) 0 1 (λ e. omega arith) ∙ c.head;
-        past = λ j h. stored_beside t f (2 + i) 0 j (λ e. omega arith) ∙ c.past j (omega arith);
-        beside = λ g j off h. stored_elsewhere t f (2 + i) 0 g j (omega arith) h off ∙ c.beside g j off h;
-      }
-
-  pub cleared_all : {n m : ℕ} {t : List ℕ} → n ≤ m → m ≤ n → Cleared f t₀ t n → Cleared f t₀ t m
-  cleared_all {n} {m} {t} a b c = let same : n ≡ m = omega arith in subst (λ (k : ℕ). Cleared f t₀ t k) same c
 
 -- a list by place of which the first n are alike
 pub listed_filled {ℓ} :

@@ -7,6 +7,6 @@ mod sweeping;
 mod table;
 
 pub use recovery::{Recovery, RecoveryOutcome, Sweep};
-pub use refusal::report_refusal;
+pub use refusal::{end_refusal, report_refusal};
 pub use sweeping::{crash_rows, report_rows};
 pub use table::{Table, TableOutcome};

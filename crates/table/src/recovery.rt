@@ -72,9 +72,8 @@ impl Recovery {
     {
         let reports = self.reported;
         let embargoed = self.embargoed;
-        let refusal = end_refusal(sizes, self.recovering, reports, embargoed);
-        if refusal != 0 {
-            return self.kept(Reply::Refused(refusal));
+        if let Err(refusal) = end_refusal(sizes, self.recovering, reports, embargoed) {
+            return self.kept(Reply::from(refusal));
         }
         let ended = Recovery {
             recovering: false,
@@ -90,10 +89,6 @@ fn without_reports(mut reports: [bool; MAX_CLIENTS], clients: usize) -> [bool; M
     requires { clients ≤ max_clients }
     ensures { result ≡ filled clients false reports }
 {
-    let mut i = 0;
-    while i < clients {
-        reports[i] = false;
-        i += 1;
-    }
+    reports[..clients].fill(false);
     reports
 }

@@ -1,12 +1,13 @@
-// The refusals of a report and of the end of a recovery: each function tests exactly its own numbers, lowest first; 0
-// is none.
+// The refusals of a report and of the end of a recovery: each function tests exactly its own, in the order
+// in which they are tested.
 ghost use Rattle.std.specs.Prelude.{◌≡◌, false, ◌≤◌};
 ghost use Rattle.sizes.specs.Sizes.{max_clients, Permitted};
 ghost use Rattle.decision.specs.Lists.{first_of};
+ghost use Rattle.protocol.specs.Refused.{refusal_in};
 ghost use Rattle.table.specs.TableStep.{missing, report_tests, end_tests};
 
-use decision::one_if;
-use protocol::{NO_CLIENT, NOT_IN_RECOVERY, REPORT_MISSING, REPORTED, UNDER_EMBARGO, refused_if};
+use decision::count_below;
+use protocol::{Refusal, refuse_if};
 use sizes::{MAX_CLIENTS, Sizes};
 
 // The tests of a report that do not look at the table, as flags of the client and the server.
@@ -16,13 +17,13 @@ pub fn report_refusal(
     recovering: bool,
     reported: bool,
     client: usize,
-) -> u8
-    ensures { result ≡ first_of (report_tests sizes embargoed recovering reported false client) }
+) -> Result<(), Refusal>
+    ensures { refusal_in result ≡ first_of (report_tests sizes embargoed recovering reported false client) }
 {
-    let again = refused_if(reported, REPORTED, 0);
-    let running = refused_if(!recovering, NOT_IN_RECOVERY, again);
-    let aside = refused_if(embargoed, UNDER_EMBARGO, running);
-    refused_if(sizes.clients <= client, NO_CLIENT, aside)
+    refuse_if(sizes.clients <= client, Refusal::NoClient)?;
+    refuse_if(embargoed, Refusal::UnderEmbargo)?;
+    refuse_if(!recovering, Refusal::NotInRecovery)?;
+    refuse_if(reported, Refusal::Reported)
 }
 
 pub fn end_refusal(
@@ -30,13 +31,13 @@ pub fn end_refusal(
     recovering: bool,
     reported: [bool; MAX_CLIENTS],
     embargoed: [bool; MAX_CLIENTS],
-) -> u8
+) -> Result<(), Refusal>
     requires { Permitted sizes }
-    ensures { result ≡ first_of (end_tests sizes recovering reported embargoed) }
+    ensures { refusal_in result ≡ first_of (end_tests sizes recovering reported embargoed) }
 {
+    refuse_if(!recovering, Refusal::NotInRecovery)?;
     let left = count_missing(reported, embargoed, sizes.clients);
-    let waiting = refused_if(0 < left, REPORT_MISSING, 0);
-    refused_if(!recovering, NOT_IN_RECOVERY, waiting)
+    refuse_if(0 < left, Refusal::ReportMissing)
 }
 
 // How many of the clients the server has still to hear.
@@ -48,11 +49,5 @@ fn count_missing(
     requires { clients ≤ max_clients }
     ensures { result ≡ missing clients reported embargoed }
 {
-    let mut count: usize = 0;
-    let mut i = 0;
-    while i < clients {
-        count += one_if(!(reported[i] | embargoed[i]));
-        i += 1;
-    }
-    count
+    count_below(clients, |i| !(reported[i] | embargoed[i]))
 }

@@ -9,52 +9,18 @@ ghost use Rattle.table.specs.Swept.{Cleared, PutsEntry, Sweeps};
 
 use protocol::NOBODY;
 use records::Mode;
-use sizes::{MAX_CLIENTS, Sizes};
+use sizes::Sizes;
 use words::{ROW, WORDS, calls_past, head_word, version_of, with_last};
 
-// None of the clients has the file open, one after the other.
-fn clear_each(clients: usize, f: usize, table: &mut [u64; WORDS])
-    requires clients_le_max_clients { clients ≤ max_clients }
-    requires f_lt_max_files { f < max_files }
-    requires table_len { length table.old ≡ table_words }
-    ensures { Cleared f table.old table.new clients }
-{
-    let row = f * ROW;
-    let mut i: usize = 0;
-    while i < clients {
-        table[row + (2 + i)] = 0;
-        i += 1;
-    }
-}
-
-// None of eight clients has the file open.
-fn clear_eight(f: usize, table: &mut [u64; WORDS])
-    requires f_lt_max_files { f < max_files }
-    requires table_len { length table.old ≡ table_words }
-    ensures { Cleared f table.old table.new 8 }
-{
-    let row = f * ROW;
-    table[row + 2] = 0;
-    table[row + 3] = 0;
-    table[row + 4] = 0;
-    table[row + 5] = 0;
-    table[row + 6] = 0;
-    table[row + 7] = 0;
-    table[row + 8] = 0;
-    table[row + 9] = 0;
-}
-
+// None of the clients has the file open.
 fn clear_records(clients: usize, f: usize, table: &mut [u64; WORDS])
     requires clients_le_max_clients { clients ≤ max_clients }
     requires f_lt_max_files { f < max_files }
     requires table_len { length table.old ≡ table_words }
     ensures { Cleared f table.old table.new clients }
 {
-    if clients == MAX_CLIENTS {
-        clear_eight(f, table);
-    } else {
-        clear_each(clients, f, table);
-    }
+    let first = f * ROW + 2;
+    table[first..first + clients].fill(0);
 }
 
 // Of one file's entry only the version survives.
@@ -74,6 +40,8 @@ fn crash_row(clients: usize, f: usize, table: &mut [u64; WORDS])
     table[row + 18] = calls_past(calls, clients);
 }
 
+// Of every entry in force only the version survives.
+// Stays: no one function over a closure with the one below, for each is a loop of one call.
 pub fn crash_rows(sizes: Sizes, table: &mut [u64; WORDS])
     requires permitted { Permitted sizes }
     requires table_len { length table.old ≡ table_words }
@@ -81,10 +49,8 @@ pub fn crash_rows(sizes: Sizes, table: &mut [u64; WORDS])
         (λ f. crashed_entry sizes.clients (entry_held table.old f))
         table.old table.new }
 {
-    let mut f = 0;
-    while f < sizes.files {
+    for f in 0..sizes.files {
         crash_row(sizes.clients, f, table);
-        f += 1;
     }
 }
 
@@ -131,9 +97,7 @@ pub fn report_rows(sizes: Sizes, client: usize, table: &mut [u64; WORDS])
         (side_of (sides_held table.old f) client))
         table.old table.new }
 {
-    let mut f = 0;
-    while f < sizes.files {
+    for f in 0..sizes.files {
         report_row(client, f, table);
-        f += 1;
     }
 }

@@ -1,17 +1,15 @@
 -- One line more: what a loop over a buffer has told and written, line by line. Assumes nothing.
 use Prim.Native.Nat.{ℕ, ◌+◌, ◌-◌, ◌≤◌, ◌<◌}
 use mathlib.Core.Path.{◌≡◌, refl, sym, ap, subst, ◌∙◌}
-use mathlib.Core.Bool.{Bool, true, false, false≢true, true≢false}
+use mathlib.Core.Bool.{true, false, false≢true, true≢false}
 use mathlib.Core.List.{List, [], ◌++◌}
 use native.Mathlib.Omega.{arith}
 use lib.Dec.{leb, ltb}
 use lib.ListN.{length, take, drop}
 use borrow.Author.Tests.{leb-true, ltb-true}
-use Rattle.stepfile.specs.declared.parsed.Parsed.{Parsed}
-use Rattle.stepfile.specs.declared.parsed.Read.{Read}
-use Rattle.stepfile.specs.declared.parsed.Read.TheVariants.{Line, Part}
+use Rattle.stepfile.specs.declared.parsed.Line.{Line}
 use Rattle.stepfile.specs.Grammar.{Reading, found, nothing, parse_line}
-use Rattle.stepfile.specs.Input.{first_line, line_read, read_at, whole_lines}
+use Rattle.stepfile.specs.Input.{first_line, line_read, read_at, whole_lines, line_of}
 use Rattle.stepfile.specs.Transcript.{lines, transcript}
 use Rattle.sizes.proofs.Choosing.{and_left, and_right}
 use Rattle.stepfile.proofs.FirstLines.{whole_none}
@@ -21,13 +19,20 @@ use Rattle.telling.specs.Lines.{Telling, Reach, Tells, last_number, is_number, c
 use Rattle.telling.specs.Reached.{At, Reached}
 use Rattle.telling.proofs.Reaching.{LineAt, line_at, at_start, at_next, transcript-next, reach_next, reach_full, reach_none}
 use Rattle.telling.proofs.Resting.{no_lf}
+use Rattle.protocol.specs.declared.step.Step.{Step}
+use Rattle.std.proofs.Common.{Option, Some, None, is_some}
 
-abbrev is_line : Read → Bool
-is_line (Line p next) = true
-is_line Part = false
+-- of a line that was read
+abbrev step_in : Option Line → Option Step
+step_in (Some line) = line.step
+step_in None = None
+
+abbrev next_in : Option Line → ℕ
+next_in (Some line) = line.next
+next_in None = 0
 
 -- a line that was read at an offset
-pub record ReadLine (input : List ℕ) (used : ℕ) (p : Parsed) (next : ℕ) : Type 0 where
+pub record ReadLine (input : List ℕ) (used : ℕ) (p : Option Step) (next : ℕ) : Type 0 where
   pub line : List ℕ
   pub rest : List ℕ
   pub first : first_line (drop used input) ≡ found line rest
@@ -35,27 +40,27 @@ pub record ReadLine (input : List ℕ) (used : ℕ) (p : Parsed) (next : ℕ) : 
   pub at : LineAt input used line next
   pub offset : used + length line + 1 ≡ next
 
-pub read_line : (input : List ℕ) (used : ℕ) (p : Parsed) (next : ℕ) → used ≤ length input
-    → read_at input used ≡ Line p next → ReadLine input used p next
+pub read_line : (input : List ℕ) (used : ℕ) (p : Option Step) (next : ℕ) → used ≤ length input
+    → read_at input used ≡ line_of p next → ReadLine input used p next
 read_line input used p next h e = from (first_line (drop used input)) refl e
   where
-    from : (t : Reading (List ℕ)) → first_line (drop used input) ≡ t → line_read parse_line used t ≡ Line p next → ReadLine input used p next
+    from : (t : Reading (List ℕ)) → first_line (drop used input) ≡ t → line_read parse_line used t ≡ line_of p next → ReadLine input used p next
     from (found l r) q f =
-        let gives : parse_line l ≡ p = cc in
-        let offset : used + length l + 1 ≡ next = cc in
+        let gives : parse_line l ≡ p = ap step_in f in
+        let offset : used + length l + 1 ≡ next = ap next_in f in
         record { line = l; rest = r; first = q; gives = gives; at = line_at input used h l r next offset q; offset = offset }
-    from nothing q f = absurd (false≢true (ap is_line f))
+    from nothing q f = absurd (false≢true (ap is_some f))
 
 -- fewer bytes are left past it
-pub fewer : (input : List ℕ) (used : ℕ) (p : Parsed) (next : ℕ) → ReadLine input used p next → length input - next < length input - used
+pub fewer : (input : List ℕ) (used : ℕ) (p : Option Step) (next : ℕ) → ReadLine input used p next → length input - next < length input - used
 fewer input used p next read = omega (arith, read.at.later, read.at.inside)
 
 -- no line was read: no whole line is left
-no_line : (input : List ℕ) (used : ℕ) → read_at input used ≡ Part → whole_lines (drop used input) ≡ []
+no_line : (input : List ℕ) (used : ℕ) → read_at input used ≡ None → whole_lines (drop used input) ≡ []
 no_line input used e = from (first_line (drop used input)) refl e
   where
-    from : (t : Reading (List ℕ)) → first_line (drop used input) ≡ t → line_read parse_line used t ≡ Part → whole_lines (drop used input) ≡ []
-    from (found l r) q f = absurd (true≢false (ap is_line f))
+    from : (t : Reading (List ℕ)) → first_line (drop used input) ≡ t → line_read parse_line used t ≡ None → whole_lines (drop used input) ≡ []
+    from (found l r) q f = absurd (true≢false (ap is_some f))
     from nothing q f = whole_none (drop used input) (no_lf (drop used input) q)
 
 -- another line can be told: there is room for it, and its number is one
@@ -92,9 +97,9 @@ module _ {S : Type 0} (t : Telling S) (s : S) (n : ℕ) (input out : List ℕ) w
 
   -- the line is told, and the state after it is y
   pub one_more :
-      (x : S) (number used to : ℕ) (out₁ : List ℕ) (p : Parsed) (next : ℕ) (y : S) (text : List ℕ) (to' : ℕ) (out₂ : List ℕ)
+      (x : S) (number used to : ℕ) (out₁ : List ℕ) (p : Option Step) (next : ℕ) (y : S) (text : List ℕ) (to' : ℕ) (out₂ : List ℕ)
       → Reached t s n input out x number used to out₁
-      → read_at input used ≡ Line p next
+      → read_at input used ≡ line_of p next
       → can_tell t.room (length out₁) to number ≡ true
       → ((l : List ℕ) → LineAt input used l next → parse_line l ≡ p → (y ≡ t.next x number l) × (text ≡ t.say x number l))
       → WroteIfRoom t.room out₁ to text out₂ to'
@@ -149,7 +154,7 @@ module _ {S : Type 0} (t : Telling S) (s : S) (n : ℕ) (input out : List ℕ) w
         (ap (λ (k : ℕ). can_tell t.room k to number) (sym same) ∙ cannot))
         ∙ w.on)
 
-    pub stops-whole : read_at input used ≡ Part → Tells t s n input out (stopped_at x number used to) out₁
+    pub stops-whole : read_at input used ≡ None → Tells t s n input out (stopped_at x number used to) out₁
     stops-whole e =
         tells
         (sym

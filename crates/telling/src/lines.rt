@@ -6,11 +6,5 @@ ghost use Rattle.telling.specs.Lines.{can_tell};
 pub fn can_tell(need: usize, room: usize, to: usize, number: u64) -> bool
     ensures { result ≡ can_tell need room to number }
 {
-    if room < need {
-        return false;
-    }
-    if room - need < to {
-        return false;
-    }
-    (0 < number) & (number < u64::MAX)
+    need <= room && to <= room - need && 0 < number && number < u64::MAX
 }

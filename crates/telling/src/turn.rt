@@ -8,7 +8,7 @@ pub fn least(a: usize, b: usize) -> usize
     ensures value { result ≡ smaller a b }
     ensures upper_bound { result ≤ b }
 {
-    if a < b { a } else { b }
+    a.min(b)
 }
 
 // A line of this length or more is no step and sets nothing, so that no more of it need be kept.
@@ -19,9 +19,10 @@ pub fn kept_of(is_one_line: bool, left: usize) -> usize
     ensures { result ≡ kept_of is_one_line left }
 {
     if is_one_line {
-        return least(left, NO_STEP);
+        least(left, NO_STEP)
+    } else {
+        left
     }
-    left
 }
 
 // Moves so many bytes from the offset to the start of the buffer.
@@ -29,11 +30,7 @@ pub fn move_down(buffer: &mut [u8], from: usize, count: usize)
     requires { from + count ≤ length buffer.old }
     ensures { buffer.new ≡ paste buffer.old 0 (drop from buffer.old) count }
 {
-    let mut i = 0;
-    while i < count {
-        buffer[i] = buffer[from + i];
-        i += 1;
-    }
+    buffer.copy_within(from..from + count, 0);
 }
 
 // How many bytes of the buffer there are to tell: the rest, and what was read after it; at the end of the input an LF
@@ -57,10 +54,7 @@ fn complete_line(buffer: &mut [u8], rest: usize) -> usize
     ensures buffer_after { buffer.new ≡ completed_buffer buffer.old rest }
     ensures value { result ≡ completed_count buffer.old rest }
 {
-    if rest == 0 {
-        return rest;
-    }
-    if buffer.len() <= rest {
+    if rest == 0 || buffer.len() <= rest {
         return rest;
     }
     buffer[rest] = b'\n';
@@ -71,8 +65,5 @@ fn complete_line(buffer: &mut [u8], rest: usize) -> usize
 fn sum_within(a: usize, b: usize, most: usize) -> usize
     ensures { result ≡ smaller (a + b) most }
 {
-    if most <= a {
-        return most;
-    }
-    a + least(b, most - a)
+    least(a.saturating_add(b), most)
 }

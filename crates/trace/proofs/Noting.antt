@@ -1,6 +1,6 @@
 -- The records of a line, noted one after the other: each is stored after those that count, and counts itself or is
 -- stored over. Assumes nothing.
-use Prim.Native.Nat.{ℕ, ◌+◌, ◌-◌, ◌≤◌, ◌<◌}
+use Prim.Native.Nat.{ℕ, ◌+◌, ◌≤◌, ◌<◌}
 use mathlib.Core.Path.{◌≡◌, refl, sym, ap, ◌∙◌, subst}
 use mathlib.Core.Bool.{Bool, true, false, cond, not}
 use mathlib.Core.List.{List, [], ◌∷◌, ◌++◌, append-nil, append_assoc}
@@ -15,8 +15,9 @@ use Rattle.sizes.specs.Sizes.{max_clients, nobody}
 use Rattle.decision.specs.Callback.{ordered_calls, call_if}
 use Rattle.protocol.specs.declared.reply.Granting.{Granting}
 use Rattle.protocol.specs.declared.reply.Reply.{Reply}
-use Rattle.protocol.specs.declared.step.Numbers.{Numbers}
+use Rattle.protocol.specs.declared.step.Step.{Step}
 use Rattle.protocol.specs.Reply.{brought, no_granting}
+use Rattle.protocol.specs.Step.{client_of}
 use Rattle.words.specs.Said.{calls?, letter_said, calls_said}
 use Rattle.trace.specs.declared.record.TraceKind.TheVariants.{Open, Sent, Call}
 use Rattle.trace.specs.declared.record.TraceOutcome.TheVariants.{Done}
@@ -135,19 +136,16 @@ module _
 
     -- one more block that was sent
     pub sent-more :
-        (station : ℕ)
-        → 1 ≤ count
+        (station turns : ℕ)
         → v ≡ noted station Sent Done
-        → Noting records₀ count₀ (count - 1) records count (replicate (count - 1) (noted station Sent Done))
-        → Noting records₀ count₀ (count + 1 - 1) (set records count v) (count + 1) (replicate (count + 1 - 1) (noted station Sent Done))
-    sent-more station some is so =
-        let next : count - 1 + 1 ≡ count + 1 - 1 = omega arith in
+        → Noting records₀ count₀ turns records count (replicate turns (noted station Sent Done))
+        → Noting records₀ count₀ (turns + 1) (set records count v) (count + 1) (replicate (turns + 1) (noted station Sent Done))
+    sent-more station turns is so =
         let x : TraceRecord = noted station Sent Done in
-        let alike : replicate (count - 1) x ++ (v ∷ []) ≡ replicate (count - 1 + 1) x =
-        ap (λ (r : TraceRecord). replicate (count - 1) x ++ (r ∷ [])) is ∙ replicate-append-replicate (count - 1) 1 x in
-        subst (λ n. Noting records₀ count₀ n (set records count v) (count + 1) (replicate n x)) next
-        (subst (λ (l : List TraceRecord). Noting records₀ count₀ (count - 1 + 1) (set records count v) (count + 1) l) alike
-        (noting-more (count - 1) (replicate (count - 1) x) true 1 so refl))
+        let alike : replicate turns x ++ (v ∷ []) ≡ replicate (turns + 1) x =
+        ap (λ (r : TraceRecord). replicate turns x ++ (r ∷ [])) is ∙ replicate-append-replicate turns 1 x in
+        subst (λ (l : List TraceRecord). Noting records₀ count₀ (turns + 1) (set records count v) (count + 1) l) alike
+        (noting-more turns (replicate turns x) true 1 so refl)
 
     -- the next station, called or not
     pub call-more :
@@ -202,11 +200,11 @@ all_noted own sents calls answered beside first sent called whole is-first is-se
 
 -- they are the records of the step
 pub all_meant :
-    (stations : ℕ) (x : Numbers) (itself : Bool) (reply : Reply) (kinds : List ℕ) (grants : List Granting) (own : TraceRecord)
+    (stations : ℕ) (x : Step) (itself : Bool) (reply : Reply) (kinds : List ℕ) (grants : List Granting) (own : TraceRecord)
     (sents calls answered beside : List TraceRecord)
     → names_station stations x ≡ true
-    → own ≡ noted x.client (kind_of x.kind) (outcome_of itself reply)
-    → sents ≡ replicate (sent_by x.kind itself reply) (noted x.client Sent Done)
+    → own ≡ noted (client_of x) (kind_of x) (outcome_of itself reply)
+    → sents ≡ replicate (sent_by x itself reply) (noted (client_of x) Sent Done)
     → calls ≡ call_records (ordered_calls max_clients kinds)
     → answered ≡ open_records (brought reply)
     → beside ≡ open_records grants

@@ -5,7 +5,7 @@ use Prim.Native.Nat.{ℕ, zero, suc, ◌+◌, ◌%◌, ◌≤◌, ◌<◌}
 use native.Mathlib.Nat.{mod-eq_of_lt, min-le_left}
 use native.Mathlib.Omega.{arith}
 use mathlib.Core.Path.{◌≡◌, refl, sym, ap, ap₂, subst⁻¹, ◌∙◌}
-use mathlib.Core.Bool.{Bool, true, false, cond, not, ◌&&◌, ◌||◌}
+use mathlib.Core.Bool.{Bool, true, false, cond, not, ◌||◌}
 use mathlib.Core.List.{List, [], ◌∷◌, ◌++◌}
 use lib.Dec.{eqb}
 use lib.ListN.{length, get_or, replicate, length-append, length-take, length-replicate}
@@ -21,17 +21,16 @@ use Rattle.protocol.specs.declared.client.Sides.{Sides}
 use Rattle.protocol.specs.declared.reply.Granting.{Granting}
 use Rattle.protocol.specs.declared.reply.Reply.{Reply}
 use Rattle.protocol.specs.declared.reply.Reply.TheVariants as replies
-use Rattle.protocol.specs.declared.step.Numbers.{Numbers}
 use Rattle.protocol.specs.declared.step.Step.{Step}
 use Rattle.protocol.specs.declared.step.Step.TheVariants.{Open, Close, Read, Write, Flush, Answer, Crash, Report, End}
 use Rattle.protocol.specs.declared.step.Step.TheVariants.{Restart, Embargo, Lift}
 use Rattle.protocol.specs.Client.{no_client, side_of}
 use Rattle.protocol.specs.Entry.{call_to, calls_for, calls_out, answered_entry}
-use Rattle.protocol.specs.Client.{write_needs_server}
 use Rattle.protocol.specs.Needs.{needs_server}
 use Rattle.protocol.specs.Reply.{is_refused, brought, no_granting, no_grants, placed}
-use Rattle.protocol.specs.Step.{by_mode, five, numbers_of, kinds, client_of, file_of, block_of}
-use Rattle.blocks.specs.Stores.{Stores, sent_blocks, dirty_in}
+use Rattle.protocol.specs.Step.{client_of, file_of, block_of}
+use Rattle.blocks.specs.declared.stores.Stores.{Stores}
+use Rattle.blocks.specs.Stores.{sent_blocks, dirty_in}
 use Rattle.table.specs.TableStep.{no_sides}
 use Rattle.words.specs.Words.{side_held}
 use Rattle.words.specs.Rows.{word_at, sides_held}
@@ -42,16 +41,16 @@ use Rattle.service.specs.declared.outcome.Outcome.{Outcome}
 use Rattle.service.specs.Contents.{sizes_of, entry_at, client_at, held_at, stores_of}
 use Rattle.service.specs.Embargo.{answering, put_aside, grants_aside}
 use Rattle.service.specs.Step.{step_of}
-use Rattle.service.specs.Lent.{service_held, outcome_asked, Stepped}
+use Rattle.service.specs.Lent.{service_held, Stepped}
 use Rattle.service.specs.Demand3.{refused}
-use Rattle.service.proofs.Tests.{split, conflict, unless, and_false}
+use Rattle.service.proofs.Tests.{split, conflict}
 use Rattle.service.proofs.Accepted.{done_of, refusal_of, accepted, rejected, when_accepted}
 use Rattle.service.proofs.Speaking.{stepped_outcome}
 use Rattle.trace.specs.declared.record.TraceKind.TheVariants.{Sent}
 use Rattle.trace.specs.declared.record.TraceOutcome.TheVariants.{Done}
-use Rattle.trace.specs.Counted.{is_counted}
 use Rattle.trace.specs.Records.{noted, names_station, sends_one, sent_by, call_records, open_record, open_records}
-use Rattle.trace.specs.Records.{records_of, serves_itself, itself_by, trace_of, trace_room}
+use Rattle.trace.specs.Records.{records_of, serves_itself, itself_found, trace_of, trace_room}
+use Rattle.std.proofs.Common.{Some}
 
 -- ---- what a station does itself
 
@@ -59,41 +58,15 @@ or_none_lem : (a : Bool) → (a || false) ≡ a
 or_none_lem true = refl
 or_none_lem false = refl
 
--- by the number of the kind, as by the step
-pub itself_so :
-    (x : Step) (own : ClientFile) (held : Bool) → itself_by (numbers_of x).kind own held ≡ not (needs_server x own held false)
-itself_so (Open ForRead i f) own held = refl
-itself_so (Open ForWrite i f) own held = refl
-itself_so (Close ForRead i f) own held = refl
-itself_so (Close ForWrite i f) own held = refl
-itself_so (Read i f b) own held = refl
-itself_so (Write i f b v) own held = ap not (sym (or_none_lem (write_needs_server own)))
-itself_so (Flush i f b) own held = refl
-itself_so (Answer i f) own held = refl
-itself_so Crash own held = refl
-itself_so (Report i) own held = refl
-itself_so End own held = refl
-itself_so (Restart i) own held = refl
-itself_so (Embargo i f) own held = refl
-itself_so (Lift i) own held = refl
-
--- only a read and a write: kinds 4 and 5
-pub never_itself :
-    (kind : ℕ) (own : ClientFile) (held : Bool)
-    → eqb kind 4 ≡ false
-    → eqb kind 5 ≡ false
-    → itself_by kind own held ≡ false
-never_itself kind own held no_read no_write = rw (no_read, no_write)
-
 -- the records of a refusal do not look at it
 pub refused_alike :
-    (stations : ℕ) (x : Numbers) (k : ℕ) (calls : List ℕ) (grants : List Granting) (a b : Bool)
+    (stations : ℕ) (x : Step) (k : ℕ) (calls : List ℕ) (grants : List Granting) (a b : Bool)
     → records_of stations x a (replies.Refused k) calls grants ≡ records_of stations x b (replies.Refused k) calls grants
 unfolding records_of
 refused_alike stations x k calls grants a b = refl
 
 pub refusal_alike :
-    (stations : ℕ) (x : Numbers) (reply : Reply) (calls : List ℕ) (grants : List Granting) (a b : Bool)
+    (stations : ℕ) (x : Step) (reply : Reply) (calls : List ℕ) (grants : List Granting) (a b : Bool)
     → is_refused reply ≡ true
     → records_of stations x a reply calls grants ≡ records_of stations x b reply calls grants
 refusal_alike stations x (replies.Granted g) calls grants a b e = conflict e refl
@@ -119,20 +92,20 @@ blocks_few n kind i f a fits =
 
 -- an embargo: none
 answering_few :
-    (kind : ℕ) (t : Bool) (s : Service) (gs : List Granting) → sent_by kind t (answering s gs).reply ≤ max_blocks
-answering_few kind t s [] = omega arith
-answering_few kind t s (g ∷ gs) = omega arith
+    (x : Step) (t : Bool) (s : Service) (gs : List Granting) → sent_by x t (answering s gs).reply ≤ max_blocks
+answering_few x t s [] = omega arith
+answering_few x t s (g ∷ gs) = omega arith
 
 -- what is done, where z are the sizes in force
 done_few :
     (z : Sizes) (s : Service) (x : Step) (t : Bool)
     → z.blocks ≤ max_blocks
-    → sent_by (numbers_of x).kind t (done_of z s x).reply ≤ max_blocks
+    → sent_by x t (done_of z s x).reply ≤ max_blocks
 done_few z s (Open m i f) t fits =
     split (eqb (calls_for z.clients (entry_at s f) i m) 0) (λ e. rw e (omega arith)) (λ e. rw e (omega arith))
-done_few z s (Close m i f) t fits = one_few (sends_one (by_mode m 2 3) t)
+done_few z s (Close m i f) t fits = one_few (sends_one (Close m i f) t)
 done_few z s (Read i f b) t fits = omega arith
-done_few z s (Write i f b v) t fits = one_few (sends_one 5 t)
+done_few z s (Write i f b v) t fits = one_few (sends_one (Write i f b v) t)
 done_few z s (Flush i f b) t fits = omega arith
 done_few z s (Answer i f) t fits =
     let kind = call_to z.clients (entry_at s f) i in
@@ -142,12 +115,12 @@ done_few z s Crash t fits = omega arith
 done_few z s (Report i) t fits = omega arith
 done_few z s End t fits = omega arith
 done_few z s (Restart i) t fits = omega arith
-done_few z s (Embargo i f) t fits = answering_few 12 t (put_aside z s i) (grants_aside z s i)
+done_few z s (Embargo i f) t fits = answering_few (Embargo i f) t (put_aside z s i) (grants_aside z s i)
 done_few z s (Lift i) t fits = omega arith
 
-pub sent_few : (s : Service) (x : Step) (t : Bool) → sent_by (numbers_of x).kind t (step_of s x).reply ≤ max_blocks
+pub sent_few : (s : Service) (x : Step) (t : Bool) → sent_by x t (step_of s x).reply ≤ max_blocks
 sent_few s x t =
-    let Few : Outcome → Type 0 = λ o. sent_by (numbers_of x).kind t o.reply ≤ max_blocks in
+    let Few : Outcome → Type 0 = λ o. sent_by x t o.reply ≤ max_blocks in
     split (eqb (refusal_of s x) 0)
     (λ e. subst⁻¹ Few (accepted s x e) (done_few (sizes_of s) s x t (in_force_permitted s.sizes).blocks))
     (λ e. subst⁻¹ Few (rejected s x e) (omega arith))
@@ -159,7 +132,7 @@ abbrev found_itself : Service → Step → Bool
 found_itself s x =
     let i = client_of x % max_clients in
     let f = file_of x % max_files in
-    itself_by (numbers_of x).kind (client_at s i f) (held_at s i f (block_of x % max_blocks))
+    not (needs_server x (client_at s i f) (held_at s i f (block_of x % max_blocks)) false)
 
 module _ (s : Service) where
   same_client : (i : ℕ) → i < (sizes_of s).clients → i % max_clients ≡ i
@@ -184,8 +157,7 @@ module _ (s : Service) where
       refl
   found_itself_lem (Write i f b v) a =
       let (client, (file, _)) = (when_accepted s (Write i f b v) refl a).0 in
-      rw (same_client i (leb-false _ i client), same_file f (leb-false _ f file))
-      (ap not (sym (or_none_lem (write_needs_server (client_at s i f)))))
+      rw (same_client i (leb-false _ i client), same_file f (leb-false _ f file)) refl
   found_itself_lem (Flush i f b) a = refl
   found_itself_lem (Answer i f) a = refl
   found_itself_lem Crash a = refl
@@ -198,17 +170,17 @@ module _ (s : Service) where
   -- so the trace goes by what is found
   found_traced :
       (x : Step)
-      → records_of (sizes_of s).clients (numbers_of x) (found_itself s x) (step_of s x).reply (step_of s x).calls
+      → records_of (sizes_of s).clients x (found_itself s x) (step_of s x).reply (step_of s x).calls
       (step_of s x).grants
       ≡ trace_of s x
   found_traced x =
       let o = step_of s x in
       split (refused s x)
       (λ e.
-      refusal_alike (sizes_of s).clients (numbers_of x) o.reply o.calls o.grants (found_itself s x)
+      refusal_alike (sizes_of s).clients x o.reply o.calls o.grants (found_itself s x)
       (serves_itself s x) e)
       (λ e.
-      ap (λ t. records_of (sizes_of s).clients (numbers_of x) t o.reply o.calls o.grants) (found_itself_lem x e))
+      ap (λ t. records_of (sizes_of s).clients x t o.reply o.calls o.grants) (found_itself_lem x e))
 
 -- ---- a line
 
@@ -222,72 +194,39 @@ side_there z t flags a i f client file =
     sym (get_d_listed max_clients (λ j. side_held (word_at t f (10 + j))) no_client i client)
     ∙ ap (λ (d : Sides). side_of d i) (sym (get_d_listed max_files (λ g. sides_held t g) no_sides f file))
 
--- what the code finds of five numbers
-abbrev pub itself_held : List ℕ → Stores → Numbers → Bool
-itself_held t a q =
-    itself_by q.kind (side_held (word_at t (q.file % max_files) (10 + q.client % max_clients)))
-    (get_or a.held (cell (q.client % max_clients) (q.file % max_files) (q.block % max_blocks)) false)
-
--- of a step: what is found in the service that the arrays hold
+-- of a step: what is found in the service that is held
 itself_there :
     (given : Sizes) (x : Step) (t₀ : List ℕ) (flags₀ : List Bool) (a₀ : Stores)
-    → itself_held t₀ a₀ (numbers_of x) ≡ found_itself (service_held given t₀ flags₀ a₀) x
+    → itself_found (Some x) t₀ a₀.held ≡ found_itself (service_held given t₀ flags₀ a₀) x
 itself_there given x t₀ flags₀ a₀ =
     let i = client_of x % max_clients in
     let f = file_of x % max_files in
     let held = get_or a₀.held (cell i f (block_of x % max_blocks)) false in
-    ap (λ (own : ClientFile). itself_by (numbers_of x).kind own held)
+    ap (λ (own : ClientFile). not (needs_server x own held false))
     (side_there given t₀ flags₀ a₀ i f (omega arith) (omega arith))
 
 -- a line that is a step makes its trace
 pub step_traced :
-    (given : Sizes) (x : Step) (q : Numbers)
-    → q ≡ numbers_of x
-    → (t₀ : List ℕ) (flags₀ : List Bool) (a₀ : Stores) (words₀ t : List ℕ) (flags : List Bool) (a : Stores)
-    (words : List ℕ) (said : ℕ)
-    → Stepped given q.kind q.client q.file q.block q.value t₀ flags₀ a₀ words₀ t flags a words said
+    (given : Sizes) (x : Step) (t₀ : List ℕ) (flags₀ : List Bool) (a₀ : Stores) (words₀ t : List ℕ) (flags : List Bool)
+    (a : Stores) (words : List ℕ) (said : ℕ)
+    → Stepped given (Some x) t₀ flags₀ a₀ words₀ t flags a words said
     → (itself : Bool)
-    → itself ≡ itself_held t₀ a₀ q
+    → itself ≡ itself_found (Some x) t₀ a₀.held
     → (stations : ℕ)
     → stations ≡ (in_force given).clients
-    → (sent_by q.kind itself (reply_said said words) ≤ max_blocks)
-    × (records_of stations q itself (reply_said said words) (calls_said said words) (grants_said said words)
+    → (sent_by x itself (reply_said said words) ≤ max_blocks)
+    × (records_of stations x itself (reply_said said words) (calls_said said words) (grants_said said words)
     ≡ trace_of (service_held given t₀ flags₀ a₀) x)
-step_traced given x q is t₀ flags₀ a₀ words₀ t flags a words said taken itself found stations force =
+step_traced given x t₀ flags₀ a₀ words₀ t flags a words said taken itself found stations force =
     let s = service_held given t₀ flags₀ a₀ in
     let o = step_of s x in
-    let outcome = stepped_outcome given x q t₀ flags₀ a₀ words₀ t flags a words said is taken in
+    let outcome = stepped_outcome given x t₀ flags₀ a₀ words₀ t flags a words said taken in
     let reply : reply_said said words ≡ o.reply = ap (λ (k : Outcome). k.reply) outcome in
     let calls : calls_said said words ≡ o.calls = ap (λ (k : Outcome). k.calls) outcome in
     let grants : grants_said said words ≡ o.grants = ap (λ (k : Outcome). k.grants) outcome in
-    let known : itself ≡ found_itself s x =
-    found ∙ ap (itself_held t₀ a₀) is ∙ itself_there given x t₀ flags₀ a₀ in (
-      subst⁻¹ (λ (r : Reply). sent_by q.kind itself r ≤ max_blocks) reply
-          (subst⁻¹ (λ (r : Numbers). sent_by r.kind itself o.reply ≤ max_blocks) is (sent_few s x itself)),
-      (λ k. records_of (force k) (is k) (known k) (reply k) (calls k) (grants k)) ∙ found_traced s x,
-    )
-
--- a line that is none makes no record
-pub none_traced :
-    (given : Sizes) (q : Numbers)
-    → q ≡ five kinds 0 0 0 0
-    → (t₀ : List ℕ) (flags₀ : List Bool) (a₀ : Stores) (words₀ t : List ℕ) (flags : List Bool) (a : Stores)
-    (words : List ℕ) (said : ℕ)
-    → Stepped given q.kind q.client q.file q.block q.value t₀ flags₀ a₀ words₀ t flags a words said
-    → (itself : Bool)
-    → (stations : ℕ)
-    → (sent_by q.kind itself (reply_said said words) ≤ max_blocks)
-    × (records_of stations q itself (reply_said said words) (calls_said said words) (grants_said said words) ≡ [])
-unfolding records_of
-none_traced given q is t₀ flags₀ a₀ words₀ t flags a words said taken itself stations =
-    let s = service_held given t₀ flags₀ a₀ in
-    let reply : reply_said said words ≡ replies.Refused 1 =
-    taken.says.says.back
-    ∙ ap (λ (r : Numbers). (outcome_asked s r.kind r.client r.file r.block r.value).reply) is in
-    let unnamed : names_station stations q ≡ false =
-    ap (names_station stations) is ∙ ap (λ t. t && true) (and_false (is_counted stations 0)) in (
-      subst⁻¹ (λ (r : Reply). sent_by q.kind itself r ≤ max_blocks) reply (omega arith),
-      unless _ _ unnamed,
+    let known : itself ≡ found_itself s x = found ∙ itself_there given x t₀ flags₀ a₀ in (
+      subst⁻¹ (λ (r : Reply). sent_by x itself r ≤ max_blocks) reply (sent_few s x itself),
+      (λ k. records_of (force k) x (known k) (reply k) (calls k) (grants k)) ∙ found_traced s x,
     )
 
 -- ---- the records have room
@@ -361,19 +300,19 @@ grants_few s x =
 
 -- of any reply that sends no more blocks than there can be in a file, with no more grants than there can be files
 pub records_fit :
-    (stations : ℕ) (x : Numbers) (itself : Bool) (reply : Reply) (calls : List ℕ) (grants : List Granting)
-    → sent_by x.kind itself reply ≤ max_blocks
+    (stations : ℕ) (x : Step) (itself : Bool) (reply : Reply) (calls : List ℕ) (grants : List Granting)
+    → sent_by x itself reply ≤ max_blocks
     → length grants ≤ max_files
     → length (records_of stations x itself reply calls grants) ≤ trace_room
 unfolding records_of
 records_fit stations x itself reply calls grants few fit =
-    let n = sent_by x.kind itself reply in
-    let sent = replicate n (noted x.client Sent Done) in
+    let n = sent_by x itself reply in
+    let sent = replicate n (noted (client_of x) Sent Done) in
     let called = call_records (ordered_calls max_clients calls) in
     let opened = open_records (brought reply ++ grants) in
     let long : length (sent ++ (called ++ opened)) ≡ n + (length (ordered_calls max_clients calls) + length opened) =
     length-append sent (called ++ opened)
-    ∙ ap₂ ◌+◌ (length-replicate n (noted x.client Sent Done))
+    ∙ ap₂ ◌+◌ (length-replicate n (noted (client_of x) Sent Done))
     (length-append called opened ∙ ap (λ (k : ℕ). k + length opened) (calls_long (ordered_calls max_clients calls))) in
     split (names_station stations x)
     (λ e.
@@ -393,5 +332,5 @@ records_fit stations x itself reply calls grants few fit =
 pub trace_fits : (s : Service) (x : Step) → length (trace_of s x) ≤ trace_room
 trace_fits s x =
     let o = step_of s x in
-    records_fit (sizes_of s).clients (numbers_of x) (serves_itself s x) o.reply o.calls o.grants
+    records_fit (sizes_of s).clients x (serves_itself s x) o.reply o.calls o.grants
     (sent_few s x (serves_itself s x)) (grants_few s x)

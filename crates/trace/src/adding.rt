@@ -11,9 +11,7 @@ pub fn add_trace(stations: usize, trace: &[TraceRecord], totals: &mut [u64; TOTA
     ensures { (totals.new ≡ counted_all stations trace.now totals.old)
         × Counts stations trace.now totals.old totals.new }
 {
-    let mut i = 0;
-    while i < trace.len() {
-        add_record(stations, trace[i], totals);
-        i += 1;
+    for &one in trace {
+        add_record(stations, one, totals);
     }
 }

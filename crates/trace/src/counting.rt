@@ -14,14 +14,17 @@ pub const TOTALS: usize = COLUMNS * MAX_CLIENTS;
 pub fn add_record(stations: usize, one: TraceRecord, totals: &mut [u64; TOTALS])
     ensures { totals.new ≡ counted stations one totals.old }
 {
-    let one_kind = one.kind;
-    let one_outcome = one.outcome;
-    let kind = kind_number(one_kind);
-    let outcome = outcome_number(one_outcome);
-    count(stations, one.station as usize, kind, outcome, totals)
+    count(
+        stations,
+        usize::from(one.station),
+        kind_number(one.kind),
+        outcome_number(one.outcome),
+        totals,
+    )
 }
 
 // The same of its numbers.
+// Stays: plain numbers, as the form of a trace is asked for (docs/DECISIONS.md, Forms).
 pub fn count(stations: usize, station: usize, kind: u64, outcome: u64, totals: &mut [u64; TOTALS])
     ensures { totals.new
         ≡ counted_numbers stations station kind outcome totals.old }
@@ -48,33 +51,19 @@ fn raise_if(totals: &mut [u64; TOTALS], at: usize, counts: bool)
     ensures { totals.new
         ≡ set totals.old at (raised_if counts (get_or totals.old at 0)) }
 {
-    let total = totals[at];
-    if counts & (total < u64::MAX) {
-        totals[at] = total + 1;
+    if counts {
+        totals[at] = totals[at].saturating_add(1);
     }
 }
 
 fn kind_number(kind: TraceKind) -> u64
     ensures { result ≡ kind_number kind }
 {
-    match kind {
-        TraceKind::Open => 0,
-        TraceKind::Close => 1,
-        TraceKind::Read => 2,
-        TraceKind::Sent => 3,
-        TraceKind::Call => 4,
-        TraceKind::Other => 5,
-    }
+    kind as u64
 }
 
 fn outcome_number(outcome: TraceOutcome) -> u64
     ensures { result ≡ outcome_number outcome }
 {
-    match outcome {
-        TraceOutcome::Done => 0,
-        TraceOutcome::Hit => 1,
-        TraceOutcome::Fetched => 2,
-        TraceOutcome::Refused => 3,
-        TraceOutcome::Pending => 4,
-    }
+    outcome as u64
 }

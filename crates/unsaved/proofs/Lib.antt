@@ -1,2 +1,3 @@
--- Examples of the lines.
+-- Examples of the lines, and which program tells them.
 pub mod Examples
+pub mod Named

@@ -1,37 +1,33 @@
 // The line of one block.
 ghost use Rattle.std.specs.Prelude.{◌+◌, ◌≤◌, length};
+ghost use Rattle.options.specs.Program.{number_of};
 ghost use Rattle.writer.specs.Buffer.{Wrote};
 ghost use Rattle.image.specs.Bytes.{entry_if, flat};
 ghost use Rattle.unsaved.specs.Unsaved.{program_text, line_text};
 
-use options::{EXPLAIN, PLAY};
+use options::Program;
 use phrases::{put_client, put_text};
 use writer::put_argument;
 
-fn put_program(out: &mut [u8], at: usize, program: u8) -> usize
+fn put_program(out: &mut [u8], at: usize, program: Program) -> usize
     requires { at + 9 ≤ length out.old }
-    ensures wrote { Wrote out.old at (program_text program) out.new result }
+    ensures wrote { Wrote out.old at (program_text (number_of program)) out.new result }
     ensures upper_bound { result ≤ at + 9 }
 {
-    if program == PLAY {
-        return put_text(out, at, b"play: ");
-    }
-    if program == EXPLAIN {
-        return put_text(out, at, b"explain: ");
-    }
-    put_text(out, at, b"traffic: ")
+    let colon = put_text(out, at, program.name());
+    put_text(out, colon, b": ")
 }
 
 fn put_line(
     out: &mut [u8],
     at: usize,
-    program: u8,
+    program: Program,
     client: usize,
     file: usize,
     block: usize,
 ) -> usize
     requires { at + 122 ≤ length out.old }
-    ensures wrote { Wrote out.old at (line_text program client file block) out.new result }
+    ensures wrote { Wrote out.old at (line_text (number_of program) client file block) out.new result }
     ensures upper_bound { result ≤ at + 122 }
 {
     let station = put_program(out, at, program);
@@ -47,7 +43,7 @@ fn put_line(
 pub fn put_line_if(
     out: &mut [u8],
     at: usize,
-    program: u8,
+    program: Program,
     dirty: bool,
     client: usize,
     file: usize,
@@ -55,11 +51,12 @@ pub fn put_line_if(
 ) -> usize
     requires { at + 122 ≤ length out.old }
     ensures wrote { Wrote out.old at
-        (flat (entry_if dirty (line_text program client file block))) out.new result }
+        (flat (entry_if dirty (line_text (number_of program) client file block))) out.new result }
     ensures upper_bound { result ≤ at + 122 }
 {
     if dirty {
-        return put_line(out, at, program, client, file, block);
+        put_line(out, at, program, client, file, block)
+    } else {
+        at
     }
-    at
 }

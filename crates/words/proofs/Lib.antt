@@ -4,8 +4,8 @@ pub mod Listing
 pub mod Places
 pub mod Changing
 pub mod Filling
-pub mod Loading
 pub mod OwnRow
 pub mod SaidWords
 pub mod SaidGranting
 pub mod SaidGrants
+pub mod Making

@@ -1,64 +1,17 @@
 -- What is packed into a word stands in it. Assumes nothing.
-use Prim.Native.Nat.{ℕ, suc, ◌+◌, ◌*◌, ◌/◌, ◌%◌, ◌<◌}
-use mathlib.Core.Path.{◌≡◌, refl, ap, ◌∙◌}
-use mathlib.Core.List.{List, [], ◌∷◌, ◌++◌}
+use Prim.Native.Nat.{ℕ, ◌/◌}
+use mathlib.Core.Path.{◌≡◌, refl}
+use mathlib.Core.Bool.{Bool, true, false, cond}
+use mathlib.Core.List.{List, [], ◌∷◌}
 use native.Mathlib.Omega.{arith}
 use lib.ListN.{length, get_or}
-use Rattle.words.specs.Words.{digits, digit}
+use Rattle.std.specs.Int.{to_le_bytes, w64, from_bool}
+use Rattle.words.specs.Words.{digits}
 
--- what lies above a digit does not change it
-low_kept : (a r : ℕ) → (a + 256 * r) % 256 ≡ a % 256
-low_kept a r = omega arith
-
-digits_more : (n a r : ℕ) → a < 256 → digits (suc n) (a + 256 * r) ≡ a ∷ digits n r
+-- the bytes of a number are its digits
+pub bytes_held : (w : ℕ) → to_le_bytes w64 w ≡ digits 8 w
 unfolding digits
-digits_more n a r h =
-    let low : (a + 256 * r) % 256 ≡ a = omega arith in
-    let high : (a + 256 * r) / 256 ≡ r = omega arith in
-    rw (low, high)
-
-pub four_digits :
-    (a b c d : ℕ) → a < 256 → b < 256 → c < 256 → d < 256
-    → digits 4 (a + 256 * (b + 256 * (c + 256 * d))) ≡ a ∷ b ∷ c ∷ d ∷ []
-unfolding digits
-four_digits a b c d ha hb hc hd =
-    let last : d % 256 ≡ d = omega arith in
-    digits_more 3 a _ ha
-    ∙ ap (λ l. a ∷ l) (digits_more 2 b _ hb ∙ ap (λ l. b ∷ l) (digits_more 1 c d hc ∙ ap (λ n. c ∷ n ∷ []) last))
-
-pub eight_digits :
-    (low high : ℕ) → low < 4294967296 → digits 8 (low + 4294967296 * high) ≡ digits 4 low ++ digits 4 high
-unfolding digits
-eight_digits low high h =
-    let w = low + 4294967296 * high in
-    let a : w ≡ low + 256 * (16777216 * high) = omega arith in
-    let b : w / 256 ≡ low / 256 + 256 * (65536 * high) = omega arith in
-    let c : w / 256 / 256 ≡ low / 256 / 256 + 256 * (256 * high) = omega arith in
-    let d : w / 256 / 256 / 256 ≡ low / 256 / 256 / 256 + 256 * high = omega arith in
-    let e : w / 256 / 256 / 256 / 256 ≡ high = omega arith in
-    rw (
-      e,
-      ap (λ y. y % 256) a ∙ low_kept low _,
-      ap (λ y. y % 256) b ∙ low_kept (low / 256) _,
-      ap (λ y. y % 256) c ∙ low_kept (low / 256 / 256) _,
-      ap (λ y. y % 256) d ∙ low_kept (low / 256 / 256 / 256) _,
-    )
-
--- the digits, each at its scale
-pub digits_at :
-    (w : ℕ)
-    → w % 256
-    ∷ digit 256 w
-    ∷ digit 65536 w
-    ∷ digit 16777216 w
-    ∷ digit 4294967296 w
-    ∷ digit 1099511627776 w
-    ∷ digit 281474976710656 w
-    ∷ digit 72057594037927936 w
-    ∷ []
-    ≡ digits 8 w
-unfolding digits
-digits_at w =
+bytes_held w =
     let b : w / 65536 ≡ w / 256 / 256 = omega arith in
     let c : w / 16777216 ≡ w / 256 / 256 / 256 = omega arith in
     let d : w / 4294967296 ≡ w / 256 / 256 / 256 / 256 = omega arith in
@@ -82,3 +35,8 @@ eight d (a ∷ b ∷ c ∷ e ∷ f ∷ []) n = absurd (omega arith)
 eight d (a ∷ b ∷ c ∷ e ∷ f ∷ g ∷ []) n = absurd (omega arith)
 eight d (a ∷ b ∷ c ∷ e ∷ f ∷ g ∷ h ∷ []) n = absurd (omega arith)
 eight d (a ∷ b ∷ c ∷ e ∷ f ∷ g ∷ h ∷ i ∷ j ∷ k) n = absurd (omega arith)
+
+-- a test as a number
+pub bit_held : (b : Bool) → from_bool b ≡ cond b 1 0
+bit_held true = refl
+bit_held false = refl

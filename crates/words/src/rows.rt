@@ -9,6 +9,7 @@ use crate::words::{
 };
 use protocol::{Entry, SharedFile, Sides};
 use sizes::{MAX_CLIENTS, MAX_FILES};
+use std::array;
 
 // How many words a row has, where the rows end, and how many words the table has: one stands after the rows.
 pub const ROW: usize = 24;
@@ -24,16 +25,7 @@ pub fn entry_at(table: &[u64; WORDS], f: usize) -> Entry
     let row = f * ROW;
     let head = table[row + 1];
     Entry {
-        records: [
-            record_of(table[row + 2]),
-            record_of(table[row + 3]),
-            record_of(table[row + 4]),
-            record_of(table[row + 5]),
-            record_of(table[row + 6]),
-            record_of(table[row + 7]),
-            record_of(table[row + 8]),
-            record_of(table[row + 9]),
-        ],
+        records: array::from_fn(|i| record_of(table[row + (2 + i)])),
         version: version_of(head),
         last: last_of(head),
         waiter: waiter_of(head),
@@ -48,16 +40,7 @@ pub fn sides_at(table: &[u64; WORDS], f: usize) -> Sides
 {
     let row = f * ROW;
     Sides {
-        of: [
-            side_of(table[row + 10]),
-            side_of(table[row + 11]),
-            side_of(table[row + 12]),
-            side_of(table[row + 13]),
-            side_of(table[row + 14]),
-            side_of(table[row + 15]),
-            side_of(table[row + 16]),
-            side_of(table[row + 17]),
-        ],
+        of: array::from_fn(|i| side_of(table[row + (10 + i)])),
     }
 }
 
@@ -67,21 +50,11 @@ pub fn put_file(table: &mut [u64; WORDS], f: usize, shared: SharedFile)
     ensures { Puts f shared table.old table.new }
 {
     let entry = shared.entry;
-    let sides = shared.sides;
-    let records = entry.records;
-    let version = entry.version;
-    let mode = entry.mode;
-    let calls = entry.calls;
-    let of = sides.of;
     let row = f * ROW;
-    table[row + 1] = head_word(version, entry.last, entry.waiter, mode);
-    table[row + 18] = calls_word(calls);
-    let mut i: usize = 0;
-    while i < MAX_CLIENTS {
-        let known = records[i];
-        let side = of[i];
-        table[row + (2 + i)] = record_word(known);
-        table[row + (10 + i)] = side_word(side);
-        i += 1;
+    table[row + 1] = head_word(entry.version, entry.last, entry.waiter, entry.mode);
+    table[row + 18] = calls_word(entry.calls);
+    for i in 0..MAX_CLIENTS {
+        table[row + (2 + i)] = record_word(entry.records[i]);
+        table[row + (10 + i)] = side_word(shared.sides.of[i]);
     }
 }

@@ -4,15 +4,31 @@ ghost use Rattle.sizes.specs.Sizes.{max_files};
 ghost use Rattle.protocol.specs.Reply.{grant_values, no_granting, no_grants};
 ghost use Rattle.records.specs.Version.{version_of};
 ghost use Rattle.words.specs.Said.{said_room, Begun, SaysIn, grant_said, answer_said, reply_said, calls_said};
-ghost use Rattle.words.specs.Said.{granting_said, grants_from, grants_said};
+ghost use Rattle.words.specs.Said.{letter_said, granting_said, grants_from, grants_said};
 
-use crate::words::{calls_of, calls_word, wide, wide_version};
+use crate::words::{calls_of, calls_word};
 use protocol::{Grant, Granting, Reply};
 use records::Version;
 use sizes::{MAX_CLIENTS, MAX_FILES};
+use std::array;
 
 // The words that a step has for what it says: eight for its own reply, and four for a grant on each file.
 pub const SAID: usize = 8 + 4 * MAX_FILES;
+
+// What is told of each reply: its letter, and 256 for each word after it.
+const GRANTED: u64 = 3 * 256 + b'G' as u64;
+
+const WAITING: u64 = 256 + b'W' as u64;
+
+const VALUE: u64 = 256 + b'V' as u64;
+
+const REFUSED: u64 = 256 + b'N' as u64;
+
+const ANSWERED: u64 = 256 + b'A' as u64;
+
+const ANSWERED_GRANT: u64 = 5 * 256 + b'A' as u64;
+
+const DONE: u64 = b'K' as u64;
 
 // The latest version, the previous one, and the permission, as the next three words.
 fn say_grant(grant: Grant, at: usize, words: &mut [u64; SAID])
@@ -22,11 +38,9 @@ fn say_grant(grant: Grant, at: usize, words: &mut [u64; SAID])
         → Begun words₀ (at + 3) (vs ++ grant_values grant) words.new }
     ensures at_after { grant_said words.new at ≡ grant }
 {
-    let latest = grant.latest;
-    let previous = grant.previous;
-    words[at] = wide_version(latest.number());
-    words[at + 1] = wide_version(previous.number());
-    words[at + 2] = permission(grant.caching);
+    words[at] = u64::from(grant.latest.number());
+    words[at + 1] = u64::from(grant.previous.number());
+    words[at + 2] = u64::from(grant.caching);
 }
 
 // The open of another client that is granted: the client and the numbers of the grant, as the next four words. Those
@@ -40,7 +54,7 @@ pub fn say_granting(client: u8, grant: Grant, at: usize, words: &mut [u64; SAID]
     ensures by_index_2 { (j : ℕ) → j + 4 ≤ at
         → granting_said words.new j ≡ granting_said words.old j }
 {
-    words[at] = wide(client);
+    words[at] = u64::from(client);
     say_grant(grant, at + 1, words);
 }
 
@@ -53,12 +67,6 @@ fn say_two(first: u64, second: u64, words: &mut [u64; SAID])
     words[1] = second;
 }
 
-fn permission(caching: bool) -> u64
-    ensures { result ≡ cond caching 1 0 }
-{
-    if caching { 1 } else { 0 }
-}
-
 // A reply, and the calls that go out with it.
 pub fn say(reply: Reply, calls: [u8; MAX_CLIENTS], words: &mut [u64; SAID]) -> u64
     requires { length words.old ≡ said_room }
@@ -67,34 +75,42 @@ pub fn say(reply: Reply, calls: [u8; MAX_CLIENTS], words: &mut [u64; SAID]) -> u
     match reply {
         Reply::Granted(grant) => {
             say_grant(grant, 0, words);
-            839
+            GRANTED
         }
         Reply::Waiting => {
             words[0] = calls_word(calls);
-            343
+            WAITING
         }
         Reply::Value(value) => {
             words[0] = value;
-            342
+            VALUE
         }
         Reply::Refused(refusal) => {
-            words[0] = wide(refusal);
-            334
+            words[0] = u64::from(refusal);
+            REFUSED
         }
         Reply::Answered(sent) => {
             words[0] = sent as u64;
-            321
+            ANSWERED
         }
         Reply::AnsweredGrant(sent, client, grant) => {
-            say_two(sent as u64, wide(client), words);
+            say_two(sent as u64, u64::from(client), words);
             say_grant(grant, 2, words);
-            1345
+            ANSWERED_GRANT
         }
-        Reply::Done => 75,
+        Reply::Done => DONE,
     }
 }
 
 // ---- what was said, read back
+
+// The letter of a reply.
+// Stays: a number, which the lent words of the step and the printed lines hold; any letter may stand in it (`reply_said`).
+pub fn letter_of(said: u64) -> u8
+    ensures { result ≡ letter_said said }
+{
+    (said % 256) as u8
+}
 
 fn version_said(word: u64) -> Version
     ensures { result ≡ version_of (word % 4294967296) }
@@ -130,13 +146,12 @@ pub fn reply_of(said: u64, words: &[u64; SAID]) -> Reply
     requires { length words.now ≡ said_room }
     ensures { result ≡ reply_said said words.now }
 {
-    let letter = said % 256;
-    match letter {
-        71 => Reply::Granted(grant_said(words, 0)),
-        87 => Reply::Waiting,
-        86 => Reply::Value(words[0]),
-        78 => Reply::Refused((words[0] % 256) as u8),
-        65 => answer_said(said / 256, words),
+    match letter_of(said) {
+        b'G' => Reply::Granted(grant_said(words, 0)),
+        b'W' => Reply::Waiting,
+        b'V' => Reply::Value(words[0]),
+        b'N' => Reply::Refused((words[0] % 256) as u8),
+        b'A' => answer_said(said / 256, words),
         _ => Reply::Done,
     }
 }
@@ -146,7 +161,7 @@ pub fn calls_with(said: u64, words: &[u64; SAID]) -> [u8; MAX_CLIENTS]
     requires { length words.now ≡ said_room }
     ensures { result ≡ calls_said said words.now }
 {
-    if said % 256 == 87 {
+    if letter_of(said) == b'W' {
         return calls_of(words[0]);
     }
     [0; MAX_CLIENTS]
@@ -174,15 +189,7 @@ fn grants_from(from: usize, count: u64, words: &[u64; SAID]) -> [Granting; MAX_F
     requires from_bound { from ≤ 5 }
     ensures { result ≡ grants_from from count words.now }
 {
-    let none = Granting::none();
-    let mut grants = [none; MAX_FILES];
-    let mut k: usize = 0;
-    while k < MAX_FILES {
-        let granting = granting_at(from, count, k, words);
-        grants[k] = granting;
-        k += 1;
-    }
-    grants
+    array::from_fn(|k| granting_at(from, count, k, words))
 }
 
 // The opens of others that were granted.
@@ -190,13 +197,9 @@ pub fn grants_of(said: u64, words: &[u64; SAID]) -> [Granting; MAX_FILES]
     requires { length words.now ≡ said_room }
     ensures { result ≡ grants_said said words.now }
 {
-    let letter = said % 256;
-    match letter {
-        75 => grants_from(0, said / 256, words),
-        65 => grants_from(5, said / 256, words),
-        _ => {
-            let none = Granting::none();
-            [none; MAX_FILES]
-        }
+    match letter_of(said) {
+        b'K' => grants_from(0, said / 256, words),
+        b'A' => grants_from(5, said / 256, words),
+        _ => { [Granting::none(); MAX_FILES] }
     }
 }

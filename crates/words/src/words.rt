@@ -1,31 +1,13 @@
 // The words of the lent table: a word for each record, each side, and the head and the calls of each file.
-ghost use Rattle.std.specs.Prelude.{◌≡◌, cond, [], ◌∷◌, ◌<◌, ◌≤◌};
+ghost use Rattle.std.specs.Prelude.{◌≡◌, cond, ◌<◌, ◌≤◌};
 ghost use Rattle.sizes.specs.Sizes.{max_clients};
 ghost use Rattle.decision.specs.Lists.{filled};
 ghost use Rattle.words.specs.Words.{record_held, side_held, version_held, last_held, waiter_held, mode_held};
-ghost use Rattle.words.specs.Words.{digits, calls_held, Head};
+ghost use Rattle.words.specs.Words.{calls_held, Head};
 
 use protocol::ClientFile;
 use records::{ClientRecord, Mode, Version};
 use sizes::MAX_CLIENTS;
-
-pub fn wide(x: u8) -> u64
-    ensures { (result ≡ x) × (result < 256) }
-{
-    x as u64
-}
-
-pub fn wide_version(x: u32) -> u64
-    ensures { (result ≡ x) × (result < 4294967296) }
-{
-    x as u64
-}
-
-fn bit(test: bool) -> u64
-    ensures { (result ≡ cond test 1 0) × (result ≤ 1) }
-{
-    if test { 1 } else { 0 }
-}
 
 pub fn record_of(word: u64) -> ClientRecord
     ensures { result ≡ record_held word }
@@ -40,7 +22,7 @@ pub fn record_of(word: u64) -> ClientRecord
 pub fn record_word(known: ClientRecord) -> u64
     ensures { (record_held result ≡ known) × (result < 16777216) }
 {
-    wide(known.readers) + 256 * wide(known.writers) + 65536 * bit(known.caching)
+    u64::from(known.readers) + 256 * u64::from(known.writers) + 65536 * u64::from(known.caching)
 }
 
 pub fn side_of(word: u64) -> ClientFile
@@ -56,10 +38,9 @@ pub fn side_of(word: u64) -> ClientFile
 pub fn side_word(side: ClientFile) -> u64
     ensures { side_held result ≡ side }
 {
-    let label = side.label;
     record_word(side.opens)
-        + 16777216 * bit(side.marked)
-        + 4294967296 * wide_version(label.number())
+        + 16777216 * u64::from(side.marked)
+        + 4294967296 * u64::from(side.label.number())
 }
 
 pub fn version_of(head: u64) -> Version
@@ -93,56 +74,27 @@ pub fn mode_of(head: u64) -> Mode
 pub fn head_word(version: Version, last: u8, waiter: u8, mode: Mode) -> u64
     ensures { Head result version last waiter mode }
 {
-    wide_version(version.number())
-        + 4294967296 * (wide(last) + 256 * (wide(waiter) + 256 * bit(mode.is_write())))
+    u64::from(version.number())
+        + 4294967296
+            * (u64::from(last) + 256 * (u64::from(waiter) + 256 * u64::from(mode.is_write())))
 }
 
 pub fn with_last(head: u64, last: u8) -> u64
     ensures { Head result (version_held head) last (waiter_held head) (mode_held head) }
 {
-    head % 4294967296 + head / 1099511627776 * 1099511627776 + wide(last) * 4294967296
+    head % 4294967296 + head / 1099511627776 * 1099511627776 + u64::from(last) * 4294967296
 }
 
 pub fn calls_of(word: u64) -> [u8; MAX_CLIENTS]
     ensures { result ≡ calls_held word }
 {
-    [
-        (word % 256) as u8,
-        (word / 256 % 256) as u8,
-        (word / 65536 % 256) as u8,
-        (word / 16777216 % 256) as u8,
-        (word / 4294967296 % 256) as u8,
-        (word / 1099511627776 % 256) as u8,
-        (word / 281474976710656 % 256) as u8,
-        (word / 72057594037927936 % 256) as u8,
-    ]
-}
-
-// Four digits.
-fn four_word(a: u8, b: u8, c: u8, d: u8) -> u64
-    ensures { (digits 4 result ≡ a ∷ b ∷ c ∷ d ∷ []) × (result < 4294967296) }
-{
-    wide(a) + 256 * (wide(b) + 256 * (wide(c) + 256 * wide(d)))
+    word.to_le_bytes()
 }
 
 pub fn calls_word(calls: [u8; MAX_CLIENTS]) -> u64
     ensures { calls_held result ≡ calls }
 {
-    four_word(calls[0], calls[1], calls[2], calls[3])
-        + 4294967296 * four_word(calls[4], calls[5], calls[6], calls[7])
-}
-
-// The calls, with none to the clients.
-fn without_calls(mut calls: [u8; MAX_CLIENTS], clients: usize) -> [u8; MAX_CLIENTS]
-    requires { clients ≤ max_clients }
-    ensures { result ≡ filled clients 0 calls }
-{
-    let mut i: usize = 0;
-    while i < clients {
-        calls[i] = 0;
-        i += 1;
-    }
-    calls
+    u64::from_le_bytes(calls)
 }
 
 // The word of the calls without those to the clients.
@@ -153,5 +105,7 @@ pub fn calls_past(word: u64, clients: usize) -> u64
     if clients == MAX_CLIENTS {
         return 0;
     }
-    calls_word(without_calls(calls_of(word), clients))
+    let mut calls = calls_of(word);
+    calls[..clients].fill(0);
+    calls_word(calls)
 }

@@ -6,6 +6,7 @@ use mathlib.Core.List.{List, [], ◌∷◌, ◌++◌, append_assoc}
 use native.Mathlib.Nat.{add-zero, add_assoc}
 use native.Mathlib.Numerals.{add-one}
 use native.Mathlib.Omega.{arith}
+use lib.Dec.{leb}
 use lib.ListN.{length, take, drop, set, length-set, length-append, length-take, length-drop, take-append-drop}
 use lib.Seq.{length-take-le, set_split, set-append_left, take-set-le, take-set-lt, take-suc-set, drop-set-lt, take_at, drop_at, drop-drop}
 use borrow.Author.Tests.{le-leb, lt-leb}
@@ -104,6 +105,9 @@ module _ (room : ℕ) (d : List ℕ) (at : ℕ) (s : List ℕ) (d' : List ℕ) (
   pub wrote_if_room : at + room ≤ length d → Wrote d at s d' at' → WroteIfRoom room d at s d' at'
   wrote_if_room h w =
       record { bytes = w.bytes ∙ sym (when _ _ (le-leb _ _ h)); next = w.next ∙ sym (when _ _ (le-leb _ _ h)) }
+
+  pub wrote_in_room : leb (at + room) (length d) ≡ true → Wrote d at s d' at' → WroteIfRoom room d at s d' at'
+  wrote_in_room h w = record { bytes = w.bytes ∙ sym (when _ _ h); next = w.next ∙ sym (when _ _ h) }
 
   pub if_room_wrote : at + room ≤ length d → at' ≤ at + room → WroteIfRoom room d at s d' at' → Wrote d at s d' at'
   if_room_wrote h k p =

@@ -1,11 +1,21 @@
 // Bytes and numbers, written into a buffer at an offset. Each function answers the offset past what it wrote.
-ghost use Rattle.std.specs.Prelude.{◌+◌, ◌*◌, ◌/◌, ◌%◌, ◌≤◌, ◌<◌, ◌≡◌, cond, [], ◌∷◌, length, set};
+// Stays: buffer and offset are two parameters and the next offset is the answer, in place of a cursor that borrows the
+// buffer. Tried on a function that makes one and writes two bytes: the check left its clause on the buffer open, since what
+// the buffer holds once the cursor is let go has a name of Rattle's own alone. No answer by hand was tried.
+ghost use Rattle.std.specs.Prelude.{◌+◌, ◌*◌, ◌/◌, ◌%◌, ◌≤◌, ◌<◌, ◌≡◌, cond, [], ◌∷◌, leb, length, set};
 ghost use Rattle.stepfile.specs.Text.{argument_text};
 ghost use Rattle.stepfile.specs.Text.{decimal as decimal_text};
 ghost use Rattle.writer.specs.Buffer.{Wrote};
 ghost use Rattle.writer.specs.Digits.{four_text, eight_text, four_bytes};
 
 use decision::one_if;
+
+// Whether the buffer has so many bytes from the offset on.
+pub fn has_room(out: &[u8], at: usize, room: usize) -> bool
+    ensures { result ≡ leb (at + room) (length out.now) }
+{
+    room <= out.len() && at <= out.len() - room
+}
 
 pub fn put_byte(out: &mut [u8], at: usize, byte: u8) -> usize
     requires { at < length out.old }
@@ -14,6 +24,16 @@ pub fn put_byte(out: &mut [u8], at: usize, byte: u8) -> usize
 {
     out[at] = byte;
     at + 1
+}
+
+pub fn put_text(out: &mut [u8], at: usize, text: &[u8]) -> usize
+    requires { at + length text.now ≤ length out.old }
+    ensures wrote { Wrote out.old at text.now out.new result }
+    ensures upper_bound { result ≤ at + length text.now }
+{
+    let end = at + text.len();
+    out[at..end].copy_from_slice(text);
+    end
 }
 
 // A number in decimal: eight digits at a time after the first ones. The first are told apart by comparisons, so that no

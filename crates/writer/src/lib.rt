@@ -6,7 +6,7 @@ mod reply;
 mod said;
 mod summary;
 
-pub use decimal::{put_argument, put_byte};
+pub use decimal::{has_room, put_argument, put_byte, put_text};
 pub use reply::LINE_ROOM;
 pub use said::{put_said, write_said};
 pub use summary::{SUMMARY_ROOM, is_listed, version_in, write_summary};

@@ -8,7 +8,7 @@ ghost use Rattle.words.specs.Said.{said_room, Says};
 ghost use Rattle.writer.specs.Buffer.{Wrote, WroteIfRoom, line_room, words_room};
 ghost use Rattle.writer.specs.Said.{fields_said, said_text};
 
-use crate::decimal::{put_argument, put_byte, put_decimal};
+use crate::decimal::{has_room, put_argument, put_byte, put_decimal};
 use crate::reply::{LINE_ROOM, put_calls, put_letter};
 use words::{SAID, calls_of};
 
@@ -22,10 +22,7 @@ pub fn write_said(out: &mut [u8], at: usize, number: u64, said: u64, words: &[u6
         → WroteIfRoom line_room out.old at (line_text number reply calls grants) out.new result }
     ensures upper_bound { result ≤ at + line_room }
 {
-    if out.len() < LINE_ROOM {
-        return at;
-    }
-    if out.len() - LINE_ROOM < at {
+    if !has_room(out, at, LINE_ROOM) {
         return at;
     }
     let feed = put_said(out, at, number, said, words);
@@ -73,10 +70,8 @@ fn put_words(out: &mut [u8], at: usize, count: usize, words: &[u64; SAID]) -> us
     ensures upper_bound { result ≤ at + words_room }
 {
     let mut next = at;
-    let mut i: usize = 0;
-    while i < count {
-        next = put_argument(out, next, words[i]);
-        i += 1;
+    for &word in &words[..count] {
+        next = put_argument(out, next, word);
     }
     next
 }

@@ -5,8 +5,8 @@ ghost use Rattle.stepfile.specs.Summary.{code_in, version_in, is_listed, listed_
 ghost use Rattle.stepfile.specs.Summary.{heading_text, writer_text, fields_text, file_text, files_text, summary_text};
 ghost use Rattle.writer.specs.Buffer.{Wrote, WroteIfRoom, summary_room};
 
-use crate::decimal::{put_argument, put_byte, put_decimal};
-use decision::{one_if, state_of};
+use crate::decimal::{has_room, put_argument, put_byte, put_decimal, put_text};
+use decision::{count_below, state_of};
 use protocol::Entry;
 use sizes::Sizes;
 use table::Table;
@@ -21,14 +21,10 @@ pub fn write_summary(out: &mut [u8], at: usize, given: Sizes, table: Table) -> u
         out.new result }
     ensures upper_bound { result ≤ at + summary_room }
 {
-    if out.len() < SUMMARY_ROOM {
+    if !has_room(out, at, SUMMARY_ROOM) {
         return at;
     }
-    if out.len() - SUMMARY_ROOM < at {
-        return at;
-    }
-    let sizes = given.in_force();
-    put_summary(out, at, sizes, table)
+    put_summary(out, at, given.in_force(), table)
 }
 
 fn put_summary(out: &mut [u8], at: usize, sizes: Sizes, table: Table) -> usize
@@ -47,11 +43,7 @@ fn put_heading(out: &mut [u8], at: usize, count: u64) -> usize
     ensures wrote { Wrote out.old at (heading_text count) out.new result }
     ensures upper_bound { result ≤ at + 27 }
 {
-    let i = put_byte(out, at, b'f');
-    let l = put_byte(out, i, b'i');
-    let e = put_byte(out, l, b'l');
-    let s = put_byte(out, e, b'e');
-    let number = put_byte(out, s, b's');
+    let number = put_text(out, at, b"files");
     let feed = put_argument(out, number, count);
     put_byte(out, feed, b'\n')
 }
@@ -61,14 +53,9 @@ fn count_listed(sizes: Sizes, table: Table) -> u64
     requires { Permitted sizes }
     ensures { result ≡ listed_below sizes.clients sizes.files table.files }
 {
-    let mut count: u64 = 0;
-    let mut file: usize = 0;
-    while file < sizes.files {
-        let entry = table.files[file];
-        count += one_if(is_listed(entry, sizes.clients)) as u64;
-        file += 1;
-    }
-    count
+    count_below(sizes.files, |file| {
+        is_listed(table.files[file], sizes.clients)
+    }) as u64
 }
 
 // A file is told if it is not CLOSED or not at version 1.
@@ -76,27 +63,20 @@ pub fn is_listed(entry: Entry, clients: usize) -> bool
     requires { clients ≤ max_clients }
     ensures { result ≡ is_listed clients entry }
 {
-    let code = code_in(entry, clients);
-    let version = entry.version;
-    match code {
-        0 => !version.as_read().is_first(),
-        _ => true,
-    }
+    code_in(entry, clients) != 0 || !entry.version.as_read().is_first()
 }
 
 fn code_in(entry: Entry, clients: usize) -> u8
     requires { clients ≤ max_clients }
     ensures { result ≡ code_in clients entry }
 {
-    let records = entry.records;
-    state_of(records, clients, entry.last).code()
+    state_of(entry.records, clients, entry.last).code()
 }
 
 pub fn version_in(entry: Entry) -> u32
     ensures { result ≡ version_in entry }
 {
-    let version = entry.version;
-    version.as_read().number()
+    entry.version.as_read().number()
 }
 
 // The lines of the files, ascending.
@@ -108,11 +88,8 @@ fn put_files(out: &mut [u8], at: usize, sizes: Sizes, table: Table) -> usize
     ensures upper_bound { result ≤ at + 5376 }
 {
     let mut next = at;
-    let mut file: usize = 0;
-    while file < sizes.files {
-        let entry = table.files[file];
-        next = put_file(out, next, file, entry, sizes.clients);
-        file += 1;
+    for file in 0..sizes.files {
+        next = put_file(out, next, file, table.files[file], sizes.clients);
     }
     next
 }

@@ -12,7 +12,7 @@ use Rattle.protocol.specs.declared.reply.Reply.{Reply}
 use Rattle.protocol.specs.Step.{OnFile, OnBlock, OnTable}
 use Rattle.protocol.specs.declared.step.Step.{Step}
 use Rattle.protocol.specs.Step.{class_of, client_of}
-use Rattle.blocks.specs.Stores.{Stores, lent}
+use Rattle.blocks.specs.declared.stores.Stores.{Stores}
 use Rattle.access.specs.BlockStep.{block_step}
 use Rattle.access.specs.BlockStep.{Leaves as LeavesBlock}
 use Rattle.protocol.specs.Reply.{no_calls, no_grants}
@@ -43,7 +43,7 @@ module _ (takes full : Bool) (s : Service) (x : Step) (z : Sizes) (in_force : z 
       ∙ sym (file_arm takes full s x f class)
 
   pub block_result :
-      (i f : ℕ) (reply : Reply) (b c : List ℕ) (h d : List Bool)
+      (i f : ℕ) (reply : Reply) (left : Stores)
       → class_of x ≡ OnBlock i f
       → LeavesBlock
       (block_step z (embargoed_at s (i % max_clients)) (table_in s).recovering (reported_at s (i % max_clients))
@@ -52,9 +52,9 @@ module _ (takes full : Bool) (s : Service) (x : Step) (z : Sizes) (in_force : z 
       full
       (stores_of s)
       x)
-      reply b c h d
-      → record { service = with_stores s (lent b c h d); reply = reply; calls = no_calls; grants = no_grants } ≡ moved takes full s x
-  block_result i f reply b c h d class l =
+      reply left
+      → record { service = with_stores s left; reply = reply; calls = no_calls; grants = no_grants } ≡ moved takes full s x
+  block_result i f reply left class l =
       ap₂ (λ (r : Reply) (a : Stores). record { service = with_stores s a; reply = r; calls = no_calls; grants = no_grants })
       l.reply_after
       l.stores_after

@@ -5,6 +5,3 @@ use Rattle.blocks.proofs.blocks.count_dirty.Given as goal
 
 abbrev pub invariant-loop-b : goal.invariant-loop-b
 invariant-loop-b l = Counted l.count (λ k. get_or l.fn.dirty (l.base + k) false) l.found l.b
-
-abbrev pub decreases-loop-b : goal.decreases-loop-b
-decreases-loop-b l = l.count - l.b

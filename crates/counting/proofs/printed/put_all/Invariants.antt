@@ -1,5 +1,5 @@
 -- After so many columns their sums are written.
-use Prim.Native.Nat.{◌+◌, ◌-◌, ◌*◌, ◌≤◌}
+use Prim.Native.Nat.{◌+◌, ◌*◌, ◌≤◌}
 use Rattle.writer.specs.Buffer.{Wrote}
 use Rattle.trace.specs.Number.{total_at, at_most}
 use Rattle.counting.specs.Printed.{columns_text, sum_of}
@@ -11,6 +11,3 @@ invariant-loop-column l =
     (columns_text l.column (λ k. at_most (sum_of l.stations (λ i. total_at l.totals i k)))) l.out l.next
     × (l.column ≤ 8)
     × (l.next ≤ l.initial.next + 21 * l.column)
-
-abbrev pub decreases-loop-column : goal.decreases-loop-column
-decreases-loop-column l = 8 - l.column

@@ -1,5 +1,5 @@
 -- After so many stations their lines are written.
-use Prim.Native.Nat.{◌+◌, ◌-◌, ◌*◌, ◌≤◌}
+use Prim.Native.Nat.{◌+◌, ◌*◌, ◌≤◌}
 use Rattle.writer.specs.Buffer.{Wrote}
 use Rattle.trace.specs.Number.{total_at}
 use Rattle.counting.specs.Printed.{stations_text}
@@ -10,6 +10,3 @@ invariant-loop-station l =
     Wrote l.fn.out l.at (stations_text l.station (total_at l.totals)) l.out l.next
     × (l.station ≤ l.stations)
     × (l.next ≤ l.at + 170 * l.station)
-
-abbrev pub decreases-loop-station : goal.decreases-loop-station
-decreases-loop-station l = l.stations - l.station

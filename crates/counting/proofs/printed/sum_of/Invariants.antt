@@ -1,5 +1,5 @@
 -- After so many stations the sum is theirs.
-use Prim.Native.Nat.{◌-◌, ◌≤◌}
+use Prim.Native.Nat.{◌≤◌}
 use mathlib.Core.Path.{◌≡◌}
 use Rattle.trace.specs.Number.{total_at, at_most}
 use Rattle.counting.specs.Printed.{sum_of}
@@ -8,6 +8,3 @@ use Rattle.counting.proofs.printed.sum_of.Given as goal
 abbrev pub invariant-loop-station : goal.invariant-loop-station
 invariant-loop-station l =
     (l.sum ≡ at_most (sum_of l.station (λ i. total_at l.totals i l.column))) × (l.station ≤ l.stations)
-
-abbrev pub decreases-loop-station : goal.decreases-loop-station
-decreases-loop-station l = l.stations - l.station

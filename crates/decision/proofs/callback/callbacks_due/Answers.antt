@@ -30,7 +30,7 @@ pub returns-then-keeps_permission : goal.returns-then-keeps_permission
 returns-then-keeps_permission c =
     let a = c.args in
     none-due a.clients (record_in a.records) a.last a.opener a.mode
-    (λ k. rw (← c.record_of-own.ensures, ← c.keeps_permission.ensures, c.if-keeps_permission.true))
+    (λ k. rw (← c.record_of.ensures, ← c.keeps_permission.ensures, c.if-keeps_permission.true))
 
 pub returns-then-calls_nobody : goal.returns-then-calls_nobody
 returns-then-calls_nobody c =
@@ -48,11 +48,11 @@ pub loop-i-preserved : goal.loop-i-preserved
 loop-i-preserved c =
     stored_more c.loop-i.invariant c.loop-i-test.true
     (rw (
-      c.kind_if.ensures,
+      c.either.ensures,
       cond_not (eqb c.loop-i.i c.args.opener) c.callback_kind-kind.result 0,
       c.callback_kind-kind.ensures,
       c.state_of-state.ensures,
-      ← c.record_of-own.ensures,
+      ← c.record_of.ensures,
       ← c.keeps_permission.ensures,
       c.if-keeps_permission.false,
     ))

@@ -1,5 +1,5 @@
 -- After i clients each sum is their tally.
-use Rattle.std.proofs.Common.{ℕ, ◌-◌, List}
+use Rattle.std.proofs.Common.{ℕ, List}
 use Rattle.records.specs.declared.record.ClientRecord.{ClientRecord}
 use Rattle.decision.specs.declared.state.Property.{Property}
 use Rattle.decision.specs.declared.state.Property.TheVariants.{Open, Uncached, Writing}
@@ -16,6 +16,3 @@ invariant-loop-i l =
     Tallied l.clients l.fn.records Open l.«open» l.i
     × Tallied l.clients l.fn.records Uncached l.uncached l.i
     × Tallied l.clients l.fn.records Writing l.writing l.i
-
-abbrev pub decreases-loop-i : goal.decreases-loop-i
-decreases-loop-i l = l.clients - l.i

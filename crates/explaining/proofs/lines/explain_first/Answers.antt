@@ -1,11 +1,9 @@
 -- `explain_first` meets its contract: a first line that chooses the sizes is told by what it sets, and no other is. Assumes
 -- nothing.
-use mathlib.Core.Path.{refl, sym, ap, ◌∙◌}
+use mathlib.Core.Path.{sym, ap, ◌∙◌}
 use lib.ListN.{length}
 use mathlib.Core.Bool.{not}
 use Rattle.sizes.proofs.Choosing.{when}
-use Rattle.blocks.specs.Stores.{lent}
-use Rattle.stepfile.specs.declared.parsed.Parsed.TheVariants.{NoStep}
 use Rattle.telling.proofs.Reaching.{line_bytes}
 use Rattle.telling.proofs.LineByLine.{from_1, none_yet}
 use Rattle.sentences.specs.Explained.{explained_room}
@@ -13,20 +11,20 @@ use Rattle.playing.proofs.FirstLines.{none_later, left_alone, can-be-told, is-fi
 use Rattle.explaining.specs.Lines.{explaining, state_held}
 use Rattle.explaining.proofs.Explaining.{line_told}
 use Rattle.explaining.proofs.lines.explain_first.Goals as goal
+use Rattle.std.proofs.Common.{None}
 
 pub returns-then-not-chooses-can_tell : goal.returns-then-not-chooses-can_tell
 returns-then-not-chooses-can_tell c =
     let a = c.args in
     λ l.
     let came =
-    state_held a.sizes a.table.now a.flags.now (lent a.blocks.now a.copies.now a.held.now a.dirty.now) l a.refusals.now in
+    state_held a.sizes a.service.now.table a.service.now.flags a.service.now.stores l a.refusals.now in
     record {
       reached = none_yet (explaining a.fresh) came a.first a.input.now a.out.now;
       chosen =
           left_alone a.fresh a.first a.input.now c.read_first_setting-line.result c.read_first_setting-line.ensures
           c.is_set.result c.can_tell.result c.is_set.ensures explained_room (length a.out.now) c.can_tell.ensures
           (ap not c.if-not-chooses-can_tell.true);
-      long = record { rows = refl; reports = refl };
     }
 
 pub returns : goal.returns
@@ -45,15 +43,14 @@ returns c =
     ∙ sym (when _ _ (is-first a.fresh a.first a.input.now line read.ensures set.result asked.result set.ensures explained_room room asked.ensures left)) in
     λ l.
     let came =
-    state_held a.sizes a.table.now a.flags.now (lent a.blocks.now a.copies.now a.held.now a.dirty.now) l a.refusals.now in
+    state_held a.sizes a.service.now.table a.service.now.flags a.service.now.stores l a.refusals.now in
     record {
       reached =
-          line_told a.fresh came a.first a.input.now a.out.now came a.first 0 0 a.out.now NoStep line.next _
+          line_told a.fresh came a.first a.input.now a.out.now came a.first 0 0 a.out.now None line.next _
           c.tell_setting-set.result.to _
           (none_yet (explaining a.fresh) came a.first a.input.now a.out.now)
           (first_read a.fresh a.first a.input.now line read.ensures set.result asked.result set.ensures explained_room room asked.ensures left)
           can
           (c.tell_setting-set.ensures.tells_line a.fresh l (line_bytes a.input.now 0 line.next) is);
       chosen = none_later a.fresh a.first _ _ (from_1 explained_room room 0 a.first can);
-      long = c.tell_setting-set.ensures.long;
     }

@@ -13,9 +13,11 @@ use Rattle.protocol.specs.declared.shared.SharedFile.{SharedFile}
 use Rattle.protocol.specs.Client.{side_of, with_side, answered_client}
 use Rattle.protocol.specs.Entry.{call_to, answered_entry}
 use Rattle.protocol.specs.Refusal.{answer_tests}
+use Rattle.protocol.specs.Refused.{refusal_in}
 use Rattle.protocol.proofs.Tested.{named}
 use Rattle.words.specs.Rows.{entry_held, file_held}
-use Rattle.blocks.specs.Stores.{Stores, lent, sent_blocks}
+use Rattle.blocks.specs.declared.stores.Stores.{Stores}
+use Rattle.blocks.specs.Stores.{sent_blocks}
 use Rattle.blocks.proofs.Wrapped.{wrapped_cell, wrapped_place}
 use Rattle.file.specs.FileStep.{answered as answered_file}
 use Rattle.file.proofs.AnswerStep.{answer-done}
@@ -47,19 +49,20 @@ module _
         omega (arith, file, p.files),
       )
 
-pub returns-then-refusal-ne0 : goal.returns-then-refusal-ne0
-returns-then-refusal-ne0 c =
+pub returns-in-Err : goal.returns-in-Err
+returns-in-Err c =
     let a = c.args in
     let file = file_held a.table.now (a.file % max_files) in
     refused_holds (answer_tests a.sizes a.embargoed a.recovering file.entry a.client a.file) _
-    (answer_step a.sizes a.embargoed a.recovering file (lent a.blocks.now a.copies.now a.held.now a.dirty.now) a.client a.file)
-    (tests-of a.sizes a.embargoed a.recovering a.table.now a.client a.file _ _ c.entry_at-entry.ensures c.answer_refusal-refusal.ensures)
-    c.if-refusal-ne0.true
+    (answer_step a.sizes a.embargoed a.recovering file a.stores.now a.client a.file)
+    (tests-of a.sizes a.embargoed a.recovering a.table.now a.client a.file _ _ c.entry_at-entry.ensures c.answer_refusal.ensures)
+    c.in-Err.is c.from.ensures
 
 pub put_own-requires-clause-by_index : goal.put_own-requires-clause-by_index
 put_own-requires-clause-by_index c =
     let a = c.args in
-    let known = there a.sizes a.embargoed a.recovering a.table.now a.client a.file _ _ c.entry_at-entry.ensures c.answer_refusal-refusal.ensures c.requires.permitted c.if-refusal-ne0.false in
+    let known = there a.sizes a.embargoed a.recovering a.table.now a.client a.file _ _ c.entry_at-entry.ensures
+    c.answer_refusal.ensures c.requires.permitted (ap refusal_in c.in_default.is) in
     answered_others a.table.now (a.file % max_files) a.client (a.client % max_clients) c.call_to-kind.result _ c.answered-answered.result
     c.entry_at-entry.ensures
     c.answered-answered.ensures
@@ -71,11 +74,11 @@ returns c =
     let t = a.table.now in
     let row = a.file % max_files in
     let file : SharedFile = file_held t row in
-    let stores : Stores = lent a.blocks.now a.copies.now a.held.now a.dirty.now in
+    let stores : Stores = a.stores.now in
     let loaded = c.entry_at-entry.ensures in
-    let none = c.if-refusal-ne0.false in
-    let tests = tests-of a.sizes a.embargoed a.recovering t a.client a.file _ _ loaded c.answer_refusal-refusal.ensures in
-    let known = there a.sizes a.embargoed a.recovering t a.client a.file _ _ loaded c.answer_refusal-refusal.ensures c.requires.permitted none in
+    let tests = tests-of a.sizes a.embargoed a.recovering t a.client a.file _ _ loaded c.answer_refusal.ensures in
+    let known = there a.sizes a.embargoed a.recovering t a.client a.file _ _ loaded c.answer_refusal.ensures
+    c.requires.permitted (ap refusal_in c.in_default.is) in
     let kind = c.call_to-kind.result in
     let kind-of : kind ≡ call_to a.sizes.clients file.entry a.client =
     c.call_to-kind.ensures ∙ ap (λ (e : Entry). call_to a.sizes.clients e a.client) loaded in
@@ -96,19 +99,18 @@ returns c =
     let at : c.first_cell.result ≡ first_cell a.client a.file =
     c.first_cell.ensures.value ∙ wrapped_cell a.client a.file known.0 known.2 in
     let sent = c.answer_blocks-sent in
-    let stores' = lent sent.new.blocks sent.new.copies sent.new.held sent.new.dirty in
+    let stores' = sent.new.self in
     let stores-left : stores' ≡ left.stores =
-    answered a.sizes.blocks a.client a.file a.blocks.now a.copies.now a.held.now a.dirty.now kind
-    c.first_cell.result c.first_place.result _ _ _ _ at
+    answered a.sizes.blocks a.client a.file stores kind c.first_cell.result c.first_place.result stores' at
     (c.first_place.ensures.value ∙ wrapped_place a.file known.2)
     sent.ensures.blocks_after
     sent.ensures.copies_after
     sent.ensures.held_after
     sent.ensures.dirty_after in
     let told : sent.result ≡ sent_blocks a.sizes.blocks kind a.client a.file stores =
-    sent_blocks_lem a.sizes.blocks a.client a.file a.blocks.now a.copies.now a.held.now a.dirty.now kind
+    sent_blocks_lem a.sizes.blocks a.client a.file stores kind
     c.first_cell.result sent.result at sent.ensures.value in
     holds_as
-    (answer-done a.sizes a.embargoed a.recovering file stores a.client a.file c.answer_refusal-refusal.result
-    tests none kind sent.result then stores' kind-of file-left stores-left told)
-    (answer_holds a.sizes a.file sent.result then stores' c.put_own.ensures (c.grant_if_last.ensures _))
+    (answer-done a.sizes a.embargoed a.recovering file stores a.client a.file
+    tests c.in_default.is kind sent.result then stores' kind-of file-left stores-left told)
+    (answer_holds a.sizes a.file sent.result then stores' c.put_own.ensures c.grant_if_last.ensures)

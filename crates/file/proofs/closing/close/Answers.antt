@@ -16,11 +16,11 @@ use Rattle.protocol.specs.declared.entry.Entry.{Entry}
 use Rattle.protocol.specs.declared.reply.Reply.TheVariants.{Done}
 use Rattle.protocol.specs.Client.{side_of, closed_client}
 use Rattle.protocol.specs.Refusal.{Test, close_tests}
+use Rattle.protocol.specs.Refused.{refusal_in}
 use Rattle.protocol.proofs.Tested.{named}
 use Rattle.words.specs.Words.{side_held}
 use Rattle.words.specs.Rows.{row_words, word_at, entry_held, sides_held, file_held}
 use Rattle.words.proofs.Changing.{beside_three, closed_held}
-use Rattle.blocks.specs.Stores.{lent}
 use Rattle.blocks.proofs.Wrapped.{wrapped_cell}
 use Rattle.file.specs.FileStep.{after_close}
 use Rattle.file.proofs.Lending.{any_found}
@@ -54,36 +54,36 @@ module _
       let (client, file, _) = named z i f k _ tests-of none in
       (omega (arith, client, p.clients), omega (arith, file, p.files))
 
-pub returns-then-refusal-ne0 : goal.returns-then-refusal-ne0
-returns-then-refusal-ne0 c blocks copies held =
+pub returns-in-Err : goal.returns-in-Err
+returns-in-Err c =
     let a = c.args in
     let file = file_held a.table.now (a.file % max_files) in
     refused_holds (close_tests a.sizes a.embargoed a.recovering file.entry (side_of file.sides a.client) a.mode a.client a.file) _
-    (close_step a.sizes a.embargoed a.recovering file (lent blocks copies held a.dirty.now) a.mode a.client a.file)
+    (close_step a.sizes a.embargoed a.recovering file a.stores.now a.mode a.client a.file)
     (tests-of a.sizes a.embargoed a.recovering a.table.now a.mode a.client a.file _ _ _ c.requires.permitted
-    c.waiter_of.ensures c.side_of-own.ensures c.close_refusal-refusal.ensures)
-    c.if-refusal-ne0.true
+    c.waiter_of.ensures c.side_of-own.ensures c.close_refusal.ensures)
+    c.in-Err.is c.from.ensures
 
 pub last_closed-last-requires : goal.last_closed-last-requires
 last_closed-last-requires c =
     let a = c.args in
     let known = there a.sizes a.embargoed a.recovering a.table.now a.mode a.client a.file _ _ _ c.requires.permitted
-    c.waiter_of.ensures c.side_of-own.ensures c.close_refusal-refusal.ensures c.if-refusal-ne0.false in
+    c.waiter_of.ensures c.side_of-own.ensures c.close_refusal.ensures (ap refusal_in c.in_default.is) in
     known.0
 
 pub returns : goal.returns
-returns c blocks copies held =
+returns c =
     let a = c.args in
     let t = a.table.now in
     let row = a.file % max_files in
     let place = a.client % max_clients in
     let file = file_held t row in
-    let stores = lent blocks copies held a.dirty.now in
-    let none = c.if-refusal-ne0.false in
+    let stores = a.stores.now in
+    let none = ap refusal_in c.in_default.is in
     let tested = tests-of a.sizes a.embargoed a.recovering t a.mode a.client a.file _ _ _ c.requires.permitted
-    c.waiter_of.ensures c.side_of-own.ensures c.close_refusal-refusal.ensures in
+    c.waiter_of.ensures c.side_of-own.ensures c.close_refusal.ensures in
     let (client, file-there) = there a.sizes a.embargoed a.recovering t a.mode a.client a.file _ _ _ c.requires.permitted
-    c.waiter_of.ensures c.side_of-own.ensures c.close_refusal-refusal.ensures none in
+    c.waiter_of.ensures c.side_of-own.ensures c.close_refusal.ensures none in
     let here : place ≡ a.client = mod-eq_of_lt client in
     let below : place < max_clients = mod-lt a.client (omega arith) in
     let fits : row * row_words + row_words ≤ length t = omega (arith, mod-lt a.file {m = max_files} (omega arith), c.requires.table_len) in
@@ -95,7 +95,7 @@ returns c blocks copies held =
     (after_close a.sizes file stores a.mode a.client a.file)
     (close_step a.sizes a.embargoed a.recovering file stores a.mode a.client a.file)
     tested
-    none)
+    c.in_default.is)
     (record {
       puts =
           record {

@@ -14,9 +14,10 @@ use Rattle.decision.specs.Lists.{first_of}
 use Rattle.protocol.specs.declared.reply.Reply.TheVariants.{Done}
 use Rattle.protocol.specs.Client.{flushed_client}
 use Rattle.protocol.specs.Refusal.{flush_tests}
+use Rattle.protocol.specs.Refused.{refusal_in}
 use Rattle.protocol.proofs.Tested.{named_block}
 use Rattle.words.specs.Rows.{row_words, file_held}
-use Rattle.blocks.specs.Stores.{lent, dirty_in, flushed_stores}
+use Rattle.blocks.specs.Stores.{dirty_in, flushed_stores}
 use Rattle.blocks.proofs.Wrapped.{wrapped_cell, wrapped, wrapped_block}
 use Rattle.file.specs.FileStep.{after_flush}
 use Rattle.file.proofs.FlushedRow.{flush_puts}
@@ -46,30 +47,31 @@ module _
         omega (arith, block, p.blocks),
       )
 
-pub returns-then-refusal-ne0 : goal.returns-then-refusal-ne0
-returns-then-refusal-ne0 c held =
+pub returns-in-Err : goal.returns-in-Err
+returns-in-Err c =
     let a = c.args in
     let file = file_held a.table.now (a.file % max_files) in
-    let stores = lent a.blocks.now a.copies.now held a.dirty.now in
+    let stores = a.stores.now in
     refused_holds (flush_tests a.sizes a.embargoed a.recovering (dirty_in stores a.client a.file a.block) a.client a.file a.block) _
     (flush_step a.sizes a.embargoed a.recovering file stores a.client a.file a.block)
-    (tests-of a.sizes a.embargoed a.recovering a.dirty.now a.client a.file a.block _ _ c.requires.permitted c.cell_of-cell.ensures.value
-    c.flush_refusal-refusal.ensures)
-    c.if-refusal-ne0.true
+    (tests-of a.sizes a.embargoed a.recovering a.stores.now.dirty a.client a.file a.block _ _ c.requires.permitted c.cell_of-cell.ensures.value
+    c.flush_refusal.ensures)
+    c.in-Err.is c.from.ensures
 
 pub returns : goal.returns
-returns c held =
+returns c =
     let a = c.args in
     let t = a.table.now in
     let f = a.file % max_files in
     let i = a.client % max_clients in
     let file = file_held t f in
-    let stores = lent a.blocks.now a.copies.now held a.dirty.now in
-    let none = c.if-refusal-ne0.false in
-    let tested = tests-of a.sizes a.embargoed a.recovering a.dirty.now a.client a.file a.block _ _ c.requires.permitted
-    c.cell_of-cell.ensures.value c.flush_refusal-refusal.ensures in
-    let (client, file-there, block) = there a.sizes a.embargoed a.recovering a.dirty.now a.client a.file a.block _ _ c.requires.permitted
-    c.cell_of-cell.ensures.value c.flush_refusal-refusal.ensures none in
+    let stores = a.stores.now in
+    let none = ap refusal_in c.in_default.is in
+    let tested = tests-of a.sizes a.embargoed a.recovering a.stores.now.dirty a.client a.file a.block _ _ c.requires.permitted
+    c.cell_of-cell.ensures.value c.flush_refusal.ensures in
+    let (client, file-there, block) = there a.sizes a.embargoed a.recovering a.stores.now.dirty a.client a.file
+    a.block _ _ c.requires.permitted
+    c.cell_of-cell.ensures.value c.flush_refusal.ensures none in
     let here : i ≡ a.client = mod-eq_of_lt client in
     let fits : f * row_words + row_words ≤ length t = omega (arith, mod-lt a.file {m = max_files} (omega arith), c.requires.table_len) in
     let at : c.cell_of-cell.result ≡ cell a.client a.file a.block =
@@ -86,7 +88,7 @@ returns c held =
     (after_flush a.sizes file stores a.client a.file a.block)
     (flush_step a.sizes a.embargoed a.recovering file stores a.client a.file a.block)
     tested
-    none)
+    c.in_default.is)
     (record {
       puts =
           rw (← any)
@@ -96,6 +98,6 @@ returns c held =
       reply_after = refl;
       calls_after = refl;
       stores_after =
-          flushed a.client a.file a.block a.blocks.now a.copies.now held a.dirty.now _ _ at to;
+          flushed a.client a.file a.block stores _ _ at to;
       refused = not_refused Done refl;
     })

@@ -2,7 +2,7 @@
 use Prim.Native.Nat.{ℕ, ◌%◌, ◌<◌}
 use mathlib.Core.Path.{◌≡◌, refl, sym, ap, ◌∙◌, subst}
 use mathlib.Core.Bool.{false}
-use mathlib.Core.List.{List, []}
+use mathlib.Core.List.{List}
 use native.Mathlib.Nat.{mod-eq_of_lt}
 use native.Mathlib.Omega.{arith}
 use Rattle.sizes.specs.declared.sizes.Sizes.{Sizes}
@@ -11,13 +11,12 @@ use Rattle.decision.specs.Callback.{asks_nothing}
 use Rattle.protocol.specs.declared.entry.Entry.{Entry}
 use Rattle.protocol.specs.declared.shared.SharedFile.{SharedFile}
 use Rattle.protocol.specs.Entry.{call_to, forgotten_entry, answered_entry}
-use Rattle.words.specs.Rows.{entry_held, sides_held, file_held, Puts}
-use Rattle.blocks.specs.Stores.{lent}
+use Rattle.words.specs.Rows.{entry_held, file_held, Puts}
 use Rattle.file.specs.FileStep.{with_entry}
 use Rattle.file.proofs.AnsweredRow.{answered_others}
 use Rattle.file.proofs.ForgetStep.{forget-done, forget-answers}
 use Rattle.file.proofs.LastAnswer.{GrantsBelow, someone_waits, grants_below_lem}
-use Rattle.file.proofs.Leaving.{puts_after, leaves_as, stored_before}
+use Rattle.file.proofs.Leaving.{entry_stored, leaves_as, stored_before}
 use Rattle.file.proofs.Taking.{puts_as}
 use Rattle.file.proofs.forgetting.forget.Goals as goal
 
@@ -39,14 +38,6 @@ module _
   left_is : i % max_clients ≡ i → e ≡ forgotten_entry z.clients (entry_held t (f % max_files)) i
   left_is at = loaded-as ∙ ap (forgotten_entry z.clients (entry_held t (f % max_files))) at
 
-  -- the row was stored twice
-  stored :
-      (after : Entry) (t₂ : List ℕ)
-      → Puts (f % max_files) (record { entry = after; sides = sides_held t₁ (f % max_files) }) t₁ t₂
-      → Puts (f % max_files) (with_entry (file_held t (f % max_files)) after) t t₂
-  stored after t₂ second =
-      puts_as (ap (λ (x : SharedFile). record { entry = after; sides = x.sides }) first.here) (puts_after first second)
-
 -- the open that waits is there to be granted
 waiter-below :
     (n i kind : ℕ) (e after : Entry)
@@ -59,13 +50,13 @@ waiter-below n i kind e after kind-of called answered =
     omega (arith, same, someone_waits n e i (ap asks_nothing (sym kind-of) ∙ called))
 
 pub returns-then-asks_nothing-clause-by_index : goal.returns-then-asks_nothing-clause-by_index
-returns-then-asks_nothing-clause-by_index c blocks =
+returns-then-asks_nothing-clause-by_index c =
     let a = c.args in
     let file = file_held a.table.now (a.file % max_files) in
     let first = c.put_forgotten.ensures in
     let loaded = c.entry_at-entry.ensures in
     leaves_as
-    (forget-done a.sizes a.file file (lent blocks a.copies.now a.held.now a.dirty.now) a.client c.entry_at-entry.result c.call_to-kind.result
+    (forget-done a.sizes a.file file a.stores.now a.client c.entry_at-entry.result c.call_to-kind.result
     (left_is a.sizes a.table.now _ a.client a.file _ first loaded (here a.sizes a.client c.requires.permitted c.requires.client_lt_clients))
     c.call_to-kind.ensures
     (sym c.asks_nothing.ensures ∙ c.if-asks_nothing.true))
@@ -85,10 +76,10 @@ put_known-requires-clause-by_index c =
     (here a.sizes a.client c.requires.permitted c.requires.client_lt_clients)
 
 pub returns-clause-by_index : goal.returns-clause-by_index
-returns-clause-by_index c blocks =
+returns-clause-by_index c =
     let a = c.args in
     let file = file_held a.table.now (a.file % max_files) in
-    let stores = lent blocks a.copies.now a.held.now a.dirty.now in
+    let stores = a.stores.now in
     let first = c.put_forgotten.ensures in
     let loaded = c.entry_at-entry.ensures in
     let answered = c.answered-answered in
@@ -99,21 +90,21 @@ returns-clause-by_index c blocks =
     (sym c.asks_nothing.ensures ∙ c.if-asks_nothing.false)
     answered.ensures)
     (stored_before a.sizes a.file 0 (with_entry file answered.result) stores
-    (stored a.sizes a.table.now _ a.client a.file _ first loaded answered.result _ c.put_known.ensures)
-    (c.grant_if_last.ensures blocks))
+    (entry_stored first c.put_known.ensures)
+    c.grant_if_last.ensures)
 
 pub returns-clause-by_index_2 : goal.returns-clause-by_index_2
 returns-clause-by_index_2 c sent j g told =
     let a = c.args in
     let file = file_held a.table.now (a.file % max_files) in
-    let stores = lent [] a.copies.now a.held.now a.dirty.now in
+    let stores = a.stores.now in
     let first = c.put_forgotten.ensures in
     let loaded = c.entry_at-entry.ensures in
     let answered = c.answered-answered in
     let x = with_entry file answered.result in
     let leaves = stored_before a.sizes a.file 0 x stores
-    (stored a.sizes a.table.now _ a.client a.file _ first loaded answered.result _ c.put_known.ensures)
-    (c.grant_if_last.ensures []) in
+    (entry_stored first c.put_known.ensures)
+    c.grant_if_last.ensures in
     subst (GrantsBelow a.sizes.clients) (sym leaves.reply_after ∙ told)
     (grants_below_lem a.sizes a.file 0 x stores
     (waiter-below a.sizes.clients a.client c.call_to-kind.result c.entry_at-entry.result answered.result c.call_to-kind.ensures

@@ -9,7 +9,7 @@ use Rattle.file.proofs.Taking.{not_refused}
 use Rattle.file.proofs.granting.grant_open.Goals as goal
 
 pub returns : goal.returns
-returns c blocks reply done =
+returns c reply done =
     let a = c.args in
     let permitted = c.requires.permitted in
     let hi : a.opener < max_clients = omega (arith, c.requires.opener_lt_clients, permitted.clients) in
@@ -22,9 +22,9 @@ returns c blocks reply done =
       refused = not_refused reply done;
       stores_after =
           rw (c.requires.opener_value, ← c.keeps_blocks.ensures)
-          (dropped a.sizes.blocks a.opener a.file blocks a.copies.now a.held.now a.dirty.now
-          c.keeps_blocks.result c.first_cell.result _ _ _
+          (dropped a.sizes.blocks a.opener a.file a.stores.now c.keeps_blocks.result c.first_cell.result _
           (c.first_cell.ensures.value ∙ wrapped_cell a.opener a.file hi hf)
+          drop.blocks_after
           drop.copies_after
           drop.held_after
           drop.dirty_after);

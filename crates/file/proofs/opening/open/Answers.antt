@@ -15,11 +15,11 @@ use Rattle.protocol.specs.declared.shared.SharedFile.{SharedFile}
 use Rattle.protocol.specs.Client.{side_of}
 use Rattle.protocol.specs.Entry.{calls_due, grant_of, waiting_entry}
 use Rattle.protocol.specs.Refusal.{Test, open_tests}
+use Rattle.protocol.specs.Refused.{refusal_in}
 use Rattle.protocol.specs.Reply.{no_calls}
 use Rattle.protocol.proofs.Tested.{named}
 use Rattle.words.specs.Words.{side_held}
 use Rattle.words.specs.Rows.{word_at, entry_held, sides_held, file_held}
-use Rattle.blocks.specs.Stores.{lent}
 use Rattle.file.proofs.OpenStep.{open-granted, open-waits}
 use Rattle.file.proofs.Taking.{open_step, puts_as, holds_as, refused_holds, not_refused}
 use Rattle.file.proofs.Wrapping.{later, wrapped_tests, wrapped_side}
@@ -53,43 +53,43 @@ module _
       let (client, file, _) = named z i f k _ tests-of none in
       (client, file)
 
-pub returns-then-refusal-ne0 : goal.returns-then-refusal-ne0
-returns-then-refusal-ne0 c blocks =
+pub returns-in-Err : goal.returns-in-Err
+returns-in-Err c =
     let a = c.args in
     let file = file_held a.table.now (a.file % max_files) in
     refused_holds (open_tests a.sizes a.embargoed a.recovering file.entry (side_of file.sides a.client) a.mode a.client a.file) _
-    (open_step a.sizes a.embargoed a.recovering file (lent blocks a.copies.now a.held.now a.dirty.now) a.mode a.client a.file)
+    (open_step a.sizes a.embargoed a.recovering file a.stores.now a.mode a.client a.file)
     (tests-of a.sizes a.embargoed a.recovering a.table.now a.mode a.client a.file _ _ _ c.requires.permitted
-    c.entry_at-entry.ensures c.side_of-own.ensures c.open_refusal-refusal.ensures)
-    c.if-refusal-ne0.true
+    c.entry_at-entry.ensures c.side_of-own.ensures c.open_refusal.ensures)
+    c.in-Err.is c.from.ensures
 
 pub grant_open-requires-clause-opener_value : goal.grant_open-requires-clause-opener_value
 grant_open-requires-clause-opener_value c =
     let a = c.args in
     let (client, file) = there a.sizes a.embargoed a.recovering a.table.now a.mode a.client a.file _ _ _ c.requires.permitted
-    c.entry_at-entry.ensures c.side_of-own.ensures c.open_refusal-refusal.ensures c.if-refusal-ne0.false in
+    c.entry_at-entry.ensures c.side_of-own.ensures c.open_refusal.ensures (ap refusal_in c.in_default.is) in
     let below : a.client < max_clients = omega (arith, client, c.requires.permitted.clients) in
     wrapped_side a.table.now (a.file % max_files) a.client c.side_of-own.result below c.side_of-own.ensures
 
 pub returns-then-count_calls-eq0 : goal.returns-then-count_calls-eq0
-returns-then-count_calls-eq0 c blocks =
+returns-then-count_calls-eq0 c =
     let a = c.args in
     let loaded = c.entry_at-entry.ensures in
     let grant = c.grant-grant in
     holds_as
-    (open-granted a.sizes a.embargoed a.recovering (file_held a.table.now (a.file % max_files)) (lent blocks a.copies.now a.held.now a.dirty.now)
+    (open-granted a.sizes a.embargoed a.recovering (file_held a.table.now (a.file % max_files)) a.stores.now
     a.mode a.client a.file
-    c.open_refusal-refusal.result c.calls_due-calls.result c.count_calls.result c.requires.permitted.clients
+    c.calls_due-calls.result c.count_calls.result c.requires.permitted.clients
     (tests-of a.sizes a.embargoed a.recovering a.table.now a.mode a.client a.file _ _ _ c.requires.permitted
-    loaded c.side_of-own.ensures c.open_refusal-refusal.ensures)
-    c.if-refusal-ne0.false
+    loaded c.side_of-own.ensures c.open_refusal.ensures)
+    c.in_default.is
     (c.calls_due-calls.ensures ∙ ap (λ (e : Entry). calls_due a.sizes.clients e a.client a.mode no_calls) loaded)
     c.count_calls.ensures grant.result c.if-count_calls-eq0.true
     (grant.ensures ∙ ap (λ (e : Entry). grant_of a.sizes.clients e a.client a.mode) loaded))
-    (c.grant_open.ensures blocks (Granted grant.result) refl)
+    (c.grant_open.ensures (Granted grant.result) refl)
 
 pub returns : goal.returns
-returns c blocks =
+returns c =
     let a = c.args in
     let file : SharedFile = file_held a.table.now (a.file % max_files) in
     let loaded = c.entry_at-entry.ensures in
@@ -98,13 +98,13 @@ returns c blocks =
     let waits : c.waiting-waits.result ≡ waiting_entry a.sizes.clients file.entry a.client a.mode =
     c.waiting-waits.ensures ∙ ap (λ (e : Entry). waiting_entry a.sizes.clients e a.client a.mode) loaded in
     holds_as
-    (open-waits a.sizes a.embargoed a.recovering file (lent blocks a.copies.now a.held.now a.dirty.now) a.mode a.client a.file
-    c.open_refusal-refusal.result c.calls_due-calls.result c.count_calls.result c.requires.permitted.clients
+    (open-waits a.sizes a.embargoed a.recovering file a.stores.now a.mode a.client a.file
+    c.calls_due-calls.result c.count_calls.result c.requires.permitted.clients
     (tests-of a.sizes a.embargoed a.recovering a.table.now a.mode a.client a.file _ _ _ c.requires.permitted
-    loaded c.side_of-own.ensures c.open_refusal-refusal.ensures)
-    c.if-refusal-ne0.false due c.count_calls.ensures c.if-count_calls-eq0.false)
+    loaded c.side_of-own.ensures c.open_refusal.ensures)
+    c.in_default.is due c.count_calls.ensures c.if-count_calls-eq0.false)
     (record {
-      puts = puts_as (ap (λ (e : Entry). record { entry = e; sides = file.sides }) waits) c.put_wait.ensures;
+      puts = puts_as (ap (λ (e : Entry). record { entry = e; sides = file.sides }) waits) c.put_head.ensures;
       reply_after = refl;
       calls_after = due;
       stores_after = refl;

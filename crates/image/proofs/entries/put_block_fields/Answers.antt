@@ -4,4 +4,4 @@ use Rattle.image.proofs.entries.put_block_fields.Goals as goal
 
 pub returns-clause-wrote : goal.returns-clause-wrote
 returns-clause-wrote c =
-    wrote_then c.put_byte-second.ensures.wrote (wrote_then c.put_byte-third.ensures.wrote c.put_eight.ensures.wrote)
+    wrote_then c.put_byte-second.ensures.wrote (wrote_then c.put_byte-third.ensures.wrote c.put_low.ensures.wrote)

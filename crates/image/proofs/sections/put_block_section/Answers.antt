@@ -7,4 +7,4 @@ use Rattle.image.proofs.sections.put_block_section.Goals as goal
 pub returns-clause-wrote : goal.returns-clause-wrote
 returns-clause-wrote c =
     let a = c.args in
-    counted 10 (lit< tt) (block_entries a.sizes a.used.now a.blocks.now) (wide_blocks a.sizes a.used.now a.blocks.now) c.put_blocks-past.ensures.wrote c.put_count.ensures
+    counted 10 (lit< tt) (block_entries a.sizes a.contents.now.used a.contents.now.blocks) (wide_blocks a.sizes a.contents.now.used a.contents.now.blocks) c.put_blocks-past.ensures.wrote c.put_count.ensures

@@ -14,5 +14,5 @@ by_one n = omega arith
 pub returns-clause-wrote : goal.returns-clause-wrote
 returns-clause-wrote c =
     let a = c.args in
-    counted 1 (lit< tt) (embargo_entries a.sizes a.embargoed) (wide_embargoes a.sizes a.embargoed) c.put_embargoes-past.ensures.wrote
+    counted 1 (lit< tt) (embargo_entries a.sizes a.contents.now.embargoed) (wide_embargoes a.sizes a.contents.now.embargoed) c.put_embargoes-past.ensures.wrote
     (rw by_one c.put_count.ensures)

@@ -1,5 +1,4 @@
 -- After so many clients those under embargo are written.
-use Prim.Native.Nat.{◌-◌}
 use Rattle.table.specs.TableStep.{is_embargoed}
 use Rattle.image.specs.Image.{embargo_entry}
 use Rattle.image.proofs.Listing.{Listing}
@@ -7,7 +6,4 @@ use Rattle.image.proofs.sections.put_embargoes.Given as goal
 
 abbrev pub invariant-loop-client : goal.invariant-loop-client
 invariant-loop-client l =
-    Listing 1 (λ i. embargo_entry i (is_embargoed l.fn.embargoed i)) l.sizes.clients l.fn.out l.at l.out l.next l.client
-
-abbrev pub decreases-loop-client : goal.decreases-loop-client
-decreases-loop-client l = l.sizes.clients - l.client
+    Listing 1 (λ i. embargo_entry i (is_embargoed l.contents.embargoed i)) l.fn.sizes.clients l.fn.out l.at l.out l.next l.client

@@ -5,4 +5,4 @@ use Rattle.image.proofs.sections.put_sizes.Goals as goal
 pub returns-clause-wrote : goal.returns-clause-wrote
 returns-clause-wrote c =
     wrote_then c.put_byte-second.ensures.wrote
-    (wrote_then c.put_byte-third.ensures.wrote (wrote_then c.put_byte-fourth.ensures.wrote c.put_two.ensures.wrote))
+    (wrote_then c.put_byte-third.ensures.wrote (wrote_then c.put_byte-fourth.ensures.wrote c.put_low.ensures.wrote))

@@ -12,19 +12,21 @@ name_test : (dashes is_dashed b : Bool) (text : List ℕ) → is_dashed ≡ dash
     → (dashes || not (dashed text)) ≡ b
 name_test dashes is_dashed b text is e = rw (← is) e
 
-pub returns-then-place-request : goal.returns-then-place-request
+pub returns-then-is_at : goal.returns-then-is_at
 unfolding argument_of
-returns-then-place-request c = rw c.if-place-request.true c.image_name_of.ensures
+returns-then-is_at c = rw (← c.is_at.ensures, ← c.is_at-2.ensures, c.if-is_at.true) c.image_name_of.ensures
 
 pub returns-then-same : goal.returns-then-same
 unfolding argument_of
-returns-then-same c = rw (c.if-place-request.false, c.same.ensures.0 c.if-same.true)
+returns-then-same c = rw (← c.is_at.ensures, ← c.is_at-2.ensures, c.if-is_at.false, c.same.ensures.0 c.if-same.true)
 
 pub returns-then-request-is_dashed : goal.returns-then-request-is_dashed
 unfolding argument_of
 returns-then-request-is_dashed c =
     rw (
-      c.if-place-request.false,
+      ← c.is_at.ensures,
+      ← c.is_at-2.ensures,
+      c.if-is_at.false,
       differs _ _ c.same.ensures.1 c.if-same.false,
       name_test _ _ _ _ c.is_dashed.ensures c.if-request-is_dashed.true,
     )
@@ -33,7 +35,9 @@ pub returns : goal.returns
 unfolding argument_of
 returns c =
     rw (
-      c.if-place-request.false,
+      ← c.is_at.ensures,
+      ← c.is_at-2.ensures,
+      c.if-is_at.false,
       differs _ _ c.same.ensures.1 c.if-same.false,
       name_test _ _ _ _ c.is_dashed.ensures c.if-request-is_dashed.false,
     )

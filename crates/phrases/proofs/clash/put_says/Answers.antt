@@ -6,4 +6,4 @@ pub returns-clause-wrote : goal.returns-clause-wrote
 returns-clause-wrote c =
     wrote_then c.put_client-word.ensures.wrote
     (wrote_then c.put_counts-may.ensures.wrote
-    (wrote_then c.put_caches-mark.ensures.wrote c.put_mark.ensures.wrote))
+    (wrote_then c.put_either-mark.ensures.wrote c.put_either.ensures.wrote))

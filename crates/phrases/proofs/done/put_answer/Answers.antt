@@ -6,5 +6,4 @@ pub returns-clause-wrote : goal.returns-clause-wrote
 returns-clause-wrote c =
     wrote_then c.put_client-word.ensures.wrote
     (wrote_then c.put_text-named.ensures.wrote
-    (wrote_then c.put_file-count.ensures.wrote
-    (wrote_then c.put_text-number.ensures.wrote c.put_argument.ensures.wrote)))
+    (wrote_then c.put_file-count.ensures.wrote c.put_numbered.ensures.wrote))

@@ -7,4 +7,4 @@ returns-clause-wrote c =
     wrote_then c.put_client-word.ensures.wrote
     (wrote_then c.put_text-named.ensures.wrote
     (wrote_then c.put_block-to.ensures.wrote
-    (wrote_then c.put_goal-loss.ensures.wrote c.put_wasted.ensures.wrote)))
+    (wrote_then c.put_either-loss.ensures.wrote c.put_wasted.ensures.wrote)))

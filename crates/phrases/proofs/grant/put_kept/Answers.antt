@@ -6,4 +6,4 @@ use Rattle.phrases.proofs.grant.put_kept.Goals as goal
 pub returns-clause-wrote : goal.returns-clause-wrote
 returns-clause-wrote c =
     wrote_as (copy_text c.args.keep c.args.label _ c.is_none.ensures c.if-is_none.false)
-    (wrote_then c.put_text-version.ensures.wrote (wrote_then c.put_version-fate.ensures.wrote c.put_fate.ensures.wrote))
+    (wrote_then c.put_version-fate.ensures.wrote c.put_either.ensures.wrote)

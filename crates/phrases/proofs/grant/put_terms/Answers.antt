@@ -4,6 +4,5 @@ use Rattle.phrases.proofs.grant.put_terms.Goals as goal
 
 pub returns-clause-wrote : goal.returns-clause-wrote
 returns-clause-wrote c =
-    wrote_then c.put_text-number.ensures.wrote
-    (wrote_then c.put_version-may.ensures.wrote
-    (wrote_then c.put_permission-copy.ensures.wrote c.put_copy.ensures.wrote))
+    wrote_then c.put_version-may.ensures.wrote
+    (wrote_then c.put_either-copy.ensures.wrote c.put_copy.ensures.wrote)

@@ -1,18 +1,10 @@
--- `put_missing` meets its contract: its parts, one after the other. Assumes nothing.
-use mathlib.Core.Path.{◌∙◌, ap}
-use mathlib.Core.Bool.{false, not}
-use native.Mathlib.Omega.{arith}
-use lib.ListN.{get_or, replicate}
+-- `put_missing` meets its contract: the text, then the list. Assumes nothing.
+use Rattle.std.proofs.Common.{ℕ, not, rules}
 use Rattle.table.specs.TableStep.{is_heard}
-use Rattle.phrases.specs.Phrase.{list_text}
-use Rattle.writer.proofs.Buffers.{wrote_as, wrote_then}
-use Rattle.phrases.proofs.Lists.{list_of_flags}
+use Rattle.writer.proofs.Buffers.{wrote_then}
 use Rattle.phrases.proofs.pending.put_missing.Goals as goal
 
 pub returns-clause-wrote : goal.returns-clause-wrote
 returns-clause-wrote c =
-    let n = c.args.clients in
-    let flags =
-    ap (λ l. list_text n (λ k. get_or l k false)) c.not_heard-missing.ensures
-    ∙ list_of_flags n (λ k. not (is_heard c.args.reported c.args.embargoed k)) (replicate 8 false) (omega arith) in
-    wrote_then c.put_text-list.ensures.wrote (wrote_as flags c.put_list.ensures.wrote)
+    wrote_then c.put_text-list.ensures.wrote
+    (c.put_numbers.ensures.wrote (λ (k : ℕ). not (is_heard c.args.reported c.args.embargoed k)) (search rules))

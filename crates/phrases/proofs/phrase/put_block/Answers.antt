@@ -1,8 +1,7 @@
--- `put_block` meets its contract: the file, the word, and the number. Assumes nothing.
+-- `put_block` meets its contract: its parts, one after the other. Assumes nothing.
 use Rattle.writer.proofs.Buffers.{wrote_then}
 use Rattle.phrases.proofs.phrase.put_block.Goals as goal
 
 pub returns-clause-wrote : goal.returns-clause-wrote
 returns-clause-wrote c =
-    wrote_then c.put_file-word.ensures.wrote
-    (wrote_then c.put_text-number.ensures.wrote c.put_argument.ensures.wrote)
+    wrote_then c.put_file-word.ensures.wrote c.put_numbered.ensures.wrote

@@ -2,10 +2,10 @@
 use mathlib.Core.Path.{sym}
 use borrow.Author.Tests.{ne_eqb}
 use Rattle.sizes.proofs.Choosing.{unless}
-use Rattle.writer.proofs.Buffers.{wrote_as, wrote_then}
+use Rattle.writer.proofs.Buffers.{wrote_as}
 use Rattle.phrases.proofs.phrase.put_embargo.Goals as goal
 
 pub returns-clause-wrote : goal.returns-clause-wrote
 returns-clause-wrote c =
     wrote_as (sym (unless _ _ (ne_eqb _ 0 c.if-line-eq0.false)))
-    (wrote_then c.put_text-number.ensures.wrote c.put_argument.ensures.wrote)
+    c.put_numbered.ensures.wrote

@@ -10,5 +10,4 @@ returns-clause-wrote c =
     wrote_as (sym (unless _ _ (ne_eqb _ 0 c.if-told-eq0.false)))
     (wrote_then c.put_text-loser.ensures.wrote
     (wrote_then c.put_client-word.ensures.wrote
-    (wrote_then c.put_text-number.ensures.wrote
-    (wrote_then c.put_argument-end.ensures.wrote c.put_text.ensures.wrote))))
+    (wrote_then c.put_numbered-end.ensures.wrote c.put_text.ensures.wrote)))

@@ -9,5 +9,4 @@ pub returns-clause-wrote : goal.returns-clause-wrote
 returns-clause-wrote c =
     wrote_as (sym (unless _ _ (ne_eqb _ 0 c.if-told-eq0.false)))
     (wrote_then c.put_text-writer.ensures.wrote
-    (wrote_then c.put_client-word.ensures.wrote
-    (wrote_then c.put_text-number.ensures.wrote c.put_argument.ensures.wrote)))
+    (wrote_then c.put_client-word.ensures.wrote c.put_numbered.ensures.wrote))

@@ -4,5 +4,4 @@ use Rattle.phrases.proofs.restart.put_loss.Goals as goal
 
 pub returns-clause-wrote : goal.returns-clause-wrote
 returns-clause-wrote c =
-    wrote_then c.put_block-word.ensures.wrote
-    (wrote_then c.put_text-number.ensures.wrote c.put_argument.ensures.wrote)
+    wrote_then c.put_block-word.ensures.wrote c.put_numbered.ensures.wrote

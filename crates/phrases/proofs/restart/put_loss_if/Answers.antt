@@ -9,4 +9,4 @@ pub returns-clause-by_index : goal.returns-clause-by_index
 returns-clause-by_index c =
     λ d told before.
     wrote_as (sym (when _ _ c.if-not-lost.false))
-    (wrote_next d c.args.start told _ c.args.at _ _ _ _ _ before c.put_comma-loss.ensures.wrote c.put_loss.ensures.wrote)
+    (wrote_next d c.args.start told _ c.args.at _ _ _ _ _ before c.put_either-loss.ensures.wrote c.put_loss.ensures.wrote)

@@ -6,7 +6,7 @@ use Rattle.phrases.proofs.Losses.{at_risk, line_of, below_none, below_more, wrot
 use Rattle.phrases.proofs.restart.put_losses.Goals as goal
 
 pub loop-file-init : goal.loop-file-init
-loop-file-init c = (wrote_as (sym (below_none _ _ _)) (wrote_none _ _ (omega arith)), omega arith, omega arith, refl)
+loop-file-init c = (wrote_as (sym (below_none _ _ _)) (wrote_none _ _ (omega arith)), omega arith)
 
 pub loop-file-preserved : goal.loop-file-preserved
 loop-file-preserved c =
@@ -14,16 +14,14 @@ loop-file-preserved c =
     let inv = c.loop-file.invariant in (
       wrote_as (below_more _ _ _ c.loop-file.file) (put.ensures.by_index _ _ inv.0),
       omega arith,
-      omega arith,
-      put.auto.out ∙ inv.3,
     )
 
 pub returns-then-next-at-clause-wrote : goal.returns-then-next-at-clause-wrote
 returns-then-next-at-clause-wrote c =
-    wrote_no_losses (at_risk c.args.written.now c.args.writers.now c.args.client) (line_of c.args.written.now c.args.writers.now)
+    wrote_no_losses (at_risk c.args.ledger.now c.args.client) (line_of c.args.ledger.now)
     c.args.blocks c.loop-file.invariant.0 (omega arith) c.if-next-at.true c.put_text.ensures.wrote
 
 pub returns-clause-wrote : goal.returns-clause-wrote
 returns-clause-wrote c =
-    wrote_losses (at_risk c.args.written.now c.args.writers.now c.args.client) (line_of c.args.written.now c.args.writers.now)
+    wrote_losses (at_risk c.args.ledger.now c.args.client) (line_of c.args.ledger.now)
     c.args.blocks c.loop-file.invariant.0 (omega arith) c.if-next-at.false

@@ -1,8 +1,6 @@
 -- After so many blocks their losses are told.
 use Prim.Native.Nat.{ℕ, ◌+◌, ◌-◌, ◌*◌, ◌≤◌}
-use mathlib.Core.Path.{◌≡◌}
 use mathlib.Core.List.{List}
-use lib.ListN.{length}
 use Rattle.writer.specs.Buffer.{Wrote}
 use Rattle.phrases.specs.Accepted.{losses_on}
 use Rattle.phrases.proofs.Losses.{at_risk, line_of}
@@ -13,11 +11,6 @@ invariant-loop-block l =
     ((d told : List ℕ)
     → Wrote d l.start told l.fn.out l.at
     → Wrote d l.start
-    (losses_on (at_risk l.written l.writers l.client) (line_of l.written l.writers) l.file l.block told)
+    (losses_on (at_risk l.fn.ledger l.client) (line_of l.fn.ledger) l.file l.block told)
     l.out l.next)
-    × (l.block ≤ l.blocks)
     × (l.next ≤ l.at + 83 * l.block)
-    × (length l.out ≡ length l.fn.out)
-
-abbrev pub decreases-loop-block : goal.decreases-loop-block
-decreases-loop-block l = l.blocks - l.block

@@ -9,7 +9,7 @@ use Rattle.phrases.proofs.wait.put_calls.Goals as goal
 
 pub loop-client-init : goal.loop-client-init
 unfolding calls_text ordered_calls
-loop-client-init c = (wrote_none _ _ (omega arith), omega arith, omega arith, refl)
+loop-client-init c = (wrote_none _ _ (omega arith), omega arith)
 
 pub loop-client-preserved : goal.loop-client-preserved
 loop-client-preserved c =
@@ -17,8 +17,6 @@ loop-client-preserved c =
     let inv = c.loop-client.invariant in (
       wrote_call _ c.args.calls inv.0 put.ensures.wrote,
       omega arith,
-      omega arith,
-      put.auto.out ∙ inv.3,
     )
 
 pub returns-clause-wrote : goal.returns-clause-wrote

@@ -18,7 +18,7 @@ losses dirty copied i blocks k =
     losses_below (dirty_in (lent [] [] [] dirty) i) (copied_at (entered [] [] copied []) i) blocks k
 
 pub loop-file-init : goal.loop-file-init
-loop-file-init c = (wrote_as (sym (below_none _ _ _)) (wrote_none _ _ (omega arith)), omega arith, omega arith, refl)
+loop-file-init c = (wrote_as (sym (below_none _ _ _)) (wrote_none _ _ (omega arith)), omega arith)
 
 pub loop-file-preserved : goal.loop-file-preserved
 loop-file-preserved c =
@@ -26,8 +26,6 @@ loop-file-preserved c =
     let inv = c.loop-file.invariant in (
       wrote_as (below_more _ _ _ c.loop-file.file) (put.ensures.by_index _ _ inv.0),
       omega arith,
-      omega arith,
-      put.auto.out ∙ inv.3,
     )
 
 pub returns-then-next-at-clause-wrote : goal.returns-then-next-at-clause-wrote

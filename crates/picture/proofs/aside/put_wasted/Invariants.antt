@@ -1,8 +1,6 @@
 -- After so many files their losses are told.
 use Prim.Native.Nat.{◌+◌, ◌-◌, ◌*◌, ◌≤◌}
-use mathlib.Core.Path.{◌≡◌}
 use mathlib.Core.List.{[]}
-use lib.ListN.{length}
 use Rattle.blocks.specs.Stores.{lent, dirty_in}
 use Rattle.ledger.specs.Ledger.{entered, copied_at}
 use Rattle.writer.specs.Buffer.{Wrote}
@@ -15,9 +13,4 @@ invariant-loop-file l =
     (losses_below (dirty_in (lent [] [] [] l.dirty) l.client) (copied_at (entered [] [] l.copied []) l.client) l.sizes.blocks
     l.file)
     l.out l.next
-    × (l.file ≤ l.sizes.files)
     × (l.next ≤ l.at + 664 * l.file)
-    × (length l.out ≡ length l.fn.out)
-
-abbrev pub decreases-loop-file : goal.decreases-loop-file
-decreases-loop-file l = l.sizes.files - l.file

@@ -11,7 +11,7 @@ use Rattle.picture.proofs.Parts.{flag_there, line_there}
 use Rattle.picture.proofs.aside.put_wasted_on.Goals as goal
 
 pub loop-block-init : goal.loop-block-init
-loop-block-init c = (λ d told before. wrote_as (sym (on_none _ _ _ told)) before, omega arith, omega arith, refl)
+loop-block-init c = (λ d told before. wrote_as (sym (on_none _ _ _ told)) before, omega arith)
 
 pub loop-block-preserved : goal.loop-block-preserved
 loop-block-preserved c =
@@ -28,8 +28,6 @@ loop-block-preserved c =
           (line_there a.client a.file _ b a.copied.now (omega arith) (omega arith) is))
           (put.ensures.by_index d _ (inv.0 d told before)),
       omega arith,
-      omega arith,
-      put.auto.out ∙ inv.3,
     )
 
 pub returns-clause-by_index : goal.returns-clause-by_index

@@ -1,8 +1,6 @@
 -- After so many blocks their losses are told.
 use Prim.Native.Nat.{ℕ, ◌+◌, ◌-◌, ◌*◌, ◌≤◌}
-use mathlib.Core.Path.{◌≡◌}
 use mathlib.Core.List.{List, []}
-use lib.ListN.{length}
 use Rattle.blocks.specs.Stores.{lent, dirty_in}
 use Rattle.ledger.specs.Ledger.{entered, copied_at}
 use Rattle.writer.specs.Buffer.{Wrote}
@@ -16,9 +14,4 @@ invariant-loop-block l =
     → Wrote d l.start
     (losses_on (dirty_in (lent [] [] [] l.dirty) l.client) (copied_at (entered [] [] l.copied []) l.client) l.file l.block told)
     l.out l.next)
-    × (l.block ≤ l.blocks)
     × (l.next ≤ l.at + 83 * l.block)
-    × (length l.out ≡ length l.fn.out)
-
-abbrev pub decreases-loop-block : goal.decreases-loop-block
-decreases-loop-block l = l.blocks - l.block

@@ -7,6 +7,5 @@ use Rattle.picture.proofs.heading.put_head.Goals as goal
 pub returns-clause-wrote : goal.returns-clause-wrote
 returns-clause-wrote c =
     let state = wrote_as (ap state_text c.state_of.ensures) c.put_state-level.ensures.wrote in
-    wrote_then c.put_text-number.ensures.wrote
-    (wrote_then c.put_argument-word.ensures.wrote
-    (wrote_then c.put_text-name.ensures.wrote (wrote_then state c.put_level.ensures.wrote)))
+    wrote_then c.put_numbered-word.ensures.wrote
+    (wrote_then c.put_text-name.ensures.wrote (wrote_then state c.put_level.ensures.wrote))

@@ -7,7 +7,7 @@ use Rattle.picture.proofs.picture.put_asides.Goals as goal
 
 pub loop-client-init : goal.loop-client-init
 unfolding asides_from
-loop-client-init c = (wrote_none _ _ (omega arith), omega arith, omega arith, refl)
+loop-client-init c = (wrote_none _ _ (omega arith), omega arith)
 
 pub loop-client-preserved : goal.loop-client-preserved
 loop-client-preserved c =
@@ -15,8 +15,6 @@ loop-client-preserved c =
     let inv = c.loop-client.invariant in (
       wrote_as (sym (asides_next _ _ _ _ _ _)) (wrote_then inv.0 put.ensures.wrote),
       omega arith,
-      omega arith,
-      put.auto.out ∙ inv.3,
     )
 
 pub returns-clause-wrote : goal.returns-clause-wrote

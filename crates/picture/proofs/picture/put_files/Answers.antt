@@ -7,7 +7,7 @@ use Rattle.picture.proofs.picture.put_files.Goals as goal
 
 pub loop-file-init : goal.loop-file-init
 unfolding files_from
-loop-file-init c = (wrote_none _ _ (omega arith), omega arith, omega arith, refl)
+loop-file-init c = (wrote_none _ _ (omega arith), omega arith)
 
 pub loop-file-preserved : goal.loop-file-preserved
 loop-file-preserved c =
@@ -15,8 +15,6 @@ loop-file-preserved c =
     let inv = c.loop-file.invariant in (
       wrote_as (sym (files_next _ _ _ _ _ _ _)) (wrote_then inv.0 put.ensures.wrote),
       omega arith,
-      omega arith,
-      put.auto.out ∙ inv.3,
     )
 
 pub returns-clause-wrote : goal.returns-clause-wrote

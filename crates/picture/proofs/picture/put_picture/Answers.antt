@@ -7,7 +7,7 @@ use Rattle.picture.proofs.picture.put_picture.Goals as goal
 pub returns-clause-wrote : goal.returns-clause-wrote
 unfolding picture_text
 returns-clause-wrote c =
-    let server = ap (λ z. server_text z c.args.state.service.server.table) c.in_force-sizes.ensures.value in
+    let server = ap (λ z. server_text z c.args.state.service.server.table) c.in_force.ensures.value in
     wrote_then (wrote_as server c.put_server-store.ensures.wrote)
     (wrote_then c.put_store-asides.ensures.wrote
     (wrote_then c.put_asides-files.ensures.wrote

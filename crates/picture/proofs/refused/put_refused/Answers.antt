@@ -8,7 +8,6 @@ use Rattle.picture.proofs.refused.put_refused.Goals as goal
 pub returns-clause-wrote : goal.returns-clause-wrote
 returns-clause-wrote c =
     wrote_as (sym (unless _ _ (ne_eqb _ 0 c.if-times-eq0.false)))
-    (wrote_then c.put_text-digits.ensures.wrote
-    (wrote_then c.put_argument-colon.ensures.wrote
+    (wrote_then c.put_numbered-colon.ensures.wrote
     (wrote_then c.put_byte-often.ensures.wrote
-    (wrote_then c.put_argument-feed.ensures.wrote c.put_byte.ensures.wrote))))
+    (wrote_then c.put_argument-feed.ensures.wrote c.put_byte.ensures.wrote)))

@@ -13,6 +13,3 @@ invariant-loop-number l =
     × (l.number ≤ refusal_numbers)
     × (l.next ≤ l.at + 56 * l.number)
     × (length l.out ≡ length l.fn.out)
-
-abbrev pub decreases-loop-number : goal.decreases-loop-number
-decreases-loop-number l = refusal_numbers - l.number

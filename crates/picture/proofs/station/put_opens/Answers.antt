@@ -4,7 +4,5 @@ use Rattle.picture.proofs.station.put_opens.Goals as goal
 
 pub returns-clause-wrote : goal.returns-clause-wrote
 returns-clause-wrote c =
-    wrote_then c.put_text-readers.ensures.wrote
-    (wrote_then c.put_argument-word.ensures.wrote
-    (wrote_then c.put_text-writers.ensures.wrote
-    (wrote_then c.put_argument-may.ensures.wrote c.put_permission.ensures.wrote)))
+    wrote_then c.put_numbered-word.ensures.wrote
+    (wrote_then c.put_numbered-may.ensures.wrote c.put_either.ensures.wrote)

@@ -10,7 +10,7 @@ use Rattle.picture.proofs.station.put_stations.Goals as goal
 
 pub loop-client-init : goal.loop-client-init
 unfolding stations_text
-loop-client-init c = (wrote_none _ _ (omega arith), omega arith, omega arith, refl)
+loop-client-init c = (wrote_none _ _ (omega arith), omega arith)
 
 pub loop-client-preserved : goal.loop-client-preserved
 loop-client-preserved c =
@@ -18,8 +18,6 @@ loop-client-preserved c =
     let inv = c.loop-client.invariant in (
       wrote_as (sym (stations_next _ _ _ _ _ _)) (wrote_then inv.0 put.ensures.wrote),
       omega arith,
-      omega arith,
-      put.auto.out ∙ inv.3,
     )
 
 pub returns-clause-wrote : goal.returns-clause-wrote

@@ -1,8 +1,6 @@
 -- After so many clients their lines are written.
 use Prim.Native.Nat.{◌+◌, ◌-◌, ◌*◌, ◌≤◌}
-use mathlib.Core.Path.{◌≡◌}
 use mathlib.Core.List.{[]}
-use lib.ListN.{length}
 use Rattle.blocks.specs.Stores.{lent}
 use Rattle.writer.specs.Buffer.{Wrote}
 use Rattle.picture.specs.Picture.{stations_text}
@@ -11,9 +9,4 @@ use Rattle.picture.proofs.station.put_stations.Given as goal
 abbrev pub invariant-loop-client : goal.invariant-loop-client
 invariant-loop-client l =
     Wrote l.fn.out l.at (stations_text l.sizes (lent [] [] l.held l.dirty) l.sides l.file l.client) l.out l.next
-    × (l.client ≤ l.sizes.clients)
     × (l.next ≤ l.at + 471 * l.client)
-    × (length l.out ≡ length l.fn.out)
-
-abbrev pub decreases-loop-client : goal.decreases-loop-client
-decreases-loop-client l = l.sizes.clients - l.client

@@ -1,65 +1,50 @@
 -- `play_lines` meets its contract: what the setting and each step comes to is in the arrays and the words, and
 -- `line_played` carries it from line to line. Assumes nothing.
-use Prim.Native.Nat.{ℕ}
 use mathlib.Core.Path.{sym, ◌∙◌}
-use mathlib.Core.Bool.{Bool}
-use mathlib.Core.List.{List}
 use lib.ListN.{length}
-use Rattle.blocks.specs.Stores.{lent}
-use Rattle.service.specs.Lent.{service_held, outcome_asked}
+use Rattle.service.specs.Lent.{service_held, outcome_of}
 use Rattle.writer.specs.Buffer.{line_room}
 use Rattle.telling.proofs.Reaching.{line_bytes}
 use Rattle.telling.proofs.LineByLine.{read_line, from_1, fewer, stops-full, stops-whole}
-use Rattle.playing.specs.Lines.{playing, Long}
+use Rattle.playing.specs.Lines.{playing}
 use Rattle.playing.proofs.FirstLines.{none_later, not_chosen}
-use Rattle.playing.proofs.Playing.{asks_outcome, line_played}
+use Rattle.playing.proofs.Playing.{given_outcome, line_played}
 use Rattle.playing.proofs.lines.play_lines.Goals as goal
-
--- the arrays keep their lengths through two stretches of lines
-longer :
-    {t₀ : List ℕ} {flags₀ : List Bool} {t₁ : List ℕ} {flags₁ : List Bool} {t₂ : List ℕ} {flags₂ : List Bool}
-    → Long t₀ flags₀ t₁ flags₁ → Long t₁ flags₁ t₂ flags₂ → Long t₀ flags₀ t₂ flags₂
-longer v w = record { rows = w.rows ∙ v.rows; reports = w.reports ∙ v.reports }
 
 pub loop-words-smaller : goal.loop-words-smaller
 loop-words-smaller c =
     let l = c.loop-words in
     let reached = l.invariant.0 _ _ _ c.play_first-begun.ensures.reached in
     fewer c.args.input.now l.used _ _
-    (read_line c.args.input.now l.used c.in-Line.parsed c.in-Line.next reached.at.inside (sym c.in-Line.ensures))
+    (read_line c.args.input.now l.used c.in-Some.line.step c.in-Some.line.next reached.at.inside (sym c.read_at.ensures ∙ c.in-Some.is))
 
 pub loop-words-preserved : goal.loop-words-preserved
 loop-words-preserved c =
     let a = c.args in
     let l = c.loop-words in
     let given = c.play_first-begun.result.sizes in
-    let stands = service_held given l.table l.flags (lent l.blocks l.copies l.held l.dirty) in
-    let line = c.in-Line in
+    let stands = service_held given l.service.table l.service.flags l.service.stores in
+    let line = c.in-Some.line in
     let reached = l.invariant.0 _ _ _ c.play_first-begun.ensures.reached in
-    let is_read = sym line.ensures in
+    let is_read = sym c.read_at.ensures ∙ c.in-Some.is in
     let can = sym c.can_tell.ensures ∙ c.loop-words-test.true in
     let plain =
-    not_chosen a.settable l.number a.input.now l.used line.parsed line.next _
-    (read_line a.input.now l.used line.parsed line.next reached.at.inside is_read) l.invariant.1.0 can in
-    let numbers = c.numbers_of-numbers in
-    let r = numbers.result in
+    not_chosen a.settable l.number a.input.now l.used line.step line.next _
+    (read_line a.input.now l.used line.step line.next reached.at.inside is_read) l.invariant.1.0 can in
     let steps = c.take_step-said.ensures in
     let wrote = c.write_said-to in
     let is =
-    asks_outcome a.settable stands l.number (line_bytes a.input.now l.used line.next) line.parsed r numbers.ensures plain in (
+    given_outcome a.settable stands l.number (line_bytes a.input.now l.used line.next) line.step plain in (
       λ s n out w.
-          line_played a.settable s n a.input.now out stands l.number l.used l.to l.out line.parsed line.next
-          (outcome_asked stands r.kind r.client r.file r.block r.value)
+          line_played a.settable s n a.input.now out stands l.number l.used l.to l.out line.step line.next
+          (outcome_of stands line.step)
           _ wrote.result _ (l.invariant.0 s n out w) is_read can is
           steps.service
           (wrote.ensures.wrote_if_room _ _ _ steps.says.says)
           wrote.ensures.upper_bound,
       (
         none_later a.settable l.number _ _ (from_1 line_room (length l.out) l.to l.number can),
-        (
-          longer l.invariant.1.1.0 (record { rows = steps.long; reports = steps.flags_long }),
-          steps.words_long ∙ l.invariant.1.1.1,
-        ),
+        steps.words_long ∙ l.invariant.1.1,
       ),
     )
 
@@ -71,7 +56,6 @@ returns-after-loop-words c =
       tells =
           stops-full (playing a.settable) _ a.first a.input.now a.out.now _ l.number l.used l.to l.out
           (l.invariant.0 _ _ _ c.play_first-begun.ensures.reached) (sym c.can_tell.ensures ∙ c.loop-words-test.false);
-      long = longer c.play_first-begun.ensures.long l.invariant.1.1.0;
     }
 
 pub returns-in_default : goal.returns-in_default
@@ -82,5 +66,4 @@ returns-in_default c =
       tells =
           stops-whole (playing a.settable) _ a.first a.input.now a.out.now _ l.number l.used l.to l.out
           (l.invariant.0 _ _ _ c.play_first-begun.ensures.reached) (sym c.in_default.ensures);
-      long = longer c.play_first-begun.ensures.long l.invariant.1.1.0;
     }

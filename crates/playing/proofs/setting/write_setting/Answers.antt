@@ -1,6 +1,6 @@
 -- `write_setting` meets its contract: what it says of each setting says its reply. Assumes nothing.
 use Prim.Native.Nat.{ℕ}
-use mathlib.Core.Path.{◌≡◌, refl, sym, subst}
+use mathlib.Core.Path.{◌≡◌, refl, sym, ap, subst, ◌∙◌}
 use mathlib.Core.Bool.{false}
 use mathlib.Core.List.{List, ◌++◌}
 use lib.ListN.{replicate}
@@ -11,11 +11,12 @@ use Rattle.protocol.specs.Reply.{letter_of, values_of, no_calls, no_grants, gran
 use Rattle.words.specs.Rows.{listed}
 use Rattle.words.specs.Said.{calls?, letter_said, words_said, reply_said, grants_said, Says}
 use Rattle.service.specs.declared.service.Service.{Service}
-use Rattle.stepfile.specs.declared.setting.Setting.{Setting}
 use Rattle.stepfile.specs.Line.{line_text}
 use Rattle.stepfile.specs.Played.{set_outcome}
 use Rattle.writer.specs.Buffer.{WroteIfRoom, line_room}
 use Rattle.playing.proofs.setting.write_setting.Goals as goal
+use Rattle.stepfile.specs.Setting.{Setting}
+use Rattle.std.proofs.Common.{Err}
 
 -- a reply that is not W, with no grants beside it
 says_plain :
@@ -54,23 +55,25 @@ Writes out₀ n s out r x =
     (line_text n (set_outcome s x).reply (set_outcome s x).calls (set_outcome s x).grants)
     out r
 
-pub returns-in-Are-clause-wrote_if_room : goal.returns-in-Are-clause-wrote_if_room
-returns-in-Are-clause-wrote_if_room c =
+pub returns-in_default-clause-wrote_if_room : goal.returns-in_default-clause-wrote_if_room
+returns-in_default-clause-wrote_if_room c =
     let wrote = c.write_said in
     λ s.
-    subst (Writes c.args.out.now c.args.number s wrote.new.out wrote.result) (sym c.in-Are.is)
+    subst (Writes c.args.out.now c.args.number s wrote.new.out wrote.result) (sym c.in_default.is)
     (wrote.ensures.wrote_if_room Done no_calls no_grants (says-done _))
 
 pub returns-in-OutOfRange-clause-wrote_if_room : goal.returns-in-OutOfRange-clause-wrote_if_room
 returns-in-OutOfRange-clause-wrote_if_room c =
     let wrote = c.write_said-in-OutOfRange in
     λ s.
-    subst (Writes c.args.out.now c.args.number s wrote.new.out wrote.result) (sym c.in-OutOfRange.is)
-    (wrote.ensures.wrote_if_room (Refused 19) no_calls no_grants says-19)
+    subst (Writes c.args.out.now c.args.number s wrote.new.out wrote.result)
+    (sym (c.in-Err.is ∙ ap Err c.in-OutOfRange.is))
+    (wrote.ensures.wrote_if_room (Refused 19) no_calls no_grants (rw c.number.ensures says-19))
 
 pub returns-in-Missing-clause-wrote_if_room : goal.returns-in-Missing-clause-wrote_if_room
 returns-in-Missing-clause-wrote_if_room c =
     let wrote = c.write_said-in-Missing in
     λ s.
-    subst (Writes c.args.out.now c.args.number s wrote.new.out wrote.result) (sym c.in-Missing.is)
-    (wrote.ensures.wrote_if_room (Refused 1) no_calls no_grants says-1)
+    subst (Writes c.args.out.now c.args.number s wrote.new.out wrote.result)
+    (sym (c.in-Err.is ∙ ap Err c.in-Missing.is))
+    (wrote.ensures.wrote_if_room (Refused 1) no_calls no_grants (rw c.number-in-Missing.ensures says-1))

@@ -1,45 +1,21 @@
--- `play_turn` meets its contract: its parts give what the definitions put together. Assumes nothing.
-use Prim.Native.Nat.{ℕ}
-use mathlib.Core.Path.{ap, ◌∙◌}
-use native.Mathlib.Omega.{arith}
-use Rattle.writer.specs.Buffer.{line_room}
-use Rattle.telling.specs.Lines.{can_tell}
-use Rattle.telling.proofs.Parts.{used_inside, same_out, rest_part, turn-taken}
+-- `play_turn` meets its contract: the lines are played, and the turn ends. Assumes nothing.
+use Rattle.service.specs.Lent.{service_held}
+use Rattle.playing.proofs.Ending.{told_inside, turn_ended_there}
 use Rattle.playing.proofs.turn.play_turn.Goals as goal
 
-pub overflow_sub-n : goal.overflow_sub-n
-overflow_sub-n c = used_inside _ _ _ _ _ _ _ _ _ c.least-n.ensures.value c.play_lines-progress.ensures.tells
-
-pub move_down-requires : goal.move_down-requires
-move_down-requires c =
-    let least = c.least-n.ensures in
-    let tells = c.play_lines-progress.ensures.tells in
-    let went = c.play_lines-progress.result in
-    let can = c.can_tell-can in
-    let kept = c.kept_of-rest in
-    let part = used_inside _ _ _ _ _ _ _ _ _ least.value tells in
-    let rest =
-    rest_part _ _ _ _ _ _ _ _ _ least.value tells can.result kept.result
-    (can.ensures
-    ∙ ap (λ (k : ℕ). can_tell line_room k went.written went.number) (same_out _ _ _ _ _ _ _ _ _ least.value tells))
-    kept.ensures in
-    omega (arith, part, rest, least.upper_bound)
+pub end_turn-requires-clause-used_in_bounds : goal.end_turn-requires-clause-used_in_bounds
+end_turn-requires-clause-used_in_bounds c =
+    let after = c.play_lines-progress.new.service in
+    told_inside _ (λ z. service_held z after.table after.flags after.stores) _ _ _ _ _ _ _ _ c.min-n.ensures
+    c.play_lines-progress.ensures.tells
 
 pub returns : goal.returns
 returns c =
-    let least = c.least-n.ensures in
+    let after = c.play_lines-progress.new.service in
     let lines = c.play_lines-progress.ensures in
-    let went = c.play_lines-progress.result in
-    let can = c.can_tell-can in
-    let kept = c.kept_of-rest in
+    let ended = c.end_turn.ensures in
     record {
       turns =
-          turn-taken _ _ _ _ _ _ _ _ _ least.value lines.tells can.result kept.result
-          (can.ensures
-          ∙ ap (λ (k : ℕ). can_tell line_room k went.written went.number)
-          (same_out _ _ _ _ _ _ _ _ _ least.value lines.tells))
-          kept.ensures
-          _
-          c.move_down.ensures;
-      long = lines.long;
+          turn_ended_there _ (λ z. service_held z after.table after.flags after.stores) _ _ _ _ _ _ _ _ c.min-n.ensures
+          lines.tells _ _ ended.value ended.buffer_after;
     }

@@ -1,15 +1,20 @@
--- `no_step_at` meets its contract: the search from any offset that it comes to finds what the search from the first
--- offset finds. Assumes nothing.
-use mathlib.Core.Path.{sym, ◌∙◌}
-use Rattle.reader.proofs.LineFeeds.{search_none, search_lf, search_other}
+-- `no_step_at` meets its contract: the line ends at the first LF from the offset on. Assumes nothing.
+use mathlib.Core.Path.{sym, ◌∙◌, ap}
+use native.Mathlib.Omega.{arith}
+use Rattle.reader.proofs.LineFeeds.{ended, search_none, ended_by}
 use Rattle.reader.proofs.line.no_step_at.Goals as goal
 
-pub returns-then-input-i-eq10 : goal.returns-then-input-i-eq10
-returns-then-input-i-eq10 c =
-    search_lf _ _ c.loop-i-test.true c.if-input-i-eq10.true ∙ sym c.loop-i.invariant
+pub returns-in_err-get : goal.returns-in_err-get
+returns-in_err-get c = c.from_residual.ensures ∙ search_none c.args.input.now c.args.at (omega (arith, c.in_err-get.ensures.lookup.0))
 
-pub loop-i-preserved : goal.loop-i-preserved
-loop-i-preserved c = c.loop-i.invariant ∙ search_other _ _ c.loop-i-test.true c.if-input-i-eq10.false
+pub returns-in_err-length : goal.returns-in_err-length
+returns-in_err-length c =
+    let rest = c.in_ok-get.ensures.lookup.0 in
+    c.from_residual-in_err-length.ensures
+    ∙ ap (ended c.args.at) (sym c.in_err-length.was ∙ c.line_feed_in.ensures)
+    ∙ ended_by c.args.input.now c.args.at _ rest.2 rest.0
 
 pub returns : goal.returns
-returns c = search_none _ _ c.loop-i-test.false ∙ sym c.loop-i.invariant
+returns c =
+    let rest = c.in_ok-get.ensures.lookup.0 in
+    ap (ended c.args.at) (sym c.in_ok-length.was ∙ c.line_feed_in.ensures) ∙ ended_by c.args.input.now c.args.at _ rest.2 rest.0

@@ -1,13 +1,22 @@
 -- `argument_at` meets its contract: the space, then the number. Assumes nothing.
-use mathlib.Core.Path.{◌∙◌}
-use Rattle.reader.proofs.Numbers.{argument_stop, argument_other, argument_space}
+use mathlib.Core.Path.{sym, ◌∙◌, ap}
+use borrow.Author.Tests.{ltb-false}
+use Rattle.reader.specs.Offsets.{found_in}
+use Rattle.reader.proofs.Numbers.{byte_there, argument_stop, argument_other, argument_space}
 use Rattle.reader.proofs.number.argument_at.Goals as goal
 
-pub returns-then-s-at : goal.returns-then-s-at
-returns-then-s-at c = argument_stop _ _ c.if-s-at.true
+pub returns-in_err-get : goal.returns-in_err-get
+returns-in_err-get c =
+    argument_stop _ _ (ltb-false _ _ (sym c.in_err-get.ensures.lookup.0)) ∙ sym (ap (found_in c.args.s.now) c.from_residual.ensures)
 
-pub returns-then-s-at-ne32 : goal.returns-then-s-at-ne32
-returns-then-s-at-ne32 c = argument_other _ _ c.if-s-at.false c.if-s-at-ne32.true
+pub returns-then-branch-ne32 : goal.returns-then-branch-ne32
+returns-then-branch-ne32 c =
+    let read = c.in_ok-get.ensures.lookup in
+    let there = byte_there _ _ _ read.0 read.1 in
+    argument_other _ _ there.0 (λ e. c.if-branch-ne32.true (sym there.1 ∙ e))
 
 pub returns : goal.returns
-returns c = argument_space _ _ c.if-s-at.false c.if-s-at-ne32.false ∙ c.numeral_at.ensures
+returns c =
+    let read = c.in_ok-get.ensures.lookup in
+    let there = byte_there _ _ _ read.0 read.1 in
+    argument_space _ _ there.0 (there.1 ∙ c.if-branch-ne32.false) ∙ c.numeral_at.ensures

@@ -1,33 +1,42 @@
 -- `digits_from` meets its contract: from any offset that the loop comes to, with the number so far, the digits give what
 -- they give from the first offset. Assumes nothing.
-use mathlib.Core.Path.{◌∙◌}
-use Rattle.reader.proofs.Numbers.{digits_stop, digits_below, digits_above, digits_over, digits_more, past_tenth, past_largest, within_largest}
+use Prim.Native.Nat.{◌+◌}
+use mathlib.Core.Path.{sym, ◌∙◌, ap}
+use native.Mathlib.Omega.{arith}
+use lib.ListN.{drop, drop_of_length-le}
+use Rattle.stepfile.specs.Grammar.{found, digits_on}
+use Rattle.reader.specs.Offsets.{found_in}
+use Rattle.reader.proofs.Numbers.{digit_low, digit_high, digits_stop, digits_end, digits_over, digits_more}
 use Rattle.reader.proofs.number.digits_from.Goals as goal
 
-pub returns-then-byte-lt48 : goal.returns-then-byte-lt48
-returns-then-byte-lt48 c = c.loop-i.invariant ∙ digits_below _ _ _ c.loop-i-test.true c.if-byte-lt48.true
+pub returns-then-not-is_digit : goal.returns-then-not-is_digit
+returns-then-not-is_digit c = c.loop-i.invariant ∙ digits_end _ _ _ c.loop-i-test.true (sym c.if-not-is_digit.ensures)
 
-pub returns-then-byte-gt57 : goal.returns-then-byte-gt57
-returns-then-byte-gt57 c = c.loop-i.invariant ∙ digits_above _ _ _ c.loop-i-test.true c.if-byte-gt57.true
-
-pub returns-then-value-gt-TENTH : goal.returns-then-value-gt-TENTH
-returns-then-value-gt-TENTH c =
+pub returns-in_err-checked_mul : goal.returns-in_err-checked_mul
+returns-in_err-checked_mul c =
+    let digit = sym c.if-not-is_digit.ensures in
     c.loop-i.invariant
-    ∙ digits_over _ _ _ c.loop-i-test.true c.if-byte-lt48.false c.if-byte-gt57.false
-    (past_tenth _ _ c.if-value-gt-TENTH.true)
+    ∙ digits_over _ _ _ c.loop-i-test.true (digit_low _ digit) (digit_high _ digit) (omega (arith, c.in_err-checked_mul.ensures))
+    ∙ sym (ap (found_in c.args.s.now) c.from_residual.ensures)
 
-pub returns-then-tens-digit : goal.returns-then-tens-digit
-returns-then-tens-digit c =
+pub returns-in_err-value : goal.returns-in_err-value
+returns-in_err-value c =
+    let digit = sym c.if-not-is_digit.ensures in
     c.loop-i.invariant
-    ∙ digits_over _ _ _ c.loop-i-test.true c.if-byte-lt48.false c.if-byte-gt57.false
-    (past_largest _ _ _ c.wide-digit.ensures c.if-value-gt-TENTH.false c.if-tens-digit.true)
+    ∙ digits_over _ _ _ c.loop-i-test.true (digit_low _ digit) (digit_high _ digit)
+    (omega (arith, c.in_ok-checked_mul.ensures, c.from.ensures, c.in_err-value.ensures))
+    ∙ sym (ap (found_in c.args.s.now) c.from_residual-in_err-value.ensures)
 
 pub loop-i-preserved : goal.loop-i-preserved
 loop-i-preserved c =
-    rw c.wide-digit.ensures
-    (c.loop-i.invariant
-    ∙ digits_more _ _ _ c.loop-i-test.true c.if-byte-lt48.false c.if-byte-gt57.false
-    (within_largest _ _ _ c.wide-digit.ensures c.if-value-gt-TENTH.false c.if-tens-digit.false))
+    let digit = sym c.if-not-is_digit.ensures in
+    c.loop-i.invariant
+    ∙ digits_more _ _ _ c.loop-i-test.true (digit_low _ digit) (digit_high _ digit)
+    (omega (arith, c.in_ok-checked_mul.ensures, c.from.ensures, c.in_ok-value.ensures))
+    ∙ ap (λ v. digits_on v (drop (c.loop-i.i + 1) c.args.s.now))
+    (omega (arith, c.in_ok-checked_mul.ensures, c.from.ensures, c.in_ok-value.ensures))
 
 pub returns : goal.returns
-returns c = c.loop-i.invariant ∙ digits_stop _ _ _ c.loop-i-test.false
+returns c =
+    c.loop-i.invariant ∙ digits_stop _ _ _ c.loop-i-test.false
+    ∙ ap (found c.loop-i.value) (drop_of_length-le _ c.loop-i-test.false ∙ sym (drop_of_length-le c.args.s.now (omega arith)))

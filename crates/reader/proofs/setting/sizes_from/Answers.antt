@@ -1,7 +1,8 @@
--- `sizes_from` meets its contract: the numbers, one after the other. Assumes nothing.
+-- `sizes_from` meets its contract: nothing may follow the numbers. Assumes nothing.
+use mathlib.Core.Path.{sym, ◌∙◌}
 use Rattle.reader.proofs.Settings.{more-follows}
 use Rattle.reader.proofs.setting.sizes_from.Goals as goal
 
-pub returns-then-past-s : goal.returns-then-past-s
-returns-then-past-s c =
-    more-follows c.args.s.now c.args.at _ c.argument_at.ensures _ _ c.in-Is.is _ c.argument_at-2.ensures _ _ c.in-Is-argument_at.is _ c.argument_at-3.ensures _ _ c.in-Is-argument_at-2.is _ c.store_at.ensures _ _ c.in-Is-store_at.is c.if-past-s.true
+pub returns-then-sizes-s : goal.returns-then-sizes-s
+returns-then-sizes-s c =
+    more-follows c.args.s.now c.args.at _ _ c.sizes_at.ensures (sym c.ok_or.ensures.value ∙ c.in_ok-sizes.was) c.if-sizes-s.true

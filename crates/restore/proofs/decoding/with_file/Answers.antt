@@ -8,5 +8,5 @@ pub returns : goal.returns
 returns c =
     let a = c.args in
     file_fields a.bytes.now a.at a.entry
-    (c.numbered-version.ensures ∙ ap version_of c.four_at.ensures.value)
-    c.byte_at-last.ensures
+    (c.numbered-entry.ensures ∙ ap version_of c.four_at.ensures.value)
+    c.byte_at.ensures

@@ -5,5 +5,4 @@ use Rattle.restore.specs.Reading.{same_bytes}
 use Rattle.restore.proofs.reading.is_image.Goals as goal
 
 pub returns : goal.returns
-returns c =
-    c.same_bytes.ensures ∙ ap (same_bytes c.args.bytes.now) (written_first c.put_image-length.ensures.wrote)
+returns c = c.eq.ensures ∙ ap (same_bytes c.args.bytes.now) (written_first c.put_image-length.ensures.wrote)

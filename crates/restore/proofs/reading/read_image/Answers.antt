@@ -7,15 +7,17 @@ use Rattle.restore.proofs.reading.read_image.Goals as goal
 pub returns-then-not-is_image-clause-value : goal.returns-then-not-is_image-clause-value
 returns-then-not-is_image-clause-value c =
     let a = c.args in
-    refused a.service a.bytes.now _ c.in_force-sizes.ensures.value _ c.decode_files-files.ensures _ c.decode_used-used.ensures _
-    c.decode_blocks-blocks.ensures _ c.decode_embargoes-embargoed.ensures _ c.none-none.ensures _ c.is_image.ensures
-    c.if-not-is_image.true
+    let d = c.decode-contents.ensures in
+    refused a.service a.bytes.now _ c.in_force-sizes.ensures.value _ d.files_held _ d.used_held _
+    d.blocks_held _ d.embargoes_held _ c.none-none.ensures _ c.is_image.ensures
+    c.if-not-is_image.true _ c.from.ensures
 
 pub returns-clause-value : goal.returns-clause-value
 returns-clause-value c =
     let a = c.args in
-    accepted a.service a.bytes.now _ c.in_force-sizes.ensures.value _ c.decode_files-files.ensures _ c.decode_used-used.ensures _
-    c.decode_blocks-blocks.ensures _ c.decode_embargoes-embargoed.ensures _ c.none-none.ensures _ c.is_image.ensures
+    let d = c.decode-contents.ensures in
+    accepted a.service a.bytes.now _ c.in_force-sizes.ensures.value _ d.files_held _ d.used_held _
+    d.blocks_held _ d.embargoes_held _ c.none-none.ensures _ c.is_image.ensures
     c.if-not-is_image.false _ _ c.crashed-crashed.ensures.value c.with_contents.ensures
 
 pub returns-then-not-is_image-clause-accepts_exactly : goal.returns-then-not-is_image-clause-accepts_exactly

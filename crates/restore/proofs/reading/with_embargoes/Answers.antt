@@ -1,13 +1,14 @@
--- `with_embargoes` meets its contract: after i turns i clients have the embargoes of the others. Assumes nothing.
-use mathlib.Core.Path.{refl}
-use Rattle.decision.proofs.Storing.{stored_none, stored_more, stored_all}
+-- `with_embargoes` meets its contract: the first embargoes are copied. Assumes nothing.
+use mathlib.Core.Path.{◌∙◌, ap}
+use mathlib.Core.Bool.{false}
+use mathlib.Core.List.{◌++◌}
+use native.Mathlib.Omega.{arith}
+use lib.ListN.{drop}
+use Rattle.restore.proofs.Pasting.{stored_first}
 use Rattle.restore.proofs.reading.with_embargoes.Goals as goal
 
-pub loop-i-init : goal.loop-i-init
-loop-i-init c = stored_none
-
-pub loop-i-preserved : goal.loop-i-preserved
-loop-i-preserved c = stored_more c.loop-i.invariant c.loop-i-test.true refl
-
 pub returns : goal.returns
-returns c = stored_all c.loop-i.invariant c.loop-i-test.false
+returns c =
+    let a = c.args in
+    ap (λ l. l ++ drop a.count a.embargoed) c.copy_from_slice.ensures.after
+    ∙ stored_first a.count false a.embargoed a.others.now (omega arith) (omega arith)

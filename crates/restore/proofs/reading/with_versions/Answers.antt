@@ -10,7 +10,7 @@ loop-f-init c = stored_none
 pub loop-f-preserved : goal.loop-f-preserved
 loop-f-preserved c =
     let entry = not_yet no_entry c.loop-f.invariant in
-    stored_more c.loop-f.invariant c.loop-f-test.true (λ k. with_version (entry k) (c.as_read-read.ensures k))
+    stored_more c.loop-f.invariant c.loop-f-test.true (λ k. with_version (entry k) (c.as_read.ensures k))
 
 pub returns : goal.returns
 returns c = stored_all c.loop-f.invariant c.loop-f-test.false

@@ -1,5 +1,4 @@
 -- After f turns f entries have the versions of the others.
-use Prim.Native.Nat.{◌-◌}
 use Rattle.records.specs.Version.{as_read}
 use Rattle.decision.proofs.Storing.{Stored}
 use Rattle.table.specs.TableStep.{entry_of}
@@ -8,7 +7,4 @@ use Rattle.restore.proofs.reading.with_versions.Given as goal
 
 abbrev pub invariant-loop-f : goal.invariant-loop-f
 invariant-loop-f l =
-    Stored l.count (λ k. k) (λ k. with_version (entry_of l.fn.files k) (as_read (entry_of l.fn.others k).version)) l.fn.files l.files l.f
-
-abbrev pub decreases-loop-f : goal.decreases-loop-f
-decreases-loop-f l = l.count - l.f
+    Stored l.count (λ k. k) (λ k. with_version (entry_of l.fn.files k) (as_read (entry_of l.others k).version)) l.fn.files l.files l.f

@@ -1,5 +1,5 @@
 -- After so many files the sum is how many of their blocks are used.
-use Prim.Native.Nat.{◌-◌, ◌*◌, ◌≤◌}
+use Prim.Native.Nat.{◌*◌, ◌≤◌}
 use mathlib.Core.Path.{◌≡◌}
 use mathlib.Core.Bool.{false}
 use lib.ListN.{get_or}
@@ -13,6 +13,3 @@ invariant-loop-f l =
     (l.f ≤ l.sizes.files)
     × (l.total ≡ sum_below l.f (λ f. count l.sizes.blocks (λ b. get_or l.used (place f b) false)))
     × (l.total ≤ 8 * l.f)
-
-abbrev pub decreases-loop-f : goal.decreases-loop-f
-decreases-loop-f l = l.sizes.files - l.f

@@ -12,24 +12,24 @@ returns-then-client-ge-MAX_CLIENTS-clause-wrote c =
     (no_client_lem a.sizes c.requires.permitted a.table.now a.flags.now a.client c.if-client-ge-MAX_CLIENTS.true)
     (wrote_none _ _ (omega arith))
 
-pub returns-then-sizes-file-clause-wrote : goal.returns-then-sizes-file-clause-wrote
-returns-then-sizes-file-clause-wrote c =
+pub returns-in_default-clause-wrote : goal.returns-in_default-clause-wrote
+returns-in_default-clause-wrote c =
     let a = c.args in
     wrote_as
     (no_file_lem a.sizes c.requires.permitted a.table.now a.flags.now a.client c.if-client-ge-MAX_CLIENTS.false
-    c.clash_file-file.ensures c.if-sizes-file.true)
+    c.clash_file.ensures c.in_default.is)
     (wrote_none _ _ (omega arith))
 
 pub put_clash_on-requires-clause-client_value : goal.put_clash_on-requires-clause-client_value
 put_clash_on-requires-clause-client_value c =
     let a = c.args in
     clashes-there a.sizes c.requires.permitted a.table.now a.flags.now a.client c.if-client-ge-MAX_CLIENTS.false
-    c.clash_file-file.ensures c.if-sizes-file.false
+    c.clash_file.ensures c.in-Some.is
 
 pub returns-clause-wrote : goal.returns-clause-wrote
 returns-clause-wrote c =
     let a = c.args in
     wrote_as
     (on-file a.sizes c.requires.permitted a.table.now a.flags.now a.client c.if-client-ge-MAX_CLIENTS.false
-    c.clash_file-file.ensures c.if-sizes-file.false)
+    c.clash_file.ensures c.in-Some.is)
     c.put_clash_on.ensures.wrote

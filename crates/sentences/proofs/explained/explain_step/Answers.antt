@@ -1,10 +1,10 @@
 -- `explain_step` meets its contract, by the room. Assumes nothing.
 use Prim.Native.Nat.{ℕ}
 use mathlib.Core.Path.{ap, ◌∙◌}
-use mathlib.Core.List.{List, []}
+use mathlib.Core.List.{List}
 use native.Mathlib.Omega.{arith}
 use Rattle.protocol.specs.declared.reply.Reply.{Reply}
-use Rattle.ledger.specs.Ledger.{entered, lines_at}
+use Rattle.ledger.specs.Ledger.{lines_at}
 use Rattle.sentences.specs.Scene.{scene_held, whole_held}
 use Rattle.sentences.specs.Explained.{said_of, explained_text}
 use Rattle.writer.proofs.Buffers.{wrote_as, wrote_then, wrote_if_room}
@@ -17,9 +17,9 @@ returns-clause-wrote_if_room c reply calls granted says called =
     let sentence : List ℕ → Reply → List ℕ =
     λ k r.
     said_of a.fresh
-    (scene_held a.sizes a.step a.before.now a.table.now a.flags.now a.dirty.now a.since.now
+    (scene_held a.sizes a.step a.before.now a.service.now.table a.came.now a.service.now.stores.dirty a.ledger.now.since
     a.told a.caching)
-    (whole_held a.before.now a.table.now (lines_at (entered a.written.now a.writers.now [] [])))
+    (whole_held a.before.now a.service.now.table (lines_at a.ledger.now))
     a.step k r in
     let same =
     ap (sentence _) (c.reply_of-reply.ensures ∙ says.back)

@@ -1,5 +1,4 @@
 -- After f files theirs are stored.
-use Prim.Native.Nat.{◌-◌}
 use mathlib.Core.Bool.{false}
 use lib.ListN.{replicate}
 use Rattle.sizes.specs.Sizes.{max_files}
@@ -13,6 +12,3 @@ abbrev pub invariant-loop-f : goal.invariant-loop-f
 invariant-loop-f l =
     Stored l.files (λ k. k) (λ k. is_open (side_of (sides_held l.table k) l.client).opens) (replicate max_files false)
     l.flags l.f
-
-abbrev pub decreases-loop-f : goal.decreases-loop-f
-decreases-loop-f l = l.files - l.f

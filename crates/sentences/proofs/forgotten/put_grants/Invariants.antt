@@ -1,5 +1,5 @@
 -- After so many files their grants are told.
-use Prim.Native.Nat.{ℕ, ◌+◌, ◌-◌, ◌*◌, ◌≤◌}
+use Prim.Native.Nat.{ℕ, ◌+◌, ◌*◌, ◌≤◌}
 use mathlib.Core.Path.{◌≡◌}
 use lib.ListN.{length}
 use Rattle.ledger.specs.declared.lines.Lines.{Lines}
@@ -15,6 +15,3 @@ invariant-loop-f l =
     × (l.f ≤ l.sizes.files)
     × (l.next ≤ l.at + 178 * l.f)
     × (length l.out ≡ length l.fn.out)
-
-abbrev pub decreases-loop-f : goal.decreases-loop-f
-decreases-loop-f l = l.sizes.files - l.f

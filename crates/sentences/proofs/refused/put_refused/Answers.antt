@@ -8,8 +8,8 @@ use Rattle.phrases.specs.Refusal.{refusal_text}
 use Rattle.writer.proofs.Buffers.{wrote_as}
 use Rattle.sentences.proofs.refused.put_refused.Goals as goal
 
-pub returns-then-number-eq-NO_PLACE-clause-wrote : goal.returns-then-number-eq-NO_PLACE-clause-wrote
-returns-then-number-eq-NO_PLACE-clause-wrote c =
+pub returns-then-number-clause-wrote : goal.returns-then-number-clause-wrote
+returns-then-number-clause-wrote c =
     let a = c.args in
     let q = c.asked-named.result in
     wrote_as
@@ -17,5 +17,5 @@ returns-then-number-eq-NO_PLACE-clause-wrote c =
     ∙ ap (λ n. no_place_text a.sizes (used_held a.flags.now) a.embargoed a.dirty.now n.file n.block) c.asked-named.ensures
     ∙ sym
     (when _ (refusal_text a.sizes a.reported a.embargoed a.entry a.since a.embargo a.step a.number)
-    (eq-eqb _ 23 c.if-number-eq-NO_PLACE.true)))
+    (eq-eqb _ 23 (c.if-number.true ∙ c.number.ensures))))
     c.put_no_place.ensures.wrote

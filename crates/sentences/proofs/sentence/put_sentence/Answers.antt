@@ -1,7 +1,6 @@
 -- `put_sentence` meets its contract, reply by reply. Assumes nothing.
 use Prim.Native.Nat.{ℕ, ◌+◌, ◌%◌}
-use mathlib.Core.Path.{refl, ap, ◌∙◌}
-use mathlib.Core.List.{[]}
+use mathlib.Core.Path.{refl, sym, ap, ◌∙◌}
 use lib.ListN.{get_or}
 use borrow.Author.Tests.{eq-eqb, ne_eqb}
 use Rattle.sizes.specs.Sizes.{max_clients, max_files}
@@ -10,7 +9,7 @@ use Rattle.protocol.specs.Client.{side_of}
 use Rattle.words.specs.Rows.{entry_held, sides_held}
 use Rattle.table.specs.TableStep.{is_reported}
 use Rattle.service.specs.Lent.{reported_held, used_held}
-use Rattle.ledger.specs.Ledger.{entered, lines_at}
+use Rattle.ledger.specs.Ledger.{lines_at}
 use Rattle.phrases.specs.Accepted.{still_text}
 use Rattle.phrases.proofs.Names.{mode_named}
 use Rattle.sentences.specs.Scene.{aside_held, whole_held}
@@ -46,59 +45,59 @@ pub returns-in-Value-clause-wrote : goal.returns-in-Value-clause-wrote
 returns-in-Value-clause-wrote c =
     let a = c.args in
     let is = c.asked-named.ensures in
-    let aside = ap (λ (q : Numbers). aside_held a.flags.now q.client) is in
-    let since = ap (λ (q : Numbers). get_or a.since.now (max_files + q.client % max_clients) 0) is in
+    let aside = ap (λ (q : Numbers). aside_held a.came.now q.client) is in
+    let since = ap (λ (q : Numbers). get_or a.ledger.now.since (max_files + q.client % max_clients) 0) is in
     rw c.in-Value.is
     (wrote_as
     (read_as a.fresh a.told (c.is_aside-aside.ensures ∙ aside) (c.embargo_since-embargo.ensures ∙ since) (client_named _ is)
     (file_named _ is) (block_named _ is))
     c.put_read.ensures.wrote)
 
-pub returns-then-number-eq-REPORTS_CLASH-clause-wrote : goal.returns-then-number-eq-REPORTS_CLASH-clause-wrote
-returns-then-number-eq-REPORTS_CLASH-clause-wrote c =
+pub returns-then-number-clause-wrote : goal.returns-then-number-clause-wrote
+returns-then-number-clause-wrote c =
     let a = c.args in
     let clash =
     ap (λ (i : ℕ).
-    clash_text a.sizes (is_reported (reported_held a.flags.now)) (entry_held a.table.now)
-    (λ f. side_of (sides_held a.table.now f) i) i)
+    clash_text a.sizes (is_reported (reported_held a.came.now)) (entry_held a.service.now.table)
+    (λ f. side_of (sides_held a.service.now.table f) i) i)
     (client_named _ c.asked-named.ensures) in
     rw c.in-Refused.is
-    (wrote_as (clash ∙ a_clash _ _ _ (eq-eqb _ 22 c.if-number-eq-REPORTS_CLASH.true)) c.put_clash.ensures.wrote)
+    (wrote_as (clash ∙ a_clash _ _ _ (eq-eqb _ 22 (c.if-number.true ∙ c.number.ensures))) c.put_clash.ensures.wrote)
 
-pub returns-else-number-eq-REPORTS_CLASH-clause-wrote : goal.returns-else-number-eq-REPORTS_CLASH-clause-wrote
-returns-else-number-eq-REPORTS_CLASH-clause-wrote c =
+pub returns-else-number-clause-wrote : goal.returns-else-number-clause-wrote
+returns-else-number-clause-wrote c =
     let a = c.args in
     let is = c.asked-named.ensures in
     let entry = ap (λ (q : Numbers). entry_held a.before.now (q.file % max_files)) is in
-    let waits = ap (λ (q : Numbers). get_or a.since.now (q.file % max_files) 0) is in
-    let since = ap (λ (q : Numbers). get_or a.since.now (max_files + q.client % max_clients) 0) is in
+    let waits = ap (λ (q : Numbers). get_or a.ledger.now.since (q.file % max_files) 0) is in
+    let since = ap (λ (q : Numbers). get_or a.ledger.now.since (max_files + q.client % max_clients) 0) is in
     rw c.in-Refused.is
     (wrote_as
-    (refused_as a.sizes a.step c.in-Refused.number (used_held a.flags.now) a.dirty.now c.reported_in-reported.ensures c.embargoed_in-embargoed.ensures
+    (refused_as a.sizes a.step c.in-Refused.number (used_held a.came.now) a.service.now.stores.dirty c.reported_in-reported.ensures c.embargoed_in-embargoed.ensures
     (c.entry_at-entry-in-Refused.ensures ∙ entry) waits (c.embargo_since-begun.ensures ∙ since)
-    ∙ no_clash _ _ _ (ne_eqb _ 22 c.if-number-eq-REPORTS_CLASH.false))
+    ∙ no_clash _ _ _ (ne_eqb _ 22 (λ e. c.if-number.false (e ∙ sym c.number.ensures))))
     c.put_refused.ensures.wrote)
 
-pub returns-else-named-eq-EMBARGO-clause-wrote : goal.returns-else-named-eq-EMBARGO-clause-wrote
-returns-else-named-eq-EMBARGO-clause-wrote c =
+pub returns-in_default-clause-wrote : goal.returns-in_default-clause-wrote
+returns-in_default-clause-wrote c =
     let a = c.args in
     let is = c.asked-named.ensures in
-    let whole = whole_held a.before.now a.table.now (lines_at (entered a.written.now a.writers.now [] [])) in
-    let after = ap (λ (q : Numbers). entry_held a.table.now (q.file % max_files)) is in
+    let whole = whole_held a.before.now a.service.now.table (lines_at a.ledger.now) in
+    let after = ap (λ (q : Numbers). entry_held a.service.now.table (q.file % max_files)) is in
     rw c.in-Answered.is
-    (wrote_as (no_embargo a.sizes whole _ is _ (ne_eqb _ 12 c.if-named-eq-EMBARGO.false))
+    (wrote_as (no_embargo a.sizes whole _ _ c.in_default.not-Embargo)
     (wrote_then (wrote_as (answer_as _ (client_named _ is) (file_named _ is)) c.put_answer-still.ensures.wrote)
     (wrote_as (ap (still_text a.sizes.clients) (c.entry_at-after.ensures ∙ after)) c.put_still.ensures.wrote)))
 
-pub returns-else-named-eq-EMBARGO-2-clause-wrote : goal.returns-else-named-eq-EMBARGO-2-clause-wrote
-returns-else-named-eq-EMBARGO-2-clause-wrote c =
+pub returns-in_default-step-clause-wrote : goal.returns-in_default-step-clause-wrote
+returns-in_default-step-clause-wrote c =
     let a = c.args in
     let is = c.asked-named.ensures in
-    let whole = whole_held a.before.now a.table.now (lines_at (entered a.written.now a.writers.now [] [])) in
+    let whole = whole_held a.before.now a.service.now.table (lines_at a.ledger.now) in
     let mode = ap (λ (q : Numbers). (entry_held a.before.now (q.file % max_files)).mode) is in
     let own = ap (λ (q : Numbers). side_of (sides_held a.before.now (q.file % max_files)) c.in-AnsweredGrant.opener) is in
     rw c.in-AnsweredGrant.is
-    (wrote_as (no_embargo a.sizes whole _ is _ (ne_eqb _ 12 c.if-named-eq-EMBARGO-2.false))
+    (wrote_as (no_embargo a.sizes whole _ _ c.in_default-step.not-Embargo)
     (wrote_then (wrote_as (answer_as _ (client_named _ is) (file_named _ is)) c.put_answer-open.ensures.wrote)
     (wrote_then c.put_text-granted.ensures.wrote
     (wrote_as
@@ -109,8 +108,8 @@ pub returns-in-Done-clause-wrote : goal.returns-in-Done-clause-wrote
 returns-in-Done-clause-wrote c =
     let a = c.args in
     let is = c.asked-named.ensures in
-    let aside = ap (λ (q : Numbers). aside_held a.flags.now q.client) is in
-    let since = ap (λ (q : Numbers). get_or a.since.now (max_files + q.client % max_clients) 0) is in
+    let aside = ap (λ (q : Numbers). aside_held a.came.now q.client) is in
+    let since = ap (λ (q : Numbers). get_or a.ledger.now.since (max_files + q.client % max_clients) 0) is in
     rw c.in-Done.is
     (wrote_then
     (wrote_as

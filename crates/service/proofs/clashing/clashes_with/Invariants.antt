@@ -1,5 +1,5 @@
 -- What the loop of `clashes_with` keeps: none of the clients before the one that it has come to clashes.
-use Prim.Native.Nat.{◌-◌, ◌≤◌}
+use Prim.Native.Nat.{◌≤◌}
 use mathlib.Core.Bool.{false, ◌&&◌}
 use lib.ListN.{get_or}
 use Rattle.decision.proofs.Finding.{NoneBelow}
@@ -11,6 +11,3 @@ abbrev pub invariant-loop-j : goal.invariant-loop-j
 invariant-loop-j l =
     (l.j ≤ l.clients)
     × NoneBelow l.j (λ i. get_or l.flags i false && clash l.own (accepted_of (entry_held l.table l.f) i))
-
-abbrev pub decreases-loop-j : goal.decreases-loop-j
-decreases-loop-j l = l.clients - l.j

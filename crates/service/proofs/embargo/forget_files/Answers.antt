@@ -21,13 +21,13 @@ done from k at t t₀ words words₀ h long low =
     (all.0, all.1, omega (arith, all.2, is))
 
 pub loop-file-init : goal.loop-file-init
-loop-file-init c = (omega arith, λ blocks came pre begun is. forgets_none _ _ _ _ _ _ _ _ begun is)
+loop-file-init c = (omega arith, λ came pre begun is. forgets_none _ _ _ _ _ _ _ _ begun is)
 
 pub forget-reply-requires-clause-table_len : goal.forget-reply-requires-clause-table_len
 forget-reply-requires-clause-table_len c =
     (done c.args.from c.loop-file.file c.loop-file.at c.loop-file.table c.args.table.now c.loop-file.words c.args.words.now
     (λ came pre begun is.
-    let all = c.loop-file.invariant.1 [] came pre begun is in
+    let all = c.loop-file.invariant.1 came pre begun is in
     (all.long, (all.said c.args.sizes []).begun.long, all.few))
     c.requires.words_len c.requires.from_bound).0
     ∙ c.requires.table_len
@@ -36,7 +36,7 @@ pub say_brought-at-requires-clause-words_len : goal.say_brought-at-requires-clau
 say_brought-at-requires-clause-words_len c =
     (done c.args.from c.loop-file.file c.loop-file.at c.loop-file.table c.args.table.now c.loop-file.words c.args.words.now
     (λ came pre begun is.
-    let all = c.loop-file.invariant.1 [] came pre begun is in
+    let all = c.loop-file.invariant.1 came pre begun is in
     (all.long, (all.said c.args.sizes []).begun.long, all.few))
     c.requires.words_len c.requires.from_bound).1
     ∙ c.requires.words_len
@@ -46,7 +46,7 @@ say_brought-at-requires-clause-at_bound c =
     let few =
     (done c.args.from c.loop-file.file c.loop-file.at c.loop-file.table c.args.table.now c.loop-file.words c.args.words.now
     (λ came pre begun is.
-    let all = c.loop-file.invariant.1 [] came pre begun is in
+    let all = c.loop-file.invariant.1 came pre begun is in
     (all.long, (all.said c.args.sizes []).begun.long, all.few))
     c.requires.words_len c.requires.from_bound).2 in
     omega (arith, few, c.loop-file-test.true, c.requires.permitted.files, c.requires.from_bound)
@@ -55,10 +55,10 @@ pub loop-file-preserved : goal.loop-file-preserved
 loop-file-preserved c =
     let below = c.loop-file-test.true in (
       omega (arith, below),
-      λ blocks came pre begun is.
+      λ came pre begun is.
           forgets_as (sym (add-one _))
-          (forgets-next c.requires.permitted below (c.loop-file.invariant.1 blocks came pre begun is) _ _ _ _ _ _ _ _
-          (c.forget-reply.ensures.by_index blocks)
+          (forgets-next c.requires.permitted below (c.loop-file.invariant.1 came pre begun is) _ _ _ _ _
+          c.forget-reply.ensures.by_index
           c.say_brought-at.ensures.by_index_2
           c.say_brought-at.ensures.upper_bound),
     )
@@ -68,4 +68,4 @@ returns c =
     let past = c.loop-file-test.false in
     let upto = c.loop-file.invariant.0 in
     let all : c.loop-file.file ≡ c.args.sizes.files = omega (arith, past, upto) in
-    λ blocks came pre begun is. forgets_as all (c.loop-file.invariant.1 blocks came pre begun is)
+    λ came pre begun is. forgets_as all (c.loop-file.invariant.1 came pre begun is)

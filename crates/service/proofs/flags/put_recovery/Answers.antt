@@ -1,16 +1,13 @@
 -- `put_recovery` meets its contract. Assumes nothing.
-use mathlib.Core.Path.{◌≡◌}
-use lib.ListN.{length}
+use Rattle.std.proofs.Common.{◌≡◌, length, rules}
 use Rattle.sizes.specs.Sizes.{max_clients}
-use Rattle.decision.specs.Lists.{stored}
-use borrow.Author.Rules.{rules}
 use Rattle.service.proofs.LentFlags.{flags_put_lem}
 use Rattle.service.proofs.flags.put_recovery.Goals as goal
 
 pub returns : goal.returns
-unfolding stored
 returns c =
-    let recovery = c.args.recovery in
-    let reports_long : length recovery.reported ≡ max_clients = search rules in
-    let embargoes_long : length recovery.embargoed ≡ max_clients = search rules in
-    flags_put_lem c.args.flags.now recovery.reported recovery.recovering recovery.embargoed c.requires reports_long embargoes_long
+    let v = c.args.recovery in
+    let reports_long : length v.reported ≡ max_clients = search rules in
+    let embargoes_long : length v.embargoed ≡ max_clients = search rules in
+    rw (c.copy_from_slice.ensures.after, c.copy_from_slice-2.ensures.after)
+    (flags_put_lem c.args.flags.now v.reported v.recovering v.embargoed c.requires reports_long embargoes_long)

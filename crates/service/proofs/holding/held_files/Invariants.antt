@@ -1,5 +1,4 @@
 -- What the loop of `held_files` keeps: after f turns f of the entries are stored.
-use Prim.Native.Nat.{◌-◌}
 use Rattle.sizes.specs.Sizes.{max_files}
 use Rattle.decision.proofs.Storing.{Stored}
 use Rattle.words.specs.Rows.{entry_held}
@@ -7,6 +6,3 @@ use Rattle.service.proofs.holding.held_files.Given as goal
 
 abbrev pub invariant-loop-f : goal.invariant-loop-f
 invariant-loop-f l = Stored max_files (λ k. k) (λ k. entry_held l.table k) l.initial.files l.files l.f
-
-abbrev pub decreases-loop-f : goal.decreases-loop-f
-decreases-loop-f l = max_files - l.f

@@ -8,9 +8,9 @@ returns c stores =
     let a = c.args in
     let of = c.recovery_of-recovery.ensures in
     let put = c.put_recovery.ensures in
-    crash_moves false false a.sizes a.table.now _ a.flags.now _ c.recovery_of-recovery.result c.crash-done.result stores
+    crash_moves false false a.sizes a.table.now _ a.flags.now _ c.recovery_of-recovery.result c.crash-begun.result stores
     c.requires.permitted
-    c.crash-done.ensures
+    c.crash-begun.ensures
     of.0
     of.1
     of.2

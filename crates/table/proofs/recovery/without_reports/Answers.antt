@@ -1,13 +1,11 @@
--- `without_reports` meets its contract: after i clients none of them has reported. Assumes nothing.
-use Rattle.std.proofs.Common.{refl}
-use Rattle.decision.proofs.Storing.{stored_none, stored_more, stored_all}
+-- `without_reports` meets its contract: the first of them are filled. Assumes nothing.
+use Rattle.std.proofs.Common.{◌≡◌, false, length, rules, arith}
+use Rattle.decision.proofs.Storing.{stored_first}
 use Rattle.table.proofs.recovery.without_reports.Goals as goal
 
-pub loop-i-init : goal.loop-i-init
-loop-i-init c = stored_none
-
-pub loop-i-preserved : goal.loop-i-preserved
-loop-i-preserved c = stored_more c.loop-i.invariant c.loop-i-test.true refl
-
 pub returns : goal.returns
-returns c = stored_all c.loop-i.invariant c.loop-i-test.false
+returns c =
+    let a = c.args in
+    let long : length c.fill.new.self ≡ a.clients = search rules in
+    stored_first a.clients false (λ k. false) c.fill.new.self a.reports long (omega arith)
+    (λ k below. search rules)

@@ -1,17 +1,9 @@
--- `count_missing` meets its contract: after i clients the sum is how many of them are still to be heard. Assumes nothing.
-use Rattle.std.proofs.Common.{refl, arith}
-use Rattle.decision.proofs.Counting.{counted_none, counted_next, counted_fits, counted_all_lem}
+-- `count_missing` meets its contract: the clients that are still to be heard are counted. Assumes nothing.
+use Rattle.std.proofs.Common.{ℕ, not, rules}
+use Rattle.table.specs.TableStep.{is_heard}
 use Rattle.table.proofs.refusal.count_missing.Goals as goal
 
-pub loop-i-init : goal.loop-i-init
-loop-i-init c = counted_none
-
-pub overflow_add-count : goal.overflow_add-count
-overflow_add-count c =
-    omega (arith, counted_fits c.loop-i.invariant c.loop-i-test.true refl c.one_if-count.ensures)
-
-pub loop-i-preserved : goal.loop-i-preserved
-loop-i-preserved c = counted_next c.loop-i.invariant c.loop-i-test.true refl c.one_if-count.ensures
-
 pub returns : goal.returns
-returns c = counted_all_lem c.loop-i.invariant c.loop-i-test.false
+returns c =
+    let a = c.args in
+    c.count_below.ensures.counted (λ (k : ℕ). not (is_heard a.reported a.embargoed k)) (λ i b below post. search rules)

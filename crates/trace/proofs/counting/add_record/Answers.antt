@@ -4,4 +4,4 @@ use Rattle.trace.proofs.counting.add_record.Goals as goal
 
 pub returns : goal.returns
 unfolding counted
-returns c = rw (← c.kind_number-kind.ensures, ← c.outcome_number-outcome.ensures) c.count.ensures
+returns c = rw (← c.from.ensures, ← c.kind_number.ensures, ← c.outcome_number.ensures) c.count.ensures

@@ -13,4 +13,4 @@ returns-then-letter-count-clause-by_index c words =
 
 pub returns-else-letter-count-clause-by_index : goal.returns-else-letter-count-clause-by_index
 unfolding open_records
-returns-else-letter-count-clause-by_index c words = sym (none_beside c.args.said words c.if-letter-count.false)
+returns-else-letter-count-clause-by_index c words = sym (none_beside c.args.said words (rw c.letter_of-letter.ensures at c.if-letter-count.false))

@@ -7,5 +7,5 @@ use Rattle.unsaved.proofs.line.put_line_if.Goals as goal
 pub returns-then-dirty-clause-wrote : goal.returns-then-dirty-clause-wrote
 returns-then-dirty-clause-wrote c = wrote_as (flat_one _ _ c.if-dirty.true) c.put_line.ensures.wrote
 
-pub returns-clause-wrote : goal.returns-clause-wrote
-returns-clause-wrote c = wrote_as (flat_none _ _ c.if-dirty.false) (wrote_none _ _ (omega arith))
+pub returns-else-dirty-clause-wrote : goal.returns-else-dirty-clause-wrote
+returns-else-dirty-clause-wrote c = wrote_as (flat_none _ _ c.if-dirty.false) (wrote_none _ _ (omega arith))

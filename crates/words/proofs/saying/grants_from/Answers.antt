@@ -1,16 +1,15 @@
 -- `grants_from` meets its contract. Assumes nothing.
-use mathlib.Core.Path.{refl, ◌∙◌}
-use Rattle.sizes.specs.Sizes.{max_files}
-use Rattle.decision.proofs.Storing.{stored_none, stored_more, stored_all}
+use Prim.Native.Nat.{ℕ, ◌+◌, ◌*◌}
+use mathlib.Core.Bool.{cond}
+use lib.Dec.{ltb}
+use borrow.Author.Rules.{rules}
 use Rattle.protocol.specs.Reply.{no_granting}
-use Rattle.words.proofs.Listing.{stored_listed}
+use Rattle.words.specs.Said.{granting_said}
+use Rattle.words.proofs.Making.{made_listed}
 use Rattle.words.proofs.saying.grants_from.Goals as goal
 
-pub loop-k-init : goal.loop-k-init
-loop-k-init c = stored_none
-
-pub loop-k-preserved : goal.loop-k-preserved
-loop-k-preserved c = stored_more c.loop-k.invariant c.loop-k-test.true c.granting_at-granting.ensures
-
 pub returns : goal.returns
-returns c = stored_all c.loop-k.invariant c.loop-k-test.false ∙ stored_listed max_files no_granting _ _ refl
+returns c =
+    let a = c.args in
+    made_listed (λ (k : ℕ). cond (ltb (a.from + 4 * k) a.count) (granting_said a.words.now (a.from + 4 * k)) no_granting)
+    (λ k y q called. (search rules, search rules)) no_granting c.from_fn.ensures.items

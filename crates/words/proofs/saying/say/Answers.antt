@@ -1,5 +1,5 @@
 -- `say` meets its contract, reply by reply. Assumes nothing.
-use Prim.Native.Nat.{◌%◌}
+use Prim.Native.Nat.{◌%◌, ◌<◌}
 use mathlib.Core.Path.{refl, ap, ◌∙◌}
 use mathlib.Core.List.{[], ◌∷◌}
 use native.Mathlib.Nat.{mod-eq_of_lt}
@@ -35,12 +35,12 @@ pub returns-in-Refused : goal.returns-in-Refused
 returns-in-Refused c =
     let a = c.args in
     let w = a.words.now in
-    let wide = c.wide.ensures in
+    let small : c.from.result < 256 = omega arith in
     says_as _ _ _ _ _ _ _ c.in-Refused.is
     (says_values _ 1 w _ _ _ a.calls refl refl refl (omega arith)
-    (ap (λ x. x ∷ []) wide.0)
+    (ap (λ x. x ∷ []) c.from.ensures)
     (begun_next w [] w 0 _ (omega (arith, c.requires)) (begun_none w))
-    (ap Refused (ap (λ x. x % 256) (first_back w _ (omega (arith, c.requires))) ∙ mod-eq_of_lt wide.1 ∙ wide.0)) refl)
+    (ap Refused (ap (λ x. x % 256) (first_back w _ (omega (arith, c.requires))) ∙ mod-eq_of_lt small ∙ c.from.ensures)) refl)
 
 pub returns-in-Answered : goal.returns-in-Answered
 returns-in-Answered c =
@@ -55,12 +55,13 @@ pub returns-in-AnsweredGrant : goal.returns-in-AnsweredGrant
 returns-in-AnsweredGrant c =
     let a = c.args in
     let w = a.words.now in
-    let opener = c.wide-in-AnsweredGrant.ensures in
+    let opener = c.from-in-AnsweredGrant.ensures in
+    let small : c.from-in-AnsweredGrant.result < 256 = omega arith in
     let said = c.say_grant-in-AnsweredGrant.ensures in
     let five = said.by_index w _ c.say_two.ensures in
     says_as _ _ _ _ _ _ _ c.in-AnsweredGrant.is
-    (says_values _ 5 w _ _ _ a.calls refl refl refl (omega arith) (second_as _ _ _ _ opener.0) five
-    (answer_back w _ _ _ _ _ five opener.0 opener.1 said.at_after) (none_further five))
+    (says_values _ 5 w _ _ _ a.calls refl refl refl (omega arith) (second_as _ _ _ _ opener) five
+    (answer_back w _ _ _ _ _ five opener small said.at_after) (none_further five))
 
 pub returns-in-Done : goal.returns-in-Done
 returns-in-Done c =

@@ -1,14 +1,10 @@
--- `calls_word` meets its contract. Assumes nothing.
-use mathlib.Core.Path.{◌∙◌, ap₂}
-use mathlib.Core.List.{◌++◌}
+-- `calls_word` meets its contract: the bytes of the word are those it was made of. Assumes nothing.
+use mathlib.Core.Path.{sym, ◌∙◌}
 use borrow.Author.Rules.{rules}
-use Rattle.words.proofs.Packing.{eight_digits, eight}
+use Rattle.std.proofs.lemmas.Nat.{le_bytes_8}
+use Rattle.words.proofs.Packing.{bytes_held}
 use Rattle.words.proofs.words.calls_word.Goals as goal
 
 pub returns : goal.returns
 returns c =
-    let low = c.four_word in
-    let high = c.four_word-2 in
-    eight_digits low.result high.result low.ensures.1
-    ∙ ap₂ ◌++◌ low.ensures.0 high.ensures.0
-    ∙ eight 0 _ (search rules)
+    sym (bytes_held c.from_le_bytes.result) ∙ le_bytes_8 c.args.calls _ (search rules) (search rules) c.from_le_bytes.ensures

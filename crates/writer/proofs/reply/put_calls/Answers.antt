@@ -10,7 +10,7 @@ use Rattle.writer.proofs.reply.put_calls.Goals as goal
 
 pub loop-client-init : goal.loop-client-init
 unfolding calls_text ordered_calls
-loop-client-init c = (wrote_none _ _ (omega arith), omega arith, omega arith, refl)
+loop-client-init c = (wrote_none _ _ (omega arith), omega arith)
 
 pub loop-client-preserved : goal.loop-client-preserved
 loop-client-preserved c =
@@ -19,8 +19,6 @@ loop-client-preserved c =
       rw (add-one turn.client)
           (wrote_as (sym (calls_next turn.client c.args.calls)) (wrote_then turn.invariant.0 put.ensures.wrote)),
       omega arith,
-      omega arith,
-      put.auto.out ∙ turn.invariant.3,
     )
 
 pub returns-clause-wrote : goal.returns-clause-wrote

@@ -1,7 +1,5 @@
 -- After so many clients their callbacks are written.
 use Prim.Native.Nat.{◌+◌, ◌-◌, ◌*◌, ◌≤◌}
-use mathlib.Core.Path.{◌≡◌}
-use lib.ListN.{length}
 use Rattle.writer.specs.Buffer.{Wrote}
 use Rattle.decision.specs.Callback.{ordered_calls}
 use Rattle.stepfile.specs.Line.{calls_text}
@@ -10,9 +8,4 @@ use Rattle.writer.proofs.reply.put_calls.Given as goal
 abbrev pub invariant-loop-client : goal.invariant-loop-client
 invariant-loop-client l =
     Wrote l.fn.out l.at (calls_text (ordered_calls l.client l.fn.calls)) l.out l.next
-    × (l.client ≤ 8)
     × (l.next ≤ l.at + 42 * l.client)
-    × (length l.out ≡ length l.fn.out)
-
-abbrev pub decreases-loop-client : goal.decreases-loop-client
-decreases-loop-client l = 8 - l.client

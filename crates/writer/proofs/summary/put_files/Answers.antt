@@ -8,7 +8,7 @@ use Rattle.writer.proofs.summary.put_files.Goals as goal
 
 pub loop-file-init : goal.loop-file-init
 unfolding files_text
-loop-file-init c = (wrote_none _ _ (omega arith), omega arith, omega arith, refl)
+loop-file-init c = (wrote_none _ _ (omega arith), omega arith)
 
 pub loop-file-preserved : goal.loop-file-preserved
 loop-file-preserved c =
@@ -16,8 +16,6 @@ loop-file-preserved c =
     let put = c.put_file-next in (
       wrote_as (sym (files_next _ _ _)) (wrote_then turn.invariant.0 put.ensures.wrote),
       omega arith,
-      omega arith,
-      put.auto.out ∙ turn.invariant.3,
     )
 
 pub returns-clause-wrote : goal.returns-clause-wrote

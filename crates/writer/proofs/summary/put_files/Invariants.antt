@@ -9,9 +9,4 @@ use Rattle.writer.proofs.summary.put_files.Given as goal
 abbrev pub invariant-loop-file : goal.invariant-loop-file
 invariant-loop-file l =
     Wrote l.fn.out l.at (files_text l.sizes.clients l.file l.fn.table.files) l.out l.next
-    × (l.file ≤ l.sizes.files)
     × (l.next ≤ l.at + 84 * l.file)
-    × (length l.out ≡ length l.fn.out)
-
-abbrev pub decreases-loop-file : goal.decreases-loop-file
-decreases-loop-file l = l.sizes.files - l.file

@@ -1,22 +1,28 @@
--- `calls_out` meets its contract: after i clients the sum is how many of them have still to answer.
+-- `calls_out` meets its contract: where an open waits the chain counts the kinds, and else there are none.
 -- Assumes nothing.
-use Rattle.std.proofs.Common.{ap, ◌∙◌, not, arith}
+use Rattle.std.proofs.Common.{ℕ, ◌≡◌, ◌∙◌, sym, ap, not, Bool, cond, get_or, take, rules, arith}
+use Rattle.std.specs.List.{count_by}
+use Rattle.decision.specs.Lists.{count}
 use Rattle.decision.specs.Callback.{asks_nothing}
-use Rattle.decision.proofs.Counting.{counted_none, counted_next, counted_fits, counted_all_lem}
+use Rattle.decision.proofs.Counting.{count_none}
+use Rattle.decision.proofs.Chains.{counted_in}
+use Rattle.protocol.specs.Entry.{kind_of}
 use Rattle.protocol.proofs.entry.Entry.calls_out.Goals as goal
 
-pub loop-i-init : goal.loop-i-init
-loop-i-init c = counted_none
+-- the count, where a test tells whether there is anything to count
+abbrev counted : ℕ → (ℕ → ℕ) → Bool → ℕ
+counted n kinds waits = count n (λ k. not (asks_nothing (cond waits (kinds k) 0)))
 
-pub overflow_add-count : goal.overflow_add-count
-overflow_add-count c =
-    let calls = ap not (c.asks_nothing.ensures ∙ ap asks_nothing c.call_to.ensures) in
-    omega (arith, counted_fits c.loop-i.invariant c.loop-i-test.true calls c.one_if-count.ensures)
-
-pub loop-i-preserved : goal.loop-i-preserved
-loop-i-preserved c =
-    let calls = ap not (c.asks_nothing.ensures ∙ ap asks_nothing c.call_to.ensures) in
-    counted_next c.loop-i.invariant c.loop-i-test.true calls c.one_if-count.ensures
+pub returns-then-not-waits : goal.returns-then-not-waits
+returns-then-not-waits c =
+    let a = c.args in
+    sym (ap (counted a.clients (λ k. kind_of (get_or a.self.calls k 0))) (sym c.waits.ensures ∙ c.if-not-waits.true) ∙ count_none a.clients)
 
 pub returns : goal.returns
-returns c = counted_all_lem c.loop-i.invariant c.loop-i-test.false
+returns c =
+    let a = c.args in
+    let asks = λ (k : ℕ). not (asks_nothing (kind_of k)) in
+    let found : c.count.result ≡ count_by asks (take a.clients a.self.calls) = search rules in
+    found
+    ∙ counted_in a.clients 0 asks a.self.calls (omega arith)
+    ∙ sym (ap (counted a.clients (λ k. kind_of (get_or a.self.calls k 0))) (sym c.waits.ensures ∙ c.if-not-waits.false))

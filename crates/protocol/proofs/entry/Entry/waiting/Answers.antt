@@ -25,7 +25,7 @@ returns c =
     let a = c.args in
     let due = callback_due a.clients (record_in a.self.records) a.self.last a.opener a.mode in
     ap (λ (l : List ℕ). entry-with a.self a.opener a.mode l)
-    (c.with_calls.ensures
+    (c.with_calls-out.ensures
     ∙ stored_agree a.clients (λ i. i) (λ i. get_or a.calls i 0) due a.self.calls
     (λ i h.
     ap (λ (l : List ℕ). get_or l i 0) c.requires.calls_value

@@ -1,2 +1,0 @@
--- That an image that is written fits its buffer.
-pub mod Written

@@ -1,0 +1,75 @@
+// One input, told to its end: read, let the session take its turn, write. All else is the session's to decide.
+ghost use Rattle.std.specs.Prelude.{◌≡◌, cond};
+ghost use Rattle.playing.specs.Session.{fresh_session, resumed_session};
+
+use crate::images::Start;
+use crate::teller::Teller;
+use crate::turns::{End, input_buffer, read_if, write};
+use playing::Session;
+use std::io;
+use std::io::Read;
+
+// Tells what the input gives, from this start on; what a turn writes goes through the output buffer. A read or a write that
+// fails ends it before what comes last. The loop counts its turns, since nothing says that an input ends; no turn copies
+// the service.
+pub fn tell<T: Teller>(
+    rt: &impl Print,
+    start: Start,
+    input: &mut impl Read,
+    out: &mut [u8],
+) -> End {
+    let mut buffer = input_buffer();
+    let mut teller = T::holding(start.service);
+    let mut session = session_from(start);
+    let mut read_failure = None;
+    let mut write_failure = None;
+    for _ in 0..u64::MAX {
+        if session.done {
+            break;
+        }
+        let wanted = !(session.paused | session.over);
+        let got = match read_if(wanted, input, &mut buffer, session.rest) {
+            Ok(got) => got,
+            Err(error) => {
+                read_failure = Some(error);
+                break;
+            }
+        };
+        let turn = teller.advance(session, got, &mut buffer, out);
+        session = turn.session;
+        if let Err(error) = write(rt, out, turn.written) {
+            write_failure = Some(error);
+            break;
+        }
+    }
+    end_of(session, read_failure, write_failure, &teller)
+}
+
+// Before line 1.
+fn session_from(start: Start) -> Session
+    ensures value { result ≡ cond start.resumed (resumed_session start.service.sizes) fresh_session }
+    ensures rest_value { result.rest ≡ 0 }
+{
+    if start.resumed {
+        return Session::resumed(start.service.sizes);
+    }
+    Session::new()
+}
+
+// How it ended, with the service that the teller holds.
+fn end_of<T: Teller>(
+    session: Session,
+    read_failure: Option<io::Error>,
+    write_failure: Option<io::Error>,
+    teller: &T,
+) -> End
+    ensures service_value { result.service ≡ T.held teller.now session.sizes }
+    ensures done_value { result.done ≡ session.done }
+{
+    End {
+        read_failure,
+        write_failure,
+        done: session.done,
+        service: teller.to_service(session.sizes),
+    }
+}

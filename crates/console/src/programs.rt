@@ -1,0 +1,39 @@
+// The programs. Standard error comes by itself, since a line there has names that need not be text. Each has room in its
+// output for what it prints last, and for a line.
+use crate::host::Host;
+use counting::CountedService;
+use explaining::NotedService;
+use options::Program;
+use service::HeldService;
+use std::rt::{Env, Files};
+
+pub fn play(rt: &(impl Env + Files + Input + Print), errors: &impl Print) {
+    let host = Host {
+        rt,
+        errors,
+        program: Program::Play,
+    };
+    host.run::<HeldService>(&mut output_buffer::<524288>());
+}
+
+pub fn explain(rt: &(impl Env + Files + Input + Print), errors: &impl Print) {
+    let host = Host {
+        rt,
+        errors,
+        program: Program::Explain,
+    };
+    host.run::<NotedService>(&mut output_buffer::<1048576>());
+}
+
+pub fn traffic(rt: &(impl Env + Files + Input + Print), errors: &impl Print) {
+    let host = Host {
+        rt,
+        errors,
+        program: Program::Traffic,
+    };
+    host.run::<CountedService>(&mut output_buffer::<4096>());
+}
+
+fn output_buffer<const ROOM: usize>() -> [u8; ROOM] {
+    [0; ROOM]
+}

@@ -1,0 +1,112 @@
+// What a program makes of an input: it holds a service, with what it notes beside it, and takes turns.
+ghost use Rattle.std.specs.Prelude.{◌≡◌, ◌≤◌, length};
+ghost use Rattle.sizes.specs.declared.sizes.Sizes.{Sizes};
+ghost use Rattle.service.specs.declared.service.Service.{Service};
+ghost use Rattle.service.specs.Lent.{service_held};
+
+use counting::CountedService;
+use explaining::NotedService;
+use ledger::{Ledger, REFUSAL_NUMBERS};
+use playing::{Advance, Session};
+use service::{HeldService, Service};
+use sizes::Sizes;
+use trace::TOTALS;
+
+pub trait Teller: Drop {
+    // The service that is held, of these sizes.
+    ghost held: { Self → Sizes → Service };
+
+    // Holds the service, with nothing noted beside it.
+    fn holding(service: Service) -> Self
+        ensures { held result service.sizes ≡ service };
+
+    // Takes a turn.
+    fn advance(
+        &mut self,
+        session: Session,
+        got: usize,
+        buffer: &mut [u8],
+        out: &mut [u8],
+    ) -> Advance
+        ensures rest { result.session.rest ≤ length buffer.old }
+        ensures written { result.written ≤ length out.old };
+
+    fn to_service(&self, sizes: Sizes) -> Service
+        ensures { result ≡ held self.now sizes };
+}
+
+// `play` holds the service alone.
+impl Teller for HeldService {
+    ghost held = { λ h z. service_held z h.table h.flags h.stores };
+
+    fn holding(service: Service) -> Self {
+        HeldService::holding(service)
+    }
+
+    fn advance(
+        &mut self,
+        session: Session,
+        got: usize,
+        buffer: &mut [u8],
+        out: &mut [u8],
+    ) -> Advance {
+        session.advance(got, buffer, out, self)
+    }
+
+    fn to_service(&self, sizes: Sizes) -> Service {
+        self.to_service(sizes)
+    }
+}
+
+// `explain` notes the lines that wrote each block, and the refusals.
+impl Teller for NotedService {
+    ghost held = { λ h z. service_held z h.service.table h.service.flags h.service.stores };
+
+    fn holding(service: Service) -> Self {
+        NotedService {
+            service: HeldService::holding(service),
+            ledger: Ledger::new(),
+            refusals: [0; REFUSAL_NUMBERS],
+        }
+    }
+
+    fn advance(
+        &mut self,
+        session: Session,
+        got: usize,
+        buffer: &mut [u8],
+        out: &mut [u8],
+    ) -> Advance {
+        explaining::advance(session, got, buffer, out, self)
+    }
+
+    fn to_service(&self, sizes: Sizes) -> Service {
+        self.service.to_service(sizes)
+    }
+}
+
+// `traffic` counts.
+impl Teller for CountedService {
+    ghost held = { λ h z. service_held z h.service.table h.service.flags h.service.stores };
+
+    fn holding(service: Service) -> Self {
+        CountedService {
+            service: HeldService::holding(service),
+            totals: [0; TOTALS],
+        }
+    }
+
+    fn advance(
+        &mut self,
+        session: Session,
+        got: usize,
+        buffer: &mut [u8],
+        out: &mut [u8],
+    ) -> Advance {
+        counting::advance(session, got, buffer, out, self)
+    }
+
+    fn to_service(&self, sizes: Sizes) -> Service {
+        self.service.to_service(sizes)
+    }
+}

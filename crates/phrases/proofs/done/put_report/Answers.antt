@@ -1,6 +1,0 @@
--- `put_report` meets its contract: its parts, one after the other. Assumes nothing.
-use Rattle.writer.proofs.Buffers.{wrote_then}
-use Rattle.phrases.proofs.done.put_report.Goals as goal
-
-pub returns-clause-wrote : goal.returns-clause-wrote
-returns-clause-wrote c = wrote_then c.put_client-word.ensures.wrote c.put_text.ensures.wrote

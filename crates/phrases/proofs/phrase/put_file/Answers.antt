@@ -1,6 +1,0 @@
--- `put_file` meets its contract: the word, then the number. Assumes nothing.
-use Rattle.writer.proofs.Buffers.{wrote_then}
-use Rattle.phrases.proofs.phrase.put_file.Goals as goal
-
-pub returns-clause-wrote : goal.returns-clause-wrote
-returns-clause-wrote c = wrote_then c.put_text-number.ensures.wrote c.put_argument.ensures.wrote

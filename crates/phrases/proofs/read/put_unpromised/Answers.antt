@@ -1,6 +1,0 @@
--- `put_unpromised` meets its contract: its parts, one after the other. Assumes nothing.
-use Rattle.writer.proofs.Buffers.{wrote_then}
-use Rattle.phrases.proofs.read.put_unpromised.Goals as goal
-
-pub returns-clause-wrote : goal.returns-clause-wrote
-returns-clause-wrote c = wrote_then c.put_text-word.ensures.wrote c.put_embargo.ensures.wrote
