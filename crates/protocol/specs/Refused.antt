@@ -2,8 +2,11 @@
 use Rattle.std.specs.Prelude.{ℕ, Bool, cond, ⊤, Ok, Err}
 use Rattle.std.specs.declared.result.Result.{Result}
 use Rattle.protocol.specs.declared.refusal.Refusal.{Refusal}
-use Rattle.protocol.specs.declared.refusal.Refusal.TheVariants.{NoStep, NoClient, NoFile, NoBlock, InRecovery, NotInRecovery, Reported, ReportMissing, OpenWaits, NoCall, NotOpen, CountFull}
-use Rattle.protocol.specs.declared.refusal.Refusal.TheVariants.{NotDirty, VersionSpent, OpenWaitsAtWriting, BufferTooShort, NoImage, ListTooLong, OutOfRange, UnderEmbargo, NotUnderEmbargo, ReportsClash, NoPlace}
+use Rattle.protocol.specs.declared.refusal.Refusal.TheVariants.{NoStep, NoClient, NoFile, NoBlock, InRecovery, NotInRecovery}
+use Rattle.protocol.specs.declared.refusal.Refusal.TheVariants.{Reported, ReportMissing, OpenWaits, NoCall, NotOpen, CountFull}
+use Rattle.protocol.specs.declared.refusal.Refusal.TheVariants.{NotDirty, VersionSpent, OpenWaitsAtWriting, BufferTooShort}
+use Rattle.protocol.specs.declared.refusal.Refusal.TheVariants.{NoImage, ListTooLong, OutOfRange, UnderEmbargo, NotUnderEmbargo}
+use Rattle.protocol.specs.declared.refusal.Refusal.TheVariants.{ReportsClash, NoPlace}
 use Rattle.protocol.specs.declared.reply.Reply.{Reply}
 use Rattle.protocol.specs.declared.reply.Reply.TheVariants.{Refused}
 

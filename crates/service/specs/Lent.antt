@@ -1,5 +1,6 @@
 -- The service that lent arrays hold, and what a step leaves in them. Any words and flags hold some service.
-use Rattle.std.specs.Prelude.{ℕ, ◌+◌, ◌*◌, ◌%◌, ◌/◌, ◌<◌, ◌≤◌, ◌≡◌, Bool, true, false, not, ◌&&◌, List, Option, Some, None, eqb, leb, ltb, length, get_or, take, drop}
+use Rattle.std.specs.Prelude.{ℕ, ◌+◌, ◌*◌, ◌%◌, ◌/◌, ◌<◌, ◌≤◌, ◌≡◌, Bool, true, false, not, ◌&&◌, List, Option, Some, None, eqb}
+use Rattle.std.specs.Prelude.{leb, ltb, length, get_or, take, drop}
 use Rattle.sizes.specs.declared.sizes.Sizes.{Sizes}
 use Rattle.sizes.specs.Sizes.{max_clients, max_files, max_places}
 use Rattle.protocol.specs.declared.reply.Reply.{Reply}

@@ -1,5 +1,6 @@
 -- The records of a line: of its step, what the station could do itself just before, its reply, and what it brings to others.
-use Rattle.std.specs.Prelude.{ℕ, ◌+◌, Bool, false, cond, not, ◌&&◌, List, [], ◌∷◌, ◌++◌, Option, Some, None, ◌%◌, true, eqb, ltb, get_or, take, replicate}
+use Rattle.std.specs.Prelude.{ℕ, ◌+◌, Bool, false, cond, not, ◌&&◌, List, [], ◌∷◌, ◌++◌, Option, Some, None, ◌%◌, true, eqb, ltb}
+use Rattle.std.specs.Prelude.{get_or, take, replicate}
 use Rattle.sizes.specs.Sizes.{max_clients, max_files, max_blocks, nobody, cell}
 use Rattle.decision.specs.Callback.{ordered_calls}
 use Rattle.protocol.specs.declared.reply.Granting.{Granting}

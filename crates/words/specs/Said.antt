@@ -1,5 +1,6 @@
 -- What a step says: one number, the letter of its reply and how many words follow it, and the words.
-use Rattle.std.specs.Prelude.{ℕ, ◌+◌, ◌*◌, ◌/◌, ◌%◌, ◌≤◌, ◌<◌, ◌≡◌, Bool, true, false, cond, List, [], ◌∷◌, ◌++◌, eqb, ltb, length, get_or, take, drop}
+use Rattle.std.specs.Prelude.{ℕ, ◌+◌, ◌*◌, ◌/◌, ◌%◌, ◌≤◌, ◌<◌, ◌≡◌, Bool, true, false, cond, List, [], ◌∷◌, ◌++◌, eqb, ltb}
+use Rattle.std.specs.Prelude.{length, get_or, take, drop}
 use Rattle.records.specs.declared.version.Version.{Version}
 use Rattle.records.specs.Version.{version_of}
 use Rattle.sizes.specs.Sizes.{max_files, nobody}
