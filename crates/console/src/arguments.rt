@@ -9,8 +9,11 @@ use std::env::FillError;
 use std::rt::{Env, Files};
 
 impl<R: Env + Files + Input + Print, E: Print> Host<'_, R, E> {
-    // Runs the program: its teller makes of a line, and at the end, what it prints, in this output buffer.
-    pub fn run<T: Teller>(&self, out: &mut [u8]) {
+    // Runs the program: its teller makes of a line, and at the end, what it prints, in an output buffer of this room.
+    pub fn run<T: Teller, const ROOM: usize>(&self)
+        requires enough { T.room ≤ ROOM }
+        requires few { ROOM ≤ 1048576 }
+    {
         let count = argument_count(self.rt);
         let request = self.request_of(count);
         let images = Images {
@@ -26,17 +29,21 @@ impl<R: Env + Files + Input + Print, E: Print> Host<'_, R, E> {
                 self.refuse_image_option(writing, b"more than one input");
             }
             Act::PlayStdin => {
-                self.play_stdin::<T>(false, images, out);
+                self.play_stdin::<T, ROOM>(false, images);
             }
-            Act::PlayNames { headed } => self.play_names::<T>(count, headed, images, out),
+            Act::PlayNames { headed } => self.play_names::<T, ROOM>(count, headed, images),
         }
     }
 
     // Plays each input that an argument names, until standard output fails.
-    fn play_names<T: Teller>(&self, count: usize, headed: bool, images: Images, out: &mut [u8]) {
+    fn play_names<T: Teller, const ROOM: usize>(&self, count: usize, headed: bool, images: Images)
+        requires enough { T.room ≤ ROOM }
+        requires few { ROOM ≤ 1048576 }
+    {
         let mut request = Request::new();
         for i in 1..count {
-            let Some(after) = self.play_argument::<T>(i, i + 1, request, headed, images, out) else {
+            let Some(after) = self.play_argument::<T, ROOM>(i, i + 1, request, headed, images)
+            else {
                 return;
             };
             request = after;
@@ -44,21 +51,23 @@ impl<R: Env + Files + Input + Print, E: Print> Host<'_, R, E> {
     }
 
     // Plays what argument i names, and answers the request with it; none if standard output takes no more.
-    fn play_argument<T: Teller>(
+    fn play_argument<T: Teller, const ROOM: usize>(
         &self,
         i: usize,
         next: usize,
         request: Request,
         headed: bool,
         images: Images,
-        out: &mut [u8],
-    ) -> Option<Request> {
+    ) -> Option<Request>
+        requires enough { T.room ≤ ROOM }
+        requires few { ROOM ≤ 1048576 }
+    {
         let mut text = argument_buffer();
         let length = argument_at(self.rt, i, &mut text);
         let argument = argument_of(&text[..length], i, request);
         let writes = match argument {
-            Argument::Name => self.play_file::<T>(&text[..length], headed, images, out),
-            Argument::Stdin => self.play_stdin::<T>(headed, images, out),
+            Argument::Name => self.play_file::<T, ROOM>(&text[..length], headed, images),
+            Argument::Stdin => self.play_stdin::<T, ROOM>(headed, images),
             _ => true,
         };
         writes.then_some(request.with(argument, next))

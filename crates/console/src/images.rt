@@ -73,6 +73,8 @@ impl<R: Env + Files, E: Print> Host<'_, R, E> {
         }
     }
 
+    // In a frame of its own, since its buffer is large and no play needs it while it tells an input.
+    #[inline(never)]
     fn tell_unsaved(&self, service: Service) {
         let mut lines = lines_buffer();
         let count = write_unsaved(&mut lines, 0, self.program.number(), service);

@@ -1,5 +1,5 @@
 // One input, told to its end: read, let the session take its turn, write. All else is the session's to decide.
-ghost use Rattle.std.specs.Prelude.{◌≡◌, cond};
+ghost use Rattle.std.specs.Prelude.{◌≡◌, ◌≤◌, cond};
 ghost use Rattle.playing.specs.Session.{fresh_session, resumed_session};
 
 use crate::images::Start;
@@ -9,16 +9,20 @@ use playing::Session;
 use std::io;
 use std::io::Read;
 
-// Tells what the input gives, from this start on; what a turn writes goes through the output buffer. A read or a write that
-// fails ends it before what comes last. The loop counts its turns, since nothing says that an input ends; no turn copies
-// the service.
-pub fn tell<T: Teller>(
+// Tells what the input gives, from this start on; what a turn writes goes through an output buffer of this room. A read or
+// a write that fails ends it before what comes last. The loop counts its turns, since nothing says that an input ends; no
+// turn copies the service. It has a frame of its own, so that what tells no input has no buffers.
+#[inline(never)]
+pub fn tell<T: Teller, const ROOM: usize>(
     rt: &impl Print,
-    start: Start,
+    start: &Start,
     input: &mut impl Read,
-    out: &mut [u8],
-) -> End {
+) -> End
+    requires enough { T.room ≤ ROOM }
+    requires few { ROOM ≤ 1048576 }
+{
     let mut buffer = input_buffer();
+    let mut out = [0; ROOM];
     let mut teller = T::holding(start.service);
     let mut session = session_from(start);
     let mut read_failure = None;
@@ -35,9 +39,9 @@ pub fn tell<T: Teller>(
                 break;
             }
         };
-        let turn = teller.advance(session, got, &mut buffer, out);
+        let turn = teller.advance(session, got, &mut buffer, &mut out);
         session = turn.session;
-        if let Err(error) = write(rt, out, turn.written) {
+        if let Err(error) = write(rt, &out, turn.written) {
             write_failure = Some(error);
             break;
         }
@@ -46,8 +50,8 @@ pub fn tell<T: Teller>(
 }
 
 // Before line 1.
-fn session_from(start: Start) -> Session
-    ensures value { result ≡ cond start.resumed (resumed_session start.service.sizes) fresh_session }
+fn session_from(start: &Start) -> Session
+    ensures value { result ≡ cond start.now.resumed (resumed_session start.now.service.sizes) fresh_session }
     ensures rest_value { result.rest ≡ 0 }
 {
     if start.resumed {

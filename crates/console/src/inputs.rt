@@ -1,4 +1,6 @@
 // The inputs: standard input and named files, each played from its start to its end.
+ghost use Rattle.std.specs.Prelude.{◌≤◌};
+
 use crate::files::open_read;
 use crate::guard::Images;
 use crate::host::Host;
@@ -26,13 +28,15 @@ impl<I: Read, F: Read> Read for Source<I, F> {
 
 // Each of these answers whether standard output took what was played.
 impl<R: Env + Files + Input + Print, E: Print> Host<'_, R, E> {
-    pub fn play_file<T: Teller>(
+    pub fn play_file<T: Teller, const ROOM: usize>(
         &self,
         path: &[u8],
         headed: bool,
         images: Images,
-        out: &mut [u8],
-    ) -> bool {
+    ) -> bool
+        requires enough { T.room ≤ ROOM }
+        requires few { ROOM ≤ 1048576 }
+    {
         if headed {
             self.print_heading(path);
         }
@@ -42,7 +46,7 @@ impl<R: Env + Files + Input + Print, E: Print> Host<'_, R, E> {
         match open_read(self.rt, path) {
             Ok(file) => {
                 let mut source: Source<R::Reader, R::File> = Source::File(file);
-                self.play_input::<T>(&mut source, path, images, out)
+                self.play_input::<T, ROOM>(&mut source, path, images)
             }
             Err(error) => {
                 self.fail(path, error);
@@ -51,7 +55,10 @@ impl<R: Env + Files + Input + Print, E: Print> Host<'_, R, E> {
         }
     }
 
-    pub fn play_stdin<T: Teller>(&self, headed: bool, images: Images, out: &mut [u8]) -> bool {
+    pub fn play_stdin<T: Teller, const ROOM: usize>(&self, headed: bool, images: Images) -> bool
+        requires enough { T.room ≤ ROOM }
+        requires few { ROOM ≤ 1048576 }
+    {
         let name = b"standard input";
         if headed {
             self.print_heading(name);
@@ -61,21 +68,23 @@ impl<R: Env + Files + Input + Print, E: Print> Host<'_, R, E> {
             return true;
         }
         let mut source: Source<R::Reader, R::File> = Source::Stdin(self.rt.reader());
-        self.play_input::<T>(&mut source, name, images, out)
+        self.play_input::<T, ROOM>(&mut source, name, images)
     }
 
     // A read or a write that fails is told of. The image of the end is written only if the input was played to its end.
-    fn play_input<T: Teller>(
+    fn play_input<T: Teller, const ROOM: usize>(
         &self,
         input: &mut impl Read,
         name: &[u8],
         images: Images,
-        out: &mut [u8],
-    ) -> bool {
+    ) -> bool
+        requires enough { T.room ≤ ROOM }
+        requires few { ROOM ≤ 1048576 }
+    {
         let Some(start) = self.start_of(images.read) else {
             return true;
         };
-        let end = tell::<T>(self.rt, start, input, out);
+        let end = tell::<T, ROOM>(self.rt, &start, input);
         if let Some(error) = end.read_failure {
             self.fail(name, error);
         }

@@ -1,5 +1,5 @@
-// The programs. Standard error comes by itself, since a line there has names that need not be text. Each has room in its
-// output for what it prints last, and for a line.
+// The programs. Standard error comes by itself, since a line there has names that need not be text. Each names the room of
+// its output buffer, which is enough for what it prints last, and for a line.
 use crate::host::Host;
 use counting::CountedService;
 use explaining::NotedService;
@@ -13,7 +13,7 @@ pub fn play(rt: &(impl Env + Files + Input + Print), errors: &impl Print) {
         errors,
         program: Program::Play,
     };
-    host.run::<HeldService>(&mut output_buffer::<524288>());
+    host.run::<HeldService, 524288>();
 }
 
 pub fn explain(rt: &(impl Env + Files + Input + Print), errors: &impl Print) {
@@ -22,7 +22,7 @@ pub fn explain(rt: &(impl Env + Files + Input + Print), errors: &impl Print) {
         errors,
         program: Program::Explain,
     };
-    host.run::<NotedService>(&mut output_buffer::<1048576>());
+    host.run::<NotedService, 1048576>();
 }
 
 pub fn traffic(rt: &(impl Env + Files + Input + Print), errors: &impl Print) {
@@ -31,9 +31,5 @@ pub fn traffic(rt: &(impl Env + Files + Input + Print), errors: &impl Print) {
         errors,
         program: Program::Traffic,
     };
-    host.run::<CountedService>(&mut output_buffer::<4096>());
-}
-
-fn output_buffer<const ROOM: usize>() -> [u8; ROOM] {
-    [0; ROOM]
+    host.run::<CountedService, 4096>();
 }

@@ -1,8 +1,12 @@
 // What a program makes of an input: it holds a service, with what it notes beside it, and takes turns.
-ghost use Rattle.std.specs.Prelude.{◌≡◌, ◌≤◌, length};
+ghost use Rattle.std.specs.Prelude.{◌≡◌, ◌≤◌, ℕ, length, max, true};
 ghost use Rattle.sizes.specs.declared.sizes.Sizes.{Sizes};
 ghost use Rattle.service.specs.declared.service.Service.{Service};
 ghost use Rattle.service.specs.Lent.{service_held};
+ghost use Rattle.playing.specs.Lines.{playing};
+ghost use Rattle.playing.specs.Session.{is_told};
+ghost use Rattle.explaining.specs.Lines.{explaining};
+ghost use Rattle.counting.specs.Lines.{counting};
 
 use counting::CountedService;
 use explaining::NotedService;
@@ -16,6 +20,9 @@ pub trait Teller: Drop {
     // The service that is held, of these sizes.
     ghost held: { Self → Sizes → Service };
 
+    // The room in the output that a turn is given: for a line, and for what is printed last.
+    ghost room: { ℕ };
+
     // Holds the service, with nothing noted beside it.
     fn holding(service: Service) -> Self
         ensures { held result service.sizes ≡ service };
@@ -28,8 +35,10 @@ pub trait Teller: Drop {
         buffer: &mut [u8],
         out: &mut [u8],
     ) -> Advance
+        requires { room ≤ length out.old }
         ensures rest { result.session.rest ≤ length buffer.old }
-        ensures written { result.written ≤ length out.old };
+        ensures written { result.written ≤ length out.old }
+        ensures ends { is_told session ≡ true → result.session.done ≡ true };
 
     fn to_service(&self, sizes: Sizes) -> Service
         ensures { result ≡ held self.now sizes };
@@ -38,6 +47,8 @@ pub trait Teller: Drop {
 // `play` holds the service alone.
 impl Teller for HeldService {
     ghost held = { λ h z. service_held z h.table h.flags h.stores };
+
+    ghost room = { max (playing true).room (playing true).close_room };
 
     fn holding(service: Service) -> Self {
         HeldService::holding(service)
@@ -61,6 +72,8 @@ impl Teller for HeldService {
 // `explain` notes the lines that wrote each block, and the refusals.
 impl Teller for NotedService {
     ghost held = { λ h z. service_held z h.service.table h.service.flags h.service.stores };
+
+    ghost room = { max (explaining true).room (explaining true).close_room };
 
     fn holding(service: Service) -> Self {
         NotedService {
@@ -88,6 +101,8 @@ impl Teller for NotedService {
 // `traffic` counts.
 impl Teller for CountedService {
     ghost held = { λ h z. service_held z h.service.table h.service.flags h.service.stores };
+
+    ghost room = { max (counting true).room (counting true).close_room };
 
     fn holding(service: Service) -> Self {
         CountedService {

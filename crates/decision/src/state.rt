@@ -9,13 +9,13 @@ use sizes::MAX_CLIENTS;
 // The states of the 1989 paper's section 4.3.4.
 #[derive(Clone, Copy)]
 pub enum FileState {
-    Closed = 0,
-    ClosedDirty = 1,
-    OneReader = 2,
-    OneReaderDirty = 3,
-    MultReaders = 4,
-    OneWriter = 5,
-    WriteShared = 6,
+    Closed,
+    ClosedDirty,
+    OneReader,
+    OneReaderDirty,
+    MultReaders,
+    OneWriter,
+    WriteShared,
 }
 
 // What a client is counted for.
@@ -29,11 +29,20 @@ pub enum Property {
 }
 
 impl FileState {
-    // The state code that the summary prints.
+    // The state code that the summary prints. Stays: by `match`, the form that document 01 asks of state codes and of the
+    // kinds of kind.rt (docs/DECISIONS.md, Forms).
     pub fn code(self) -> u8
         ensures { result ≡ code_of self }
     {
-        self as u8
+        match self {
+            FileState::Closed => 0,
+            FileState::ClosedDirty => 1,
+            FileState::OneReader => 2,
+            FileState::OneReaderDirty => 3,
+            FileState::MultReaders => 4,
+            FileState::OneWriter => 5,
+            FileState::WriteShared => 6,
+        }
     }
 }
 

@@ -1,11 +1,14 @@
 // The lines of a buffer, played.
-ghost use Rattle.std.specs.Prelude.{◌≡◌};
+ghost use Rattle.std.specs.Prelude.{◌≡◌, length};
+ghost use Rattle.words.specs.Said.{said_room};
+ghost use Rattle.service.specs.Lent.{Stepped};
 ghost use Rattle.playing.specs.Lines.{Plays, Begins};
 
 use crate::setting::{choose_sizes, write_setting};
 use reader::{is_set, read_at, read_first_setting};
 use service::HeldService;
 use sizes::Sizes;
+use stepfile::Line;
 use telling::can_tell;
 use words::SAID;
 use writer::{LINE_ROOM, write_said};
@@ -51,7 +54,7 @@ pub fn play_lines(
         let told = number;
         used = line.next;
         number += 1;
-        let said = service.take_step(given, line.step, &mut words);
+        let said = take_line(given, line, service, &mut words);
         to = write_said(out, to, told, said, &words);
     }
     Progress {
@@ -60,6 +63,15 @@ pub fn play_lines(
         used,
         written: to,
     }
+}
+
+// Takes the step of a line, or says that it gives none.
+fn take_line(given: Sizes, line: Line, service: &mut HeldService, words: &mut [u64; SAID]) -> u64
+    requires words_len { length words.old ≡ said_room }
+    ensures { Stepped given line.step service.old.table service.old.flags service.old.stores words.old
+        service.new.table service.new.flags service.new.stores words.new result }
+{
+    service.take_step(given, line.step, words)
 }
 
 // Plays the line that chooses the sizes, if the input begins with one: the sizes are then those of all other lines.

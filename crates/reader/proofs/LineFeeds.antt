@@ -75,9 +75,9 @@ ended_from (x ∷ d) b i =
     further nothing = refl
 
 module _ (s : List ℕ) (at : ℕ) where
-  pub search_none : length s < at → None ≡ no_step_at s at
+  pub search_none : length s ≤ at → None ≡ no_step_at s at
   unfolding first_line
-  search_none h = sym (ap (λ d. line_read (λ line. None) at (first_line d)) (drop_of_length-le s (omega arith)))
+  search_none h = sym (ap (λ d. line_read (λ line. None) at (first_line d)) (drop_of_length-le s h))
 
   pub ended_by : (d : List ℕ) → d ≡ slice_range s at (length s) → at ≤ length s → ended at (position line_feed d) ≡ no_step_at s at
   ended_by d is h =

@@ -12,29 +12,27 @@ use protocol::Entry;
 use records::{ClientRecord, Version};
 use sizes::{MAX_BLOCKS, MAX_CLIENTS, MAX_FILES, MAX_PLACES};
 
-// What the entries of the section that begins at the offset make of a state, one after the other: `put` puts in the one
-// that stands at an offset.
-fn fold_section<T, F: Fn(&[u8], usize, T) -> T>(
+// Puts the entries of the section that begins at the offset in a state, one after the other: `put` puts the one that
+// stands at an offset.
+fn fold_section<T, F: Fn(&[u8], usize, &mut T)>(
     bytes: &[u8],
     at: usize,
     width: usize,
-    start: T,
+    state: &mut T,
     put: F,
-) -> T
+)
     requires at_bound { at ≤ 2000000 }
     requires width_bound { width ≤ 10 }
-    requires may_be_called { (part : _) (next : ℕ) (state : T) → next ≤ 9000000 → F.pre put part next state }
+    requires may_be_called { (part : _) (next : ℕ) (before : _) → next ≤ 9000000 → F.pre put part next before }
     ensures { (step : List ℕ → T → T)
-        → ((part : _) (next : ℕ) (state after : T) → F.post put part next state after
-        → after ≡ step (take width (drop next part.now)) state)
-        → result ≡ placed step (section_in width (drop at bytes.now)) start }
+        → ((part : _) (next : ℕ) (before after : _) → F.post put part next before tt after
+        → after.now ≡ step (take width (drop next part.now)) before.now)
+        → state.new ≡ placed step (section_in width (drop at bytes.now)) state.old }
 {
     let count = two_at(bytes, at) as usize;
-    let mut state = start;
     for k in 0..count {
-        state = put(bytes, at + 2 + width * k, state);
+        put(bytes, at + 2 + width * k, state);
     }
-    state
 }
 
 // The entry of a file with the version and the last writer that stand at the offset.
@@ -47,14 +45,13 @@ fn with_file(bytes: &[u8], at: usize, mut entry: Entry) -> Entry
     entry
 }
 
-// The entries with that of the section of files that stands at the offset.
-fn put_file(bytes: &[u8], at: usize, mut files: [Entry; MAX_FILES]) -> [Entry; MAX_FILES]
+// Puts that of the section of files that stands at the offset in the entries.
+fn put_file(bytes: &[u8], at: usize, files: &mut [Entry; MAX_FILES])
     requires { at ≤ 9000000 }
-    ensures { result ≡ put_file (take 6 (drop at bytes.now)) files }
+    ensures { files.new ≡ put_file (take 6 (drop at bytes.now)) files.old }
 {
     let file = byte_at(bytes, at) as usize % MAX_FILES;
     files[file] = with_file(bytes, at, files[file]);
-    files
 }
 
 // The record of an open that stands at the offset.
@@ -82,14 +79,13 @@ fn with_open(bytes: &[u8], at: usize, mut entry: Entry) -> Entry
     entry
 }
 
-// The entries with that of the section of opens that stands at the offset.
-fn put_open(bytes: &[u8], at: usize, mut files: [Entry; MAX_FILES]) -> [Entry; MAX_FILES]
+// Puts that of the section of opens that stands at the offset in the entries.
+fn put_open(bytes: &[u8], at: usize, files: &mut [Entry; MAX_FILES])
     requires { at ≤ 9000000 }
-    ensures { result ≡ put_open (take 5 (drop at bytes.now)) files }
+    ensures { files.new ≡ put_open (take 5 (drop at bytes.now)) files.old }
 {
     let file = byte_at(bytes, at + 1) as usize % MAX_FILES;
     files[file] = with_open(bytes, at, files[file]);
-    files
 }
 
 // The place of the block that stands at the offset.
@@ -103,34 +99,31 @@ fn place_at(bytes: &[u8], at: usize) -> usize
     file * MAX_BLOCKS + block
 }
 
-// The blocks with that of the section of blocks that stands at the offset.
-fn put_block(bytes: &[u8], at: usize, mut blocks: [u64; MAX_PLACES]) -> [u64; MAX_PLACES]
+// Puts that of the section of blocks that stands at the offset in the blocks.
+fn put_block(bytes: &[u8], at: usize, blocks: &mut [u64; MAX_PLACES])
     requires { at ≤ 9000000 }
-    ensures { result ≡ put_block (take 10 (drop at bytes.now)) blocks }
+    ensures { blocks.new ≡ put_block (take 10 (drop at bytes.now)) blocks.old }
 {
     let place = place_at(bytes, at);
     blocks[place] = eight_at(bytes, at + 2);
-    blocks
 }
 
-// The used blocks with that of the section of blocks that stands at the offset: each that is listed is used.
-fn put_used(bytes: &[u8], at: usize, mut used: [bool; MAX_PLACES]) -> [bool; MAX_PLACES]
+// Puts that of the section of blocks that stands at the offset in the used blocks: each that is listed is used.
+fn put_used(bytes: &[u8], at: usize, used: &mut [bool; MAX_PLACES])
     requires { at ≤ 9000000 }
-    ensures { result ≡ put_used (take 10 (drop at bytes.now)) used }
+    ensures { used.new ≡ put_used (take 10 (drop at bytes.now)) used.old }
 {
     let place = place_at(bytes, at);
     used[place] = true;
-    used
 }
 
-// The embargoes with that of the section of embargoes that stands at the offset.
-fn put_embargo(bytes: &[u8], at: usize, mut embargoed: [bool; MAX_CLIENTS]) -> [bool; MAX_CLIENTS]
+// Puts that of the section of embargoes that stands at the offset in the embargoes.
+fn put_embargo(bytes: &[u8], at: usize, embargoed: &mut [bool; MAX_CLIENTS])
     requires { at ≤ 9000000 }
-    ensures { result ≡ put_embargo (take 1 (drop at bytes.now)) embargoed }
+    ensures { embargoed.new ≡ put_embargo (take 1 (drop at bytes.now)) embargoed.old }
 {
     let client = byte_at(bytes, at) as usize % MAX_CLIENTS;
     embargoed[client] = true;
-    embargoed
 }
 
 // The offset past the section of entries of so many bytes that begins at the offset.
@@ -152,18 +145,19 @@ pub fn decode(bytes: &[u8]) -> Contents
     ensures embargoes_held { result.embargoed ≡ decoded_embargoes bytes.now }
 {
     let fresh = Entry::fresh();
+    let mut contents = Contents {
+        files: [fresh; MAX_FILES],
+        used: [false; MAX_PLACES],
+        blocks: [0; MAX_PLACES],
+        embargoed: [false; MAX_CLIENTS],
+    };
     let second = past_section(bytes, 5, 6);
     let third = past_section(bytes, second, 5);
     let fourth = past_section(bytes, third, 10);
-    let listed = fold_section(bytes, 5, 6, [fresh; MAX_FILES], put_file);
-    let files = fold_section(bytes, second, 5, listed, put_open);
-    let used = fold_section(bytes, third, 10, [false; MAX_PLACES], put_used);
-    let blocks = fold_section(bytes, third, 10, [0; MAX_PLACES], put_block);
-    let embargoed = fold_section(bytes, fourth, 1, [false; MAX_CLIENTS], put_embargo);
-    Contents {
-        files,
-        used,
-        blocks,
-        embargoed,
-    }
+    fold_section(bytes, 5, 6, &mut contents.files, put_file);
+    fold_section(bytes, second, 5, &mut contents.files, put_open);
+    fold_section(bytes, third, 10, &mut contents.used, put_used);
+    fold_section(bytes, third, 10, &mut contents.blocks, put_block);
+    fold_section(bytes, fourth, 1, &mut contents.embargoed, put_embargo);
+    contents
 }

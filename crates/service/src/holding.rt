@@ -48,7 +48,8 @@ fn hold_space(
 }
 
 impl HeldService {
-    // The service, held.
+    // The service, held. Put into its callers, since the compiler copies the whole of what it answers otherwise.
+    #[inline(always)]
     pub fn holding(service: Service) -> Self
         ensures { service_held service.sizes result.table result.flags result.stores ≡ service }
     {

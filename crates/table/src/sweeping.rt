@@ -9,7 +9,7 @@ ghost use Rattle.table.specs.Swept.{Cleared, PutsEntry, Sweeps};
 
 use protocol::NOBODY;
 use records::Mode;
-use sizes::Sizes;
+use sizes::{MAX_CLIENTS, Sizes};
 use words::{ROW, WORDS, calls_past, head_word, version_of, with_last};
 
 // None of the clients has the file open.
@@ -20,7 +20,12 @@ fn clear_records(clients: usize, f: usize, table: &mut [u64; WORDS])
     ensures { Cleared f table.old table.new clients }
 {
     let first = f * ROW + 2;
-    table[first..first + clients].fill(0);
+    // Of eight clients by as many stores: where their number is not known, the fill is a call for each file.
+    if clients == MAX_CLIENTS {
+        table[first..first + MAX_CLIENTS].fill(0);
+    } else {
+        table[first..first + clients].fill(0);
+    }
 }
 
 // Of one file's entry only the version survives.

@@ -63,7 +63,11 @@ pub fn is_listed(entry: Entry, clients: usize) -> bool
     requires { clients ≤ max_clients }
     ensures { result ≡ is_listed clients entry }
 {
-    code_in(entry, clients) != 0 || !entry.version.as_read().is_first()
+    let code = code_in(entry, clients);
+    match code {
+        0 => !entry.version.as_read().is_first(),
+        _ => true,
+    }
 }
 
 fn code_in(entry: Entry, clients: usize) -> u8

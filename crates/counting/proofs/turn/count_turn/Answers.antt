@@ -1,5 +1,6 @@
 -- `count_turn` meets its contract: the lines are counted, and the turn ends. Assumes nothing.
 use mathlib.Core.List.{[]}
+use native.Mathlib.Omega.{arith}
 use Rattle.playing.proofs.Ending.{told_inside, turn_ended}
 use Rattle.counting.specs.Lines.{counted_held}
 use Rattle.counting.proofs.Counting.{still_can}
@@ -9,8 +10,10 @@ pub end_turn-requires-clause-used_in_bounds : goal.end_turn-requires-clause-used
 end_turn-requires-clause-used_in_bounds c =
     let after = c.count_lines-progress.new.counted in
     let held = after.service in
+    let inside =
     told_inside _ (λ z. counted_held z held.table held.flags held.stores after.totals) _ _ _ _ _ _ _ _ c.min-n.ensures
-    (c.count_lines-progress.ensures.tells [])
+    (c.count_lines-progress.ensures.tells []) in
+    omega (arith, inside)
 
 pub returns : goal.returns
 returns c =

@@ -31,7 +31,7 @@ loop-words-preserved c =
     let plain =
     not_chosen a.settable l.number a.input.now l.used line.step line.next _
     (read_line a.input.now l.used line.step line.next reached.at.inside is_read) l.invariant.1.0 can in
-    let steps = c.take_step-said.ensures in
+    let steps = c.take_line-said.ensures in
     let wrote = c.write_said-to in
     let is =
     given_outcome a.settable stands l.number (line_bytes a.input.now l.used line.next) line.step plain in (

@@ -16,13 +16,13 @@ loop-k-preserved g c = record {
   placed = λ step puts.
       let a = c.args in
       let turn = c.loop-k in
-      subst (λ next. Placing step a.width a.bytes.now (a.at + 2) c.two_at-count.result a.start c.put-state.result next (turn.k + 1))
+      subst (λ next. Placing step a.width a.bytes.now (a.at + 2) c.two_at-count.result a.state.now c.put.new.arg4 next (turn.k + 1))
       (past (a.at + 2) a.width turn.k)
-      (placing_next (turn.invariant.placed step puts) c.loop-k-test.true (puts _ _ _ _ c.put-state.ensures));
+      (placing_next (turn.invariant.placed step puts) c.loop-k-test.true (puts _ _ _ _ c.put.ensures));
 }
 
 pub returns : goal.returns
 returns g c step puts =
     let a = c.args in
     placing_all (c.loop-k.invariant.placed step puts) c.loop-k-test.false
-    ∙ section_at step a.width a.bytes.now a.at c.two_at-count.result a.start c.two_at-count.ensures.value
+    ∙ section_at step a.width a.bytes.now a.at c.two_at-count.result a.state.now c.two_at-count.ensures.value

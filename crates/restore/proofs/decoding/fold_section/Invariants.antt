@@ -10,6 +10,6 @@ abbrev pub invariant-loop-k : goal.invariant-loop-k
 invariant-loop-k g l = record {
   few : l.count < 65536;
   placed : (step : List ℕ → _ → _)
-      → ((part : _) (next : ℕ) (state after : _) → goal.F-post g l.put part next state after → after ≡ step (take l.width (drop next part.now)) state)
-      → Placing step l.width l.bytes (l.at + 2) l.count l.fn.start l.state (l.at + 2 + l.width * l.k) l.k;
+      → ((part : _) (next : ℕ) (before after : _) → goal.F-post g l.put part next before tt after → after.now ≡ step (take l.width (drop next part.now)) before.now)
+      → Placing step l.width l.bytes (l.at + 2) l.count l.fn.state l.state (l.at + 2 + l.width * l.k) l.k;
 }

@@ -3,4 +3,4 @@ use Rattle.restore.proofs.Fields.{embargo_put}
 use Rattle.restore.proofs.decoding.put_embargo.Goals as goal
 
 pub returns : goal.returns
-returns c = embargo_put c.args.bytes.now c.args.at c.args.embargoed c.byte_at.ensures
+returns c = embargo_put c.args.bytes.now c.args.at c.args.embargoed.now c.byte_at.ensures

@@ -3,4 +3,4 @@ use Rattle.restore.proofs.Fields.{used_put}
 use Rattle.restore.proofs.decoding.put_used.Goals as goal
 
 pub returns : goal.returns
-returns c = used_put c.args.bytes.now c.args.at c.args.used c.place_at-place.ensures.value
+returns c = used_put c.args.bytes.now c.args.at c.args.used.now c.place_at-place.ensures.value
