@@ -66,7 +66,7 @@ pub fn open_batch(service: Service, client: usize, files: &[usize], writes: &[bo
         };
     }
     let sizes = service.sizes;
-    let mut held = HeldService::holding(service);
+    let mut held = HeldService::holding(&service);
     let mut words = [0u64; SAID];
     for k in 0..count {
         let file = files[k];

@@ -14,7 +14,7 @@ use sizes::Sizes;
 use std::rt::{Env, Files};
 use unsaved::write_unsaved;
 
-// Where a play begins.
+// Where a play begins; when it has been told, the service is the one that it ended with.
 #[derive(Clone, Copy)]
 pub struct Start {
     // With the service of an image, which has its sizes; else with the fresh one, whose sizes line 1 may choose.

@@ -81,10 +81,10 @@ impl<R: Env + Files + Input + Print, E: Print> Host<'_, R, E> {
         requires enough { T.room ≤ ROOM }
         requires few { ROOM ≤ 1048576 }
     {
-        let Some(start) = self.start_of(images.read) else {
+        let Some(mut start) = self.start_of(images.read) else {
             return true;
         };
-        let end = tell::<T, ROOM>(self.rt, &start, input);
+        let end = tell::<T, ROOM>(self.rt, &mut start, input);
         if let Some(error) = end.read_failure {
             self.fail(name, error);
         }
@@ -95,7 +95,7 @@ impl<R: Env + Files + Input + Print, E: Print> Host<'_, R, E> {
         if end.done
             && let Some(place) = images.written
         {
-            self.save(end.service, place);
+            self.save(start.service, place);
         }
         true
     }

@@ -23,9 +23,12 @@ pub trait Teller: Drop {
     // The room in the output that a turn is given: for a line, and for what is printed last.
     ghost room: { ℕ };
 
-    // Holds the service, with nothing noted beside it.
-    fn holding(service: Service) -> Self
-        ensures { held result service.sizes ≡ service };
+    // With nothing noted, for a service to be held in.
+    fn new() -> Self;
+
+    // Holds the service, in place of the one before.
+    fn hold(&mut self, service: &Service)
+        ensures { held self.new service.now.sizes ≡ service.now };
 
     // Takes a turn.
     fn advance(
@@ -50,8 +53,12 @@ impl Teller for HeldService {
 
     ghost room = { max (playing true).room (playing true).close_room };
 
-    fn holding(service: Service) -> Self {
-        HeldService::holding(service)
+    fn new() -> Self {
+        HeldService::zeros()
+    }
+
+    fn hold(&mut self, service: &Service) {
+        self.hold(service);
     }
 
     fn advance(
@@ -75,12 +82,16 @@ impl Teller for NotedService {
 
     ghost room = { max (explaining true).room (explaining true).close_room };
 
-    fn holding(service: Service) -> Self {
+    fn new() -> Self {
         NotedService {
-            service: HeldService::holding(service),
+            service: HeldService::zeros(),
             ledger: Ledger::new(),
             refusals: [0; REFUSAL_NUMBERS],
         }
+    }
+
+    fn hold(&mut self, service: &Service) {
+        self.service.hold(service);
     }
 
     fn advance(
@@ -104,11 +115,15 @@ impl Teller for CountedService {
 
     ghost room = { max (counting true).room (counting true).close_room };
 
-    fn holding(service: Service) -> Self {
+    fn new() -> Self {
         CountedService {
-            service: HeldService::holding(service),
+            service: HeldService::zeros(),
             totals: [0; TOTALS],
         }
+    }
+
+    fn hold(&mut self, service: &Service) {
+        self.service.hold(service);
     }
 
     fn advance(

@@ -2,7 +2,6 @@
 ghost use Rattle.std.specs.Prelude.{◌+◌, ◌≤◌, length, IfOk};
 
 use input::read_after;
-use service::Service;
 use std::io;
 use std::io::Read;
 
@@ -14,7 +13,6 @@ pub struct End {
     pub write_failure: Option<io::Error>,
     // The whole input is played, and its summary, picture or table is written.
     pub done: bool,
-    pub service: Service,
 }
 
 // A large buffer, so that what is done once a turn counts for little.

@@ -1,5 +1,6 @@
 // The numbers of a step, read where they stand in the input.
-ghost use Rattle.std.specs.Prelude.{◌≡◌, true, cond, ◌+◌, ◌-◌, ◌*◌, ◌≤◌, IfSome, IsNone, length, drop};
+ghost use Rattle.std.specs.Prelude.{◌≡◌, true, cond, ◌+◌, ◌-◌, ◌*◌, ◌^◌, ◌≤◌, IfSome, IsNone, length, drop};
+ghost use Rattle.std.specs.Option.{ForSome, ForNone};
 ghost use Rattle.stepfile.specs.Grammar.{is_digit, digits_on, numeral, argument};
 ghost use Rattle.reader.specs.Offsets.{found_in};
 
@@ -111,10 +112,19 @@ fn digits_from(s: &[u8], from: usize, so_far: u64) -> Option<Found<u64>>
         if !is_digit(byte) {
             return Some(Found { value, next: i });
         }
-        value = value.checked_mul(10)?.checked_add(u64::from(byte - b'0'))?;
+        value = with_digit(value, byte)?;
     }
     Some(Found {
         value,
         next: s.len(),
     })
+}
+
+// The number with one more digit, if it is not too large.
+fn with_digit(value: u64, byte: u8) -> Option<u64>
+    requires { is_digit byte ≡ true }
+    ensures more { ForSome result (λ sum. sum ≡ value * 10 + (byte - 48)) }
+    ensures over { ForNone result (2 ^ 64 ≤ value * 10 + (byte - 48)) }
+{
+    value.checked_mul(10)?.checked_add(u64::from(byte - b'0'))
 }

@@ -15,7 +15,7 @@ impl Service {
         ensures recovery_agrees { RecoveryAgrees result }
     {
         let given = self.sizes;
-        let mut held = HeldService::holding(self);
+        let mut held = HeldService::holding(&self);
         let _ = held.step_table(given.in_force(), Step::Crash);
         held.to_service(given)
     }

@@ -1,6 +1,6 @@
 // A service held as words, flags, blocks and copies, and read back out of them.
-ghost use Rattle.std.specs.Prelude.{◌≡◌, length, set, take};
-ghost use Rattle.sizes.specs.Sizes.{max_files};
+ghost use Rattle.std.specs.Prelude.{◌≡◌, false, length, replicate, set, take};
+ghost use Rattle.sizes.specs.Sizes.{max_files, max_places, max_cells};
 ghost use Rattle.words.specs.Rows.{listed, table_rows, table_words, entry_held, sides_held};
 ghost use Rattle.service.specs.Fresh.{fresh};
 ghost use Rattle.service.specs.Lent.{state_flags, lent_flags, used_held, table_held, service_held};
@@ -10,7 +10,7 @@ use crate::held_service::HeldService;
 use crate::service::{Server, Service};
 use blocks::Stores;
 use protocol::{ClientFile, Entry, SharedFile, Sides};
-use sizes::{MAX_CLIENTS, MAX_FILES, MAX_PLACES, Sizes};
+use sizes::{MAX_CELLS, MAX_CLIENTS, MAX_FILES, MAX_PLACES, Sizes};
 use table::{Recovery, Table};
 use words::{ROWS, WORDS, entry_at, put_file, sides_at};
 
@@ -48,39 +48,56 @@ fn hold_space(
 }
 
 impl HeldService {
-    // The service, held. Put into its callers, since the compiler copies the whole of what it answers otherwise.
-    #[inline(always)]
-    pub fn holding(service: Service) -> Self
-        ensures { service_held service.sizes result.table result.flags result.stores ≡ service }
+    // The service, held in place of the one before.
+    pub fn hold(&mut self, service: &Service)
+        ensures { service_held service.now.sizes self.new.table self.new.flags self.new.stores ≡ service.now }
     {
-        let server = service.server;
-        let state = server.table;
-        let reported = state.reported;
-        let embargoed = state.embargoed;
-        let blocks = server.blocks;
-        let copies = service.copies;
-        let held = service.held;
-        let dirty = service.dirty;
-        let mut table = [0u64; WORDS];
-        let mut flags = [false; FLAGS];
-        hold_files(state.files, service.clients, &mut table);
+        let server = &service.server;
+        let state = &server.table;
+        hold_files(state.files, service.clients, &mut self.table);
         put_recovery(
-            &mut flags,
+            &mut self.flags,
             Recovery {
                 recovering: state.recovering,
-                reported,
-                embargoed,
+                reported: state.reported,
+                embargoed: state.embargoed,
             },
         );
-        hold_space(server.used, server.free, &mut table, &mut flags);
+        hold_space(server.used, server.free, &mut self.table, &mut self.flags);
+        self.stores.blocks = server.blocks;
+        self.stores.copies = service.copies;
+        self.stores.held = service.held;
+        self.stores.dirty = service.dirty;
+    }
+
+    // The service, held. Put into its callers, since the compiler copies the whole of what it answers otherwise.
+    #[inline(always)]
+    pub fn holding(service: &Service) -> Self
+        ensures { service_held service.now.sizes result.table result.flags result.stores ≡ service.now }
+    {
+        let mut held = HeldService::zeros();
+        held.hold(service);
+        held
+    }
+
+    // Zeros, for a service to be held in.
+    #[inline(always)]
+    pub fn zeros() -> Self
+        ensures table_value { result.table ≡ replicate table_words 0 }
+        ensures flags_value { result.flags ≡ replicate lent_flags false }
+        ensures blocks_value { result.stores.blocks ≡ replicate max_places 0 }
+        ensures copies_value { result.stores.copies ≡ replicate max_cells 0 }
+        ensures held_value { result.stores.held ≡ replicate max_cells false }
+        ensures dirty_value { result.stores.dirty ≡ replicate max_cells false }
+    {
         HeldService {
-            table,
-            flags,
+            table: [0; WORDS],
+            flags: [false; FLAGS],
             stores: Stores {
-                blocks,
-                copies,
-                held,
-                dirty,
+                blocks: [0; MAX_PLACES],
+                copies: [0; MAX_CELLS],
+                held: [false; MAX_CELLS],
+                dirty: [false; MAX_CELLS],
             },
         }
     }
@@ -90,7 +107,7 @@ impl HeldService {
         ensures { (z : Sizes) → service_held z result.table result.flags result.stores ≡ fresh z }
     {
         let service = Service::new(Sizes::default());
-        HeldService::holding(service)
+        HeldService::holding(&service)
     }
 
     // The state table alone.

@@ -14,7 +14,7 @@ impl Service {
         ensures { result ≡ step_of self step }
     {
         let sizes = self.sizes;
-        let mut held = HeldService::holding(self);
+        let mut held = HeldService::holding(&self);
         let mut words = [0u64; SAID];
         let said = held.take_step(sizes, Some(step), &mut words);
         Outcome {

@@ -1,13 +1,15 @@
 // A row of the lent table, loaded and stored whole.
-ghost use Rattle.std.specs.Prelude.{◌≡◌, ◌<◌, length};
-ghost use Rattle.sizes.specs.Sizes.{max_files};
-ghost use Rattle.words.specs.Rows.{table_words, entry_held, sides_held, Puts};
+ghost use Rattle.std.specs.Prelude.{◌≡◌, ◌+◌, ◌<◌, length};
+ghost use Rattle.sizes.specs.Sizes.{max_clients, max_files};
+ghost use Rattle.words.specs.Words.{record_held, side_held};
+ghost use Rattle.words.specs.Rows.{table_words, word_at, entry_held, sides_held, Puts};
 
 use crate::words::{
     calls_of, calls_word, head_word, last_of, mode_of, record_of, record_word, side_of, side_word,
     version_of, waiter_of,
 };
-use protocol::{Entry, SharedFile, Sides};
+use protocol::{ClientFile, Entry, SharedFile, Sides};
+use records::ClientRecord;
 use sizes::{MAX_CLIENTS, MAX_FILES};
 use std::array;
 
@@ -25,7 +27,7 @@ pub fn entry_at(table: &[u64; WORDS], f: usize) -> Entry
     let row = f * ROW;
     let head = table[row + 1];
     Entry {
-        records: array::from_fn(|i| record_of(table[row + (2 + i)])),
+        records: array::from_fn(|i| record_at(table, f, i)),
         version: version_of(head),
         last: last_of(head),
         waiter: waiter_of(head),
@@ -38,10 +40,27 @@ pub fn sides_at(table: &[u64; WORDS], f: usize) -> Sides
     requires { f < max_files }
     ensures { result ≡ sides_held table.now f }
 {
-    let row = f * ROW;
     Sides {
-        of: array::from_fn(|i| side_of(table[row + (10 + i)])),
+        of: array::from_fn(|i| side_at(table, f, i)),
     }
+}
+
+// The record of client i in the row of file f.
+fn record_at(table: &[u64; WORDS], f: usize, i: usize) -> ClientRecord
+    requires f_lt_max_files { f < max_files }
+    requires i_lt_max_clients { i < max_clients }
+    ensures { result ≡ record_held (word_at table.now f (2 + i)) }
+{
+    record_of(table[f * ROW + (2 + i)])
+}
+
+// The side of client i there.
+fn side_at(table: &[u64; WORDS], f: usize, i: usize) -> ClientFile
+    requires f_lt_max_files { f < max_files }
+    requires i_lt_max_clients { i < max_clients }
+    ensures { result ≡ side_held (word_at table.now f (10 + i)) }
+{
+    side_of(table[f * ROW + (10 + i)])
 }
 
 pub fn put_file(table: &mut [u64; WORDS], f: usize, shared: SharedFile)

@@ -12,29 +12,20 @@ use Rattle.reader.proofs.number.digits_from.Goals as goal
 pub returns-then-not-is_digit : goal.returns-then-not-is_digit
 returns-then-not-is_digit c = c.loop-i.invariant ∙ digits_end _ _ _ c.loop-i-test.true (sym c.if-not-is_digit.ensures)
 
-pub returns-in_err-checked_mul : goal.returns-in_err-checked_mul
-returns-in_err-checked_mul c =
-    let digit = sym c.if-not-is_digit.ensures in
-    c.loop-i.invariant
-    ∙ digits_over _ _ _ c.loop-i-test.true (digit_low _ digit) (digit_high _ digit) (omega (arith, c.in_err-checked_mul.ensures))
-    ∙ sym (ap (found_in c.args.s.now) c.from_residual.ensures)
-
 pub returns-in_err-value : goal.returns-in_err-value
 returns-in_err-value c =
     let digit = sym c.if-not-is_digit.ensures in
     c.loop-i.invariant
-    ∙ digits_over _ _ _ c.loop-i-test.true (digit_low _ digit) (digit_high _ digit)
-    (omega (arith, c.in_ok-checked_mul.ensures, c.from.ensures, c.in_err-value.ensures))
-    ∙ sym (ap (found_in c.args.s.now) c.from_residual-in_err-value.ensures)
+    ∙ digits_over _ _ _ c.loop-i-test.true (digit_low _ digit) (digit_high _ digit) (c.with_digit.ensures.over c.in_err-value.was)
+    ∙ sym (ap (found_in c.args.s.now) c.from_residual.ensures)
 
 pub loop-i-preserved : goal.loop-i-preserved
 loop-i-preserved c =
     let digit = sym c.if-not-is_digit.ensures in
     c.loop-i.invariant
     ∙ digits_more _ _ _ c.loop-i-test.true (digit_low _ digit) (digit_high _ digit)
-    (omega (arith, c.in_ok-checked_mul.ensures, c.from.ensures, c.in_ok-value.ensures))
-    ∙ ap (λ v. digits_on v (drop (c.loop-i.i + 1) c.args.s.now))
-    (omega (arith, c.in_ok-checked_mul.ensures, c.from.ensures, c.in_ok-value.ensures))
+    (omega (arith, c.with_digit.ensures.more _ c.in_ok-value.was))
+    ∙ ap (λ v. digits_on v (drop (c.loop-i.i + 1) c.args.s.now)) (sym (c.with_digit.ensures.more _ c.in_ok-value.was))
 
 pub returns : goal.returns
 returns c =

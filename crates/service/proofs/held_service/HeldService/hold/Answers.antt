@@ -1,7 +1,7 @@
--- `holding` meets its contract, part by part. Assumes nothing.
+-- `hold` meets its contract, part by part. Assumes nothing.
 use mathlib.Core.Path.{◌∙◌}
 use Rattle.service.proofs.Held.{space_held}
-use Rattle.service.proofs.held_service.HeldService.holding.Goals as goal
+use Rattle.service.proofs.held_service.HeldService.hold.Goals as goal
 
 pub returns : goal.returns
 returns c =
@@ -10,7 +10,7 @@ returns c =
     let last = c.hold_space.ensures in
     let kept =
     space_held c.hold_files.new.table c.hold_space.new.table c.put_recovery.new.flags c.hold_space.new.flags
-    c.args.service.server.free
+    c.args.service.now.server.free
     rows.2
     last.table_after
     last.flags_after.1 in
